@@ -88,7 +88,7 @@ unfolding member
 joined-around ts v s0 s1 s2 whole l long e j same = record {
   long = same ∙ long1;
   has = λ w.
-      j .bits long1 w
+      j .bits w
       ∙ rw (row-listed-whole ts v whole, e, in-put-in v w s0 (omega (arith, long))) (go (eqb v w) (in-set s0 w) (member w (neighbours-of ts v)));
 }
   where

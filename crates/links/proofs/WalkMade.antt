@@ -51,7 +51,8 @@ module _ {a b k first size : ℕ} {ts ns tail ps : List ℕ} (s : Walk-site a b 
         look-holds c ds1 ss1 e big e1 e2 =
             let counted : c ≡ count (is-left k (first + front) ns ps hs) (neighbours-of us v) =
             e ∙ ap (count (is-left k (first + front) ns ps hs)) (listed .listed) in
-            let due : ds1 ≡ places-touched k (first + front) ns ps (neighbours-of us v) (put-bit false 0 (first + front) ds) = e1 ∙ rw (listed .listed, cleared) in
+            let due : ds1 ≡ places-touched k (first + front) ns ps (neighbours-of us v) (put-bit false 0 (first + front) ds) = e1 ∙ rw (listed .listed, cleared)
+            in
             rw (due, e2) (turned.look-held s st v v-is (free .0) (free .1) c counted big)
 
         pub look-takes : (c : ℕ) (cs1 ds1 : List ℕ) → c ≡ count (is-left k (first + front) ns ps hs) (take r near) → c ≤ k

@@ -122,7 +122,8 @@ module _ {a b k first size : ℕ} {ts ns tail ps : List ℕ} (s : Walk-site a b 
     low = λ p t. absurd (never (marked (replicate row-bytes 0) 0 p) t (zero-marked p));
     stays = marked-none first size tail (λ v. eqb (getD (replicate max-radios 0) v 0) 1) (λ v. ap (λ (x : ℕ). eqb x 1) (getD-zeros max-radios v));
     walking = turns.turns-none f k above part pos (turned.is-part s) (λ v. eqb (getD (replicate max-radios 0) v 0) 1) (λ v. getD (replicate max-radios 0) v 0)
-        (λ q. marked (replicate row-bytes 0) 0 (first + q)) (λ v. ap (λ (x : ℕ). eqb x 1) (getD-zeros max-radios v)) (λ v. omega (arith, getD-zeros max-radios v))
+        (λ q. marked (replicate row-bytes 0) 0 (first + q)) (λ v. ap (λ (x : ℕ). eqb x 1) (getD-zeros max-radios v))
+        (λ v. omega (arith, getD-zeros max-radios v))
         (λ p. zero-marked (first + p));
   }
 
@@ -157,7 +158,11 @@ module _ {a b k first size : ℕ} {ts ns tail ps : List ℕ} (s : Walk-site a b 
       empty (z ∷ zs) q = absurd (omega arith)
 
       none-held : none ≡ []
-      none-held = empty none (omega (arith, turns.length-held f k above part pos (turned.is-part s) (start-state (replicate max-radios 0) (length-replicate {A = ℕ} max-radios 0) .walking)))
+      none-held = empty none (omega (
+        arith,
+        turns.length-held f k above part pos (turned.is-part s)
+            (start-state (replicate max-radios 0) (length-replicate {A = ℕ} max-radios 0) .walking),
+      ))
 
       left : count (is-left k (first + 0) ns ps (replicate max-radios 0)) (neighbours-of us e) ≡ count (f e) (drop 1 part) + count (f e) above
       left =
@@ -297,9 +302,13 @@ module _ {a b k first size : ℕ} {ts ns tail ps : List ℕ} (s : Walk-site a b 
           → (front ≤ taken) ⊎ (((q : ℕ) → q < front → marked ds 0 (first + q) ≡ false) × (size ≤ front))
       go (inl l) = inl l
       go (inr h) =
-          inr (λ q l. first-marked-least ds (head-or max-radios (neighbours-of ds 0)) refl (first + q) (omega (arith, h .0)) (omega (arith, front-fits st .1)), h .1)
+          inr (
+            λ q l. first-marked-least ds (head-or max-radios (neighbours-of ds 0)) refl (first + q) (omega (arith, h .0)) (omega (arith, front-fits st .1)),
+            h .1,
+          )
 
 -- as the code names its values
-pub done-as : {a b k first size front taken at many : ℕ} {ts tail list : List ℕ} → at ≡ front → many ≡ taken → Walk-done a b k first size ts tail front taken list
+pub done-as : {a b k first size front taken at many : ℕ} {ts tail list : List ℕ} → at ≡ front → many ≡ taken → Walk-done a b k first size ts tail front taken
+    list
     → Walk-done a b k first size ts tail at many list
 done-as e f d = rw (e, f) d

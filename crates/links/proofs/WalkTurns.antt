@@ -214,7 +214,8 @@ module _ {a b k first size : ℕ} {ts ns tail ps : List ℕ} (s : Walk-site a b 
         releasable : Releasable hs1 ps 1 (neighbours-of us x) cs
         releasable = record {
           once = distinct-neighbours-of us x;
-          known = λ w m. (let h = s .within x w (near-joined x lx w m) in (omega arith, omega (arith, s .places-length), omega (arith, st .counters-long), omega (arith, s .small)));
+          known = λ w m. (let h = s .within x w (near-joined x lx w m) in
+              (omega arith, omega (arith, s .places-length), omega (arith, st .counters-long), omega (arith, s .small)));
           above-zero = λ w m e. omega (
             arith,
             st .walking .exact w (fewer w e),
@@ -236,7 +237,8 @@ module _ {a b k first size : ℕ} {ts ns tail ps : List ℕ} (s : Walk-site a b 
                   (length-places-released hs1 ps 1 k (neighbours-of us x) cs (put-bit false 0 p ds) ∙ long0) t
 
               old : (eqb p q ≡ true) ⊎ (eqb p q ≡ false) → marked (put-bit false 0 p ds) 0 q ≡ true → marked ds 0 q ≡ true
-              old (inl e) u = never (marked (put-bit false 0 p ds) 0 q) u (marked-put false p q ds (st .due-long) lp lq ∙ ap (λ (b : Bool). cond b false (marked ds 0 q)) e)
+              old (inl e) u = never (marked (put-bit false 0 p ds) 0 q) u
+                  (marked-put false p q ds (st .due-long) lp lq ∙ ap (λ (b : Bool). cond b false (marked ds 0 q)) e)
               old (inr e) u = sym (marked-put false p q ds (st .due-long) lp lq ∙ ap (λ (b : Bool). cond b false (marked ds 0 q)) e) ∙ u
 
               go : (marked (put-bit false 0 p ds) 0 q ≡ true) ⊎ ((w : ℕ) × (w < length hs1) × (getD hs1 w 0 ≡ 1) × (getD ps w 0 ≡ q)) → first ≤ q
@@ -288,7 +290,8 @@ module _ {a b k first size : ℕ} {ts ns tail ps : List ℕ} (s : Walk-site a b 
       zs-distinct : Distinct zs
       zs-distinct =
           distinct-mid v held (later ++ above)
-          (rw (← shape) (distinct-right (take taken list) ((held ++ rest) ++ above) (permutation-distinct (take taken list ++ ((held ++ rest) ++ above)) tail same (s .distinct)))) .1
+          (rw (← shape) (distinct-right (take taken list) ((held ++ rest) ++ above)
+          (permutation-distinct (take taken list ++ ((held ++ rest) ++ above)) tail same (s .distinct)))) .1
         where
           shape : (held ++ rest) ++ above ≡ held ++ v ∷ (later ++ above)
           shape = append-assoc held rest above ∙ ap (λ (z : List ℕ). held ++ (z ++ above)) cut
@@ -359,13 +362,15 @@ module _ {a b k first size : ℕ} {ts ns tail ps : List ℕ} (s : Walk-site a b 
             lq : q < max-radios
             lq = marked-small touched q (length-touched k (first + front) ns ps (neighbours-of us v) (put-bit false 0 (first + front) ds) ∙ long0) t
 
-            old : (eqb (first + front) q ≡ true) ⊎ (eqb (first + front) q ≡ false) → marked (put-bit false 0 (first + front) ds) 0 q ≡ true → marked ds 0 q ≡ true
+            old : (eqb (first + front) q ≡ true) ⊎ (eqb (first + front) q ≡ false) → marked (put-bit false 0 (first + front) ds) 0 q ≡ true → marked ds 0 q ≡
+                true
             old (inl e) u =
                 never (marked (put-bit false 0 (first + front) ds) 0 q) u
                 (marked-put false (first + front) q ds (st .due-long) place-low lq ∙ ap (λ (b : Bool). cond b false (marked ds 0 q)) e)
             old (inr e) u = sym (marked-put false (first + front) q ds (st .due-long) place-low lq ∙ ap (λ (b : Bool). cond b false (marked ds 0 q)) e) ∙ u
 
-            go : (marked (put-bit false 0 (first + front) ds) 0 q ≡ true) ⊎ ((w : ℕ) × In w (neighbours-of us v) × (is-later k (first + front) ns ps w ≡ true) × (getD ps w 0 ≡ q))
+            go : (marked (put-bit false 0 (first + front) ds) 0 q ≡ true) ⊎
+                ((w : ℕ) × In w (neighbours-of us v) × (is-later k (first + front) ns ps w ≡ true) × (getD ps w 0 ≡ q))
                 → first ≤ q
             go (inl u) = st .low q (old (bool-cases (eqb (first + front) q)) u)
             go (inr (w, m, u, e)) = omega (arith, later-cases k (first + front) ns ps hs w u .1, e)
@@ -374,23 +379,27 @@ module _ {a b k first size : ℕ} {ts ns tail ps : List ℕ} (s : Walk-site a b 
         look-held big = record {
           held-long = omega (arith, st .held-long, length-set hs v 1);
           counters-long = omega (arith, st .counters-long, length-set cs v c);
-          due-long = length-touched k (first + front) ns ps (neighbours-of us v) (put-bit false 0 (first + front) ds) ∙ length-put-bit false 0 (first + front) ds ∙ st .due-long;
+          due-long = length-touched k (first + front) ns ps (neighbours-of us v) (put-bit false 0 (first + front) ds) ∙ length-put-bit false 0 (first + front)
+              ds ∙ st .due-long;
           room = st .room;
           passed = omega (arith, st .passed);
           low = low-touched;
-          stays = entries.marked-put first size tail (st .stays) front v front-inside place-low tail-v (λ i l e. tail-apart i front l front-inside (e ∙ sym tail-v))
+          stays = entries.marked-put first size tail (st .stays) front v front-inside place-low tail-v
+              (λ i l e. tail-apart i front l front-inside (e ∙ sym tail-v))
               (λ w. eqb (getD (set hs v 1) w 0) 1) marks-other marks-own;
           walking = rw (add-one front) turned;
         }
           where
-            written : turns.Held f k above part pos v front c later (λ w. getD cs w 0) (λ w. getD (set cs v c) w 0) (λ q. marked ds 0 (first + q)) (λ q. marked touched 0 (first + q))
+            written : turns.Held f k above part pos v front c later (λ w. getD cs w 0) (λ w. getD (set cs v c) w 0) (λ q. marked ds 0 (first + q))
+                (λ q. marked touched 0 (first + q))
             written =
                 held-is f k first above part ns ps v front c us (row-marks v front-below) (joined-small v front-below) cs ds
                 (omega (arith, front-below, st .counters-long)) (st .due-long) place-low later
                 (λ w m. let t = later-stands w m in (t .1, later-of k (first + front) ns ps hs w (part-stands w (t .0) .level) (t .1)))
                 later-back (λ w m. place-small w (later-stands w m .0))
 
-            turned : Walking f k above part pos (take taken list) (suc front) (λ w. eqb (getD (set hs v 1) w 0) 1) (λ w. getD (set cs v c) w 0) (λ q. marked touched 0 (first + q))
+            turned : Walking f k above part pos (take taken list) (suc front) (λ w. eqb (getD (set hs v 1) w 0) 1) (λ w. getD (set cs v c) w 0)
+                (λ q. marked touched 0 (first + q))
             turned =
                 rw v-is (turns.turn-hold f k above part pos is-part (st .walking) in-part undue c (rw v-is at written) (rw v-is at (c-is ∙ look-count)) big
                 (rw v-is at marks-own) (rw v-is at marks-other))
@@ -408,7 +417,8 @@ module _ {a b k first size : ℕ} {ts ns tail ps : List ℕ} (s : Walk-site a b 
       look-taken fit = record {
         held-long = st .held-long;
         counters-long = omega (arith, st .counters-long, length-released hs 1 (neighbours-of us v) cs);
-        due-long = length-places-released hs ps 1 k (neighbours-of us v) cs (put-bit false 0 (first + front) ds) ∙ length-put-bit false 0 (first + front) ds ∙ st .due-long;
+        due-long = length-places-released hs ps 1 k (neighbours-of us v) cs (put-bit false 0 (first + front) ds) ∙ length-put-bit false 0 (first + front)
+            ds ∙ st .due-long;
         room = omega (arith, st .room, length-set list taken v);
         passed = omega (arith, st .passed);
         low = low-released hs candidate-held (st .held-long) v front-below v-left (first + front) place-low;
@@ -417,9 +427,11 @@ module _ {a b k first size : ℕ} {ts ns tail ps : List ℕ} (s : Walk-site a b 
       }
         where
           listed : take (taken + 1) (set list taken v) ≡ take taken list ++ (v ∷ [])
-          listed = ap (λ (x : ℕ). take x (set list taken v)) (add-one taken) ∙ take-suc-set list taken v (omega (arith, st .passed, st .room, s .fits, s .small))
+          listed = ap (λ (x : ℕ). take x (set list taken v)) (add-one taken) ∙ take-suc-set list taken v
+              (omega (arith, st .passed, st .room, s .fits, s .small))
 
-          written : turns.Released f k above part pos v front (λ w. eqb (getD hs w 0) 1) (λ w. getD cs w 0) (λ w. getD (released hs 1 (neighbours-of us v) cs) w 0)
+          written : turns.Released f k above part pos v front (λ w. eqb (getD hs w 0) 1) (λ w. getD cs w 0)
+              (λ w. getD (released hs 1 (neighbours-of us v) cs) w 0)
               (λ q. marked ds 0 (first + q)) (λ q. marked freed 0 (first + q))
           written =
               released-is f k first above part hs ps (candidate-stands hs candidate-held) (candidate-apart hs candidate-held) v us (row-marks v front-below)
@@ -509,7 +521,8 @@ module _ {a b k first size : ℕ} {ts ns tail ps : List ℕ} (s : Walk-site a b 
         abbrev freed-back : List ℕ
         freed-back = places-released hs1 ps 1 k (neighbours-of us v) cs (put-bit false 0 p ds)
 
-        pub back-done : Walk-state a b k first size ts tail ps front (taken + 1) hs1 (released hs1 1 (neighbours-of us v) cs) freed-back (take-out p ss) (set list taken v)
+        pub back-done : Walk-state a b k first size ts tail ps front (taken + 1) hs1 (released hs1 1 (neighbours-of us v) cs) freed-back (take-out p ss)
+            (set list taken v)
         back-done = record {
           held-long = long1;
           counters-long = omega (arith, st .counters-long, length-released hs1 1 (neighbours-of us v) cs);
@@ -517,7 +530,8 @@ module _ {a b k first size : ℕ} {ts ns tail ps : List ℕ} (s : Walk-site a b 
           room = omega (arith, st .room, length-set list taken v);
           passed = omega (arith, back-room);
           low = low-released hs1 fewer long1 v back-below back-left p p-small;
-          stays = rw j-is at (entries.marked-taken first size tail (st .stays) j v back-part (omega (arith, j-is, p-small)) back-v (λ i l e. tail-apart i j l back-part (e ∙ sym back-v))
+          stays = rw j-is at (entries.marked-taken first size tail (st .stays) j v back-part (omega (arith, j-is, p-small)) back-v
+              (λ i l e. tail-apart i j l back-part (e ∙ sym back-v))
               (λ w. eqb (getD hs1 w 0) 1) other own);
           walking = rw listed turned;
         }
@@ -527,7 +541,8 @@ module _ {a b k first size : ℕ} {ts ns tail ps : List ℕ} (s : Walk-site a b 
                 ap (λ (x : ℕ). take x (set list taken v)) (add-one taken)
                 ∙ take-suc-set list taken v (omega (arith, back-room, st .walking .room, part-length, st .room, s .fits, s .small))
 
-            written : turns.Released f k above part pos v j (λ w. eqb (getD hs1 w 0) 1) (λ w. getD cs w 0) (λ w. getD (released hs1 1 (neighbours-of us v) cs) w 0)
+            written : turns.Released f k above part pos v j (λ w. eqb (getD hs1 w 0) 1) (λ w. getD cs w 0)
+                (λ w. getD (released hs1 1 (neighbours-of us v) cs) w 0)
                 (λ q. marked ds 0 (first + q)) (λ q. marked freed-back 0 (first + q))
             written =
                 rw j-is at (released-is f k first above part hs1 ps (candidate-stands hs1 fewer) (candidate-apart hs1 fewer) v us (row-marks v back-below)
@@ -539,39 +554,43 @@ module _ {a b k first size : ℕ} {ts ns tail ps : List ℕ} (s : Walk-site a b 
             turned : Walking f k above part pos (take taken list ++ (v ∷ [])) front (λ w. eqb (getD hs1 w 0) 1)
                 (λ w. getD (released hs1 1 (neighbours-of us v) cs) w 0) (λ q. marked freed-back 0 (first + q))
             turned =
-                rw v-is (turns.turn-back f k above part pos is-part (st .walking) j j-front j-due undue (rw v-is at written) (rw v-is at own) (rw v-is at other))
+                rw v-is (turns.turn-back f k above part pos is-part (st .walking) j j-front j-due undue (rw v-is at written) (rw v-is at own)
+                (rw v-is at other))
 
     -- ---- radios are passed
 
-    module _ (until m : ℕ) (ends : until ≡ front + m) (inside : until ≤ size) (some : 1 ≤ front) (undue : (q : ℕ) → q < until → marked ds 0 (first + q) ≡ false) where
-      few-from : (i : ℕ) → front ≤ i → i < length part → count (f (getD part i 0)) (drop (suc i) part) + count (f (getD part i 0)) above ≤ k
-      few-from i l h = few-front-head f k above part i h (few-from-one f k above part i (omega arith) (s .few))
+    module _ (until m : ℕ) (ends : until ≡ front + m) (inside : until ≤ size) (some : 1 ≤ front) (undue : (q : ℕ) → q < until → marked ds 0 (first + q) ≡ false)
+      where
+        few-from : (i : ℕ) → front ≤ i → i < length part → count (f (getD part i 0)) (drop (suc i) part) + count (f (getD part i 0)) above ≤ k
+        few-from i l h = few-front-head f k above part i h (few-from-one f k above part i (omega arith) (s .few))
 
-      pub pass-room : taken + m ≤ length list
-      pass-room = omega (arith, st .passed, st .room, ends, s .fits, s .small)
+        pub pass-room : taken + m ≤ length list
+        pass-room = omega (arith, st .passed, st .room, ends, s .fits, s .small)
 
-      pub pass-done : (list1 : List ℕ) → list1 ≡ paste list taken (drop front tail) m → Walk-state a b k first size ts tail ps until (taken + m) hs cs ds ss list1
-      pass-done list1 e = record {
-        held-long = st .held-long;
-        counters-long = st .counters-long;
-        due-long = st .due-long;
-        room = omega (arith, st .room, ap length e, length-paste list taken (drop front tail) m pass-room longs);
-        passed = omega (arith, st .passed, ends);
-        low = st .low;
-        stays = st .stays;
-        walking = rw (listed, ends) turned;
-      }
-        where
-          longs : m ≤ length (drop front tail)
-          longs = omega (arith, length-drop front tail, s .fits, ends)
+        pub pass-done : (list1 : List ℕ) → list1 ≡ paste list taken (drop front tail) m → Walk-state a b k first size ts tail ps until (taken + m) hs cs ds ss
+            list1
+        pass-done list1 e = record {
+          held-long = st .held-long;
+          counters-long = st .counters-long;
+          due-long = st .due-long;
+          room = omega (arith, st .room, ap length e, length-paste list taken (drop front tail) m pass-room longs);
+          passed = omega (arith, st .passed, ends);
+          low = st .low;
+          stays = st .stays;
+          walking = rw (listed, ends) turned;
+        }
+          where
+            longs : m ≤ length (drop front tail)
+            longs = omega (arith, length-drop front tail, s .fits, ends)
 
-          listed : take (taken + m) list1 ≡ take taken list ++ take m (drop front part)
-          listed =
-              ap (take (taken + m)) e ∙ take-paste list taken (drop front tail) m (omega (arith, pass-room)) longs
-              ∙ ap (λ (z : List ℕ). take taken list ++ z) (sym (take-drop-take front m size tail (omega (arith, ends))))
+            listed : take (taken + m) list1 ≡ take taken list ++ take m (drop front part)
+            listed =
+                ap (take (taken + m)) e ∙ take-paste list taken (drop front tail) m (omega (arith, pass-room)) longs
+                ∙ ap (λ (z : List ℕ). take taken list ++ z) (sym (take-drop-take front m size tail (omega (arith, ends))))
 
-          turned : Walking f k above part pos (take taken list ++ take m (drop front part)) (front + m) (λ w. eqb (getD hs w 0) 1) (λ w. getD cs w 0)
-              (λ q. marked ds 0 (first + q))
-          turned =
-              turns.turns-pass f k above part pos is-part (λ w. eqb (getD hs w 0) 1) (λ w. getD cs w 0) (λ q. marked ds 0 (first + q)) front (take taken list) m (st .walking)
-              (omega (arith, ends, part-length)) (λ q l. undue q (omega (arith, ends))) few-from
+            turned : Walking f k above part pos (take taken list ++ take m (drop front part)) (front + m) (λ w. eqb (getD hs w 0) 1) (λ w. getD cs w 0)
+                (λ q. marked ds 0 (first + q))
+            turned =
+                turns.turns-pass f k above part pos is-part (λ w. eqb (getD hs w 0) 1) (λ w. getD cs w 0) (λ q. marked ds 0 (first + q)) front (take taken list) m
+                (st .walking)
+                (omega (arith, ends, part-length)) (λ q l. undue q (omega (arith, ends))) few-from

@@ -257,7 +257,8 @@ module _ {rise : Rise} {span : Part} {ts ns tail ps : List ℕ}
               only q t (inr l) = inl (λ e. omega (arith, p-low), sym (next-from q l) ∙ t)
 
           -- the places due stay behind the front
-          pub behind-after : (q : ℕ) → in-set ds1 q ≡ true → ((x : ℕ) → in-set ds0 x ≡ true → (first ≤ x) × (x < first + front)) → (first ≤ q) × (q < first + front)
+          pub behind-after : (q : ℕ) → in-set ds1 q ≡ true → ((x : ℕ) → in-set ds0 x ≡ true → (first ≤ x) × (x < first + front)) → (first ≤ q) ×
+              (q < first + front)
           behind-after q t before = go (low .only q t)
             where
               go : (in-set ds0 q ≡ true) ⊎ ((w : ℕ) × In w both × (getD cs1 w 0 ≡ k) × (getD ps w 0 ≡ q)) → (first ≤ q) × (q < first + front)
@@ -399,7 +400,8 @@ module _ {rise : Rise} {span : Part} {ts ns tail ps : List ℕ}
                   let l : pos w < size = omega (arith, i .1, turned.part-length s) in
                   let is : getD tail (pos w) 0 ≡ w =
                   sym (turned.part-at s (pos w) l)
-                  ∙ turns.in-part f k above part pos (turned.is-part s) w (rw (← take-append-drop (suc front) part) (in-right w (take (suc front) part) later m)) .1 in
+                  ∙ turns.in-part f k above part pos (turned.is-part s) w
+                  (rw (← take-append-drop (suc front) part) (in-right w (take (suc front) part) later m)) .1 in
                   due-from first size (suc front) tail touched1 due (pos w) (i .0) l
                   ∙ ap (in-set touched1) is ∙ touched-bits w (small-of v w e) ∙ or-right (in-set touched w) (f v w) e
 
@@ -440,7 +442,8 @@ module _ {rise : Rise} {span : Part} {ts ns tail ps : List ℕ}
 
               turned-on : Walking f k above part pos (take taken list) (suc front) (in-set (put-in v held)) (λ w. getD (set counters v c) w 0) next
               turned-on =
-                  rw v-at (turns.turn-hold f k above part pos (turned.is-part s) (st .walking) in-part none c (rw v-at at written) (rw v-at at (c-is ∙ look-count)) big
+                  rw v-at (turns.turn-hold f k above part pos (turned.is-part s) (st .walking) in-part none c (rw v-at at written)
+                  (rw v-at at (c-is ∙ look-count)) big
                   (rw v-at at (put-own v held (st .held-long) front-small)) (rw v-at at others))
 
         -- ---- v is taken where it stands
@@ -462,7 +465,8 @@ module _ {rise : Rise} {span : Part} {ts ns tail ps : List ℕ}
           module _ (fit : length (common near left) ≤ k) where
             freed : turns.Released f k above part pos v front (in-set held) (λ w. getD counters w 0) (λ w. getD cs1 w 0) due-at then
             freed =
-                released v front-below near held near-long (st .held-long) near-is in-held v-left due cs1 ds1 low front (suc front) then (omega arith, omega arith)
+                released v front-below near held near-long (st .held-long) near-is in-held v-left due cs1 ds1 low front (suc front) then
+                (omega arith, omega arith)
                 (λ q l. due-before first size (suc front) tail touched ds1 q l) then-from (λ q e. never (in-set due (first + q)) e (free (first + q)))
                 (λ q ne e. e) (λ q l h. omega arith) (omega arith)
 
@@ -476,7 +480,8 @@ module _ {rise : Rise} {span : Part} {ts ns tail ps : List ℕ}
               room = length-set list taken v ∙ st .room;
               passed = omega (arith, st .passed);
               left-is = left-out v front-small front-room;
-              behind = λ p e. (let i = behind-after v front-below near held near-long (st .held-long) near-is in-held v-left due cs1 ds1 low front (suc front) then
+              behind = λ p e. (let i = behind-after v front-below near held near-long (st .held-long) near-is in-held v-left due cs1 ds1 low front (suc front)
+                  then
                   (omega arith, omega arith) (λ q l. due-before first size (suc front) tail touched ds1 q l) then-from
                   (λ q e. never (in-set due (first + q)) e (free (first + q))) (λ q ne e. e) (λ q l h. omega arith) (omega arith) p e
                   (λ x u. never (in-set due x) u (free x)) in (i .0, omega (arith, i .1)));
@@ -507,7 +512,8 @@ module _ {rise : Rise} {span : Part} {ts ns tail ps : List ℕ}
         left-is = left-out v front-small front-room;
         behind = λ p e. never (in-set due p) e (free p);
         stays = st .stays;
-        walking = rw (add-one front, listed) (turns.turns-due f k above part pos (turned.is-part s) turned-on (words-due first size (suc front) tail touched due) same);
+        walking = rw (add-one front, listed) (turns.turns-due f k above part pos (turned.is-part s) turned-on
+            (words-due first size (suc front) tail touched due) same);
       }
         where
           listed : take (taken + 1) (set list taken v) ≡ take taken list ++ (v ∷ [])
@@ -657,9 +663,11 @@ module _ {rise : Rise} {span : Part} {ts ns tail ps : List ℕ}
               passed = omega (arith, back-room);
               left-is = left-out v back-small back-fits;
               behind = λ q e. behind-after v back-below near cand near-long cand-long back-near fewer back-left (take-out p due) cs1 ds1 low j front back-due
-                  (omega arith, omega arith) (λ q l. due-before first size front tail touched ds1 q l) back-from old keeps (λ q l h. absurd (omega arith)) (back-place .1)
+                  (omega arith, omega arith) (λ q l. due-before first size front tail touched ds1 q l) back-from old keeps (λ q l h. absurd (omega arith))
+                  (back-place .1)
                   q e (λ x u. st .behind x (out-bits x u .1));
-              stays = rw j-is at (entries.marked-taken first size tail (st .stays) j v (back-place .2) (omega (arith, j-is, p-small)) (sym v-is) back-apart (in-set cand) other own);
+              stays = rw j-is at (entries.marked-taken first size tail (st .stays) j v (back-place .2) (omega (arith, j-is, p-small)) (sym v-is) back-apart
+                  (in-set cand) other own);
               walking = rw listed turned-on;
             }
               where
@@ -668,12 +676,14 @@ module _ {rise : Rise} {span : Part} {ts ns tail ps : List ℕ}
 
                 freed : turns.Released f k above part pos v j (in-set cand) (λ w. getD counters w 0) (λ w. getD cs1 w 0) due-at back-due
                 freed =
-                    released v back-below near cand near-long cand-long back-near fewer back-left (take-out p due) cs1 ds1 low j front back-due (omega arith, omega arith)
+                    released v back-below near cand near-long cand-long back-near fewer back-left (take-out p due) cs1 ds1 low j front back-due
+                    (omega arith, omega arith)
                     (λ q l. due-before first size front tail touched ds1 q l) back-from old keeps (λ q l h. absurd (omega arith)) (back-place .1)
 
                 turned-on : Walking f k above part pos (take taken list ++ (v ∷ [])) front (in-set cand) (λ w. getD cs1 w 0) back-due
                 turned-on =
-                    rw back-at (turns.turn-back f k above part pos (turned.is-part s) (st .walking) j (back-place .1) j-due undue (rw back-at at freed) (rw back-at at own)
+                    rw back-at (turns.turn-back f k above part pos (turned.is-part s) (st .walking) j (back-place .1) j-due undue (rw back-at at freed)
+                    (rw back-at at own)
                     (rw back-at at other))
 
     -- ---- which turn it is
@@ -744,10 +754,12 @@ module _ {rise : Rise} {span : Part} {ts ns tail ps : List ℕ}
       nothing false false = refl
 
 -- as the code names its values
-pub lowerable-as : (near : List ℕ) {ps cand cand1 counters : List ℕ} → cand1 ≡ cand → Lowerable ps (common near cand) counters → Lowerable ps (common near cand1) counters
+pub lowerable-as : (near : List ℕ) {ps cand cand1 counters : List ℕ} → cand1 ≡ cand → Lowerable ps (common near cand) counters → Lowerable ps
+    (common near cand1) counters
 lowerable-as near e h = rw e h
 
-pub lowered-as : (near : List ℕ) {k : ℕ} {ps cand cand1 counters ds ds0 cs1 ds1 : List ℕ} → cand1 ≡ cand → ds ≡ ds0 → Lowered k ps (common near cand1) counters ds cs1 ds1
+pub lowered-as : (near : List ℕ) {k : ℕ} {ps cand cand1 counters ds ds0 cs1 ds1 : List ℕ} → cand1 ≡ cand → ds ≡ ds0 → Lowered k ps (common near cand1) counters
+    ds cs1 ds1
     → Lowered k ps (common near cand) counters ds0 cs1 ds1
 lowered-as near e d h = rw (e, d) at h
 

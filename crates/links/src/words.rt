@@ -39,12 +39,14 @@ fn look(
     counters: &mut [u8; Site::RADIOS as usize],
     list: &mut [u16; Site::RADIOS as usize],
 ) -> Reached
-    requires site { ⌜ ((numbers : List ℕ) × Walk-site (rise .a) (rise .b) (rise .most) (part .first) (part .size) (now links) numbers (now tail) (now places)) ⌝ }
+    requires site { ⌜ ((numbers : List ℕ) ×
+        Walk-site (rise .a) (rise .b) (rise .most) (part .first) (part .size) (now links) numbers (now tail) (now places)) ⌝ }
     requires state { ⌜ Words-state rise part (now links) (now tail) (now places) (at .front) (at .taken)
         (work (now left) (now held) (now touched) (now due) (now stay) (now counters) (now list)) ⌝ }
     requires free { ⌜ (at .front < part .size) × ((p : ℕ) → in-set (now due) p ≡ false) ⌝ }
     ensures state { λ r. ⌜ Words-state rise part (now (links .entry)) (now (tail .entry)) (now (places .entry)) (r .front) (r .taken)
-        (work (now (left .exit)) (now (held .exit)) (now (touched .exit)) (now (due .exit)) (now (stay .exit)) (now (counters .exit)) (now (list .exit))) ⌝ }
+        (work (now (left .exit)) (now (held .exit)) (now (touched .exit)) (now (due .exit)) (now (stay .exit))
+        (now (counters .exit)) (now (list .exit))) ⌝ }
     ensures further { λ r. ⌜ (r .front ≡ at .front + 1) × (at .taken ≤ r .taken) ⌝ }
 {
     let mut near = [0u64; 8];
@@ -89,12 +91,14 @@ fn back(
     counters: &mut [u8; Site::RADIOS as usize],
     list: &mut [u16; Site::RADIOS as usize],
 ) -> Reached
-    requires site { ⌜ ((numbers : List ℕ) × Walk-site (rise .a) (rise .b) (rise .most) (part .first) (part .size) (now links) numbers (now tail) (now places)) ⌝ }
+    requires site { ⌜ ((numbers : List ℕ) ×
+        Walk-site (rise .a) (rise .b) (rise .most) (part .first) (part .size) (now links) numbers (now tail) (now places)) ⌝ }
     requires state { ⌜ Words-state rise part (now links) (now tail) (now places) (at .front) (at .taken)
         (work (now left) (now held) (now touched) (now due) (now stay) (now counters) (now list)) ⌝ }
     requires fallen { ⌜ (p ≡ head-or max-radios (common (now due) (now due))) × (p < max-radios) ⌝ }
     ensures state { λ r. ⌜ Words-state rise part (now (links .entry)) (now (tail .entry)) (now (places .entry)) (r .front) (r .taken)
-        (work (now (left .exit)) (now (held .exit)) (now (touched .entry)) (now (due .exit)) (now (stay .exit)) (now (counters .exit)) (now (list .exit))) ⌝ }
+        (work (now (left .exit)) (now (held .exit)) (now (touched .entry)) (now (due .exit)) (now (stay .exit))
+        (now (counters .exit)) (now (list .exit))) ⌝ }
     ensures further { λ r. ⌜ (r .front ≡ at .front) × (r .taken ≡ at .taken + 1) ⌝ }
 {
     let mut near = [0u64; 8];
@@ -130,12 +134,14 @@ fn step(
     counters: &mut [u8; Site::RADIOS as usize],
     list: &mut [u16; Site::RADIOS as usize],
 ) -> Reached
-    requires site { ⌜ ((numbers : List ℕ) × Walk-site (rise .a) (rise .b) (rise .most) (part .first) (part .size) (now links) numbers (now tail) (now places)) ⌝ }
+    requires site { ⌜ ((numbers : List ℕ) ×
+        Walk-site (rise .a) (rise .b) (rise .most) (part .first) (part .size) (now links) numbers (now tail) (now places)) ⌝ }
     requires state { ⌜ Words-state rise part (now links) (now tail) (now places) (at .front) (at .taken)
         (work (now left) (now held) (now touched) (now due) (now stay) (now counters) (now list)) ⌝ }
     requires turn { ⌜ (p ≡ next-turn (part .size) (at .front) (at .taken) (now due)) × (p ≤ max-radios) ⌝ }
     ensures state { λ r. ⌜ Words-state rise part (now (links .entry)) (now (tail .entry)) (now (places .entry)) (r .front) (r .taken)
-        (work (now (left .exit)) (now (held .exit)) (now (touched .exit)) (now (due .exit)) (now (stay .exit)) (now (counters .exit)) (now (list .exit))) ⌝ }
+        (work (now (left .exit)) (now (held .exit)) (now (touched .exit)) (now (due .exit)) (now (stay .exit))
+        (now (counters .exit)) (now (list .exit))) ⌝ }
     ensures further { λ r. ⌜ (1 ≤ r .front) × (at .front + at .taken < r .front + r .taken) ⌝ }
 {
     if p < Site::RADIOS as usize {
@@ -194,7 +200,8 @@ pub(crate) fn walk(
     places: &[u16],
     list: &mut [u16; Site::RADIOS as usize],
 ) -> Plan
-    requires site { ⌜ ((numbers : List ℕ) × Walk-site (rise .a) (rise .b) (rise .most) (part .first) (part .size) (now links) numbers (now tail) (now places)) ⌝ }
+    requires site { ⌜ ((numbers : List ℕ) ×
+        Walk-site (rise .a) (rise .b) (rise .most) (part .first) (part .size) (now links) numbers (now tail) (now places)) ⌝ }
     requires room { ⌜ length (now list) ≡ max-radios ⌝ }
     ensures start { λ r. ⌜ r .start ≡ part .first ⌝ }
     ensures walked { λ r. ⌜ Walk-done (rise .a) (rise .b) (rise .most) (part .first) (part .size) (now (links .entry)) (now (tail .entry)) (r .size)

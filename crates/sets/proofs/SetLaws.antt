@@ -159,7 +159,8 @@ in-put b v w ws l = go (bool-cases (eqb (w / 64) (v / 64)))
     go (inl e) =
         let q : w / 64 ≡ v / 64 = eqb-true (w / 64) (v / 64) e in
         let same : eqb (v % 64) (w % 64) ≡ eqb v w =
-        iff-eq (eqb (v % 64) (w % 64)) (eqb v w) (λ z. eq-eqb v w (omega (arith, eqb-true (v % 64) (w % 64) z))) (λ z. eq-eqb (v % 64) (w % 64) (omega (arith, eqb-true v w z))) in
+        iff-eq (eqb (v % 64) (w % 64)) (eqb v w) (λ z. eq-eqb v w (omega (arith, eqb-true (v % 64) (w % 64) z)))
+        (λ z. eq-eqb (v % 64) (w % 64) (omega (arith, eqb-true v w z))) in
         rw (q, getD-set-same ws (v / 64) x 0 l, digit-put-digit b (getD ws (v / 64) 0) (v % 64) (w % 64), same)
     go (inr e) =
         let d = eqb-false (w / 64) (v / 64) e in
@@ -438,7 +439,8 @@ module _ (ts : List ℕ) (a : ℕ) (ws : List ℕ) where
       go w (inr e) =
           let l = ltb-false w max-radios e in
           in-set-past us w (omega (arith, i .long))
-          ∙ sym (ap (λ (b : Bool). b || member w (row-listed ts a)) (in-set-past ws w (omega arith)) ∙ ap (member w) (row-listed-whole ts a whole) ∙ not-member w (neighbours-of ts a) (λ m. omega (arith, in-neighbours-of ts a w m .0)))
+          ∙ sym (ap (λ (b : Bool). b || member w (row-listed ts a)) (in-set-past ws w (omega arith)) ∙ ap (member w) (row-listed-whole ts a whole) ∙ not-member
+          w (neighbours-of ts a) (λ m. omega (arith, in-neighbours-of ts a w m .0)))
 
 -- ---- the radios of a set, listed
 

@@ -89,7 +89,8 @@ module _ (k first : ℕ) (tail : List ℕ) (at : ℕ) (old : List ℕ) (word res
     pub word-turn : Word-entries k first tail at old word (bitAnd rest (rest - 1)) (n + 1) (set list n (getD tail (64 * k + trailingZeros 64 rest - first) 0))
     word-turn = (
       omega (arith, and-le-l rest (rest - 1), h .0),
-      entries-one first tail at old (set-bits 64 (64 * k) word) (64 * k + trailingZeros 64 rest) (set-bits 64 (64 * k) (bitAnd rest (rest - 1))) n list (rw step at (h .1)),
+      entries-one first tail at old (set-bits 64 (64 * k) word) (64 * k + trailingZeros 64 rest) (set-bits 64 (64 * k) (bitAnd rest (rest - 1))) n list
+          (rw step at (h .1)),
     )
 
 -- ---- the words of a set
@@ -125,7 +126,8 @@ module _ (ws : List ℕ) (first : ℕ) (tail : List ℕ) (taken : ℕ) (old : Li
     set-entries-turn next new e made = record {
       low = omega arith;
       few = omega (arith, h .few, length-set-bits-le 64 (64 * k) (getD ws k 0));
-      listing = rw e (entries-part first tail taken old (set-places ws) (set-bits 64 (64 * k) (getD ws k 0)) (places-from ws (k + 1)) at list new (rw cut at (h .listing)) made);
+      listing = rw e (entries-part first tail taken old (set-places ws) (set-bits 64 (64 * k) (getD ws k 0)) (places-from ws (k + 1)) at list new
+          (rw cut at (h .listing)) made);
     }
 
   pub set-entries-end : (at k : ℕ) (list : List ℕ) → 8 ≤ k → Set-entries ws first tail taken old at k list
@@ -215,7 +217,8 @@ module _ (first size : ℕ) (tail : List ℕ) where
               let same : j ≡ q = omega (arith, eqb-true (first + q) (first + j) e) in
               bits (first + j) ∙ rw e (sym own ∙ ap mark1 (sym v-is ∙ ap (λ (i : ℕ). getD tail i 0) (sym same)))
           go (inr e) =
-              bits (first + j) ∙ rw e (h .is j lj ∙ sym (other (getD tail j 0) (λ s. eqb-false (first + q) (first + j) e (ap (λ (i : ℕ). first + i) (sym (apart j lj s))))))
+              bits (first + j) ∙ rw e (h .is j lj ∙ sym (other (getD tail j 0)
+              (λ s. eqb-false (first + q) (first + j) e (ap (λ (i : ℕ). first + i) (sym (apart j lj s))))))
 
       pub marked-put : mark1 v ≡ true → Marked-places first size tail mark1 (put-in (first + q) ws)
       marked-put own = record {

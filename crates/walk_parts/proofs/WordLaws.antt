@@ -187,7 +187,8 @@ module _ (most : ℕ) (ps : List ℕ) where
     pub word-lowered : (cs1 ds1 : List ℕ) → Lowered most ps (v ∷ []) cs ds cs1 ds1 → Word-lowering first word cs0 ds0 (bitAnd rest (rest - 1)) cs1 ds1
     word-lowered cs1 ds1 l = record {
       small = omega (arith, and-le-l rest (rest - 1), h .small);
-      lowering = lowering-part (set-bits 64 first word) cs0 ds0 (v ∷ []) (set-bits 64 first (bitAnd rest (rest - 1))) cs ds cs1 ds1 (rw step at (h .lowering)) l;
+      lowering = lowering-part (set-bits 64 first word) cs0 ds0 (v ∷ []) (set-bits 64 first (bitAnd rest (rest - 1))) cs ds cs1 ds1 (rw step at (h .lowering))
+          l;
     }
 
   -- the words of two sets
@@ -226,7 +227,8 @@ module _ (most : ℕ) (ps : List ℕ) where
 
 -- ---- the neighbours after the call
 
-module _ {a b v n : ℕ} {ts : List ℕ} (ready : Ends-known a b v n ts) (ws us : List ℕ) (long : length ws ≡ 8) (joined : Row-joined ts v ws us) (same : length us ≡ 8) where
+module _ {a b v n : ℕ} {ts : List ℕ} (ready : Ends-known a b v n ts) (ws us : List ℕ) (long : length ws ≡ 8) (joined : Row-joined ts v ws us)
+    (same : length us ≡ 8) where
   abbrev after : ℕ → Bool
   after x = marked (put-link true a b ts) v x
 
@@ -289,10 +291,12 @@ module _ {a b v n : ℕ} {ts : List ℕ} (ready : Ends-known a b v n ts) (ws us 
             → in-set us1 x ≡ (in-set ws x || after x)
         at x l (inl q) =
             bits x (omega (arith, q .1, ready .second, ready .small))
-            ∙ rw (bits-row x l, after-is x l, q .1, eq-eqb a v (sym (q .0)), ne-eqb b v (λ s. ready .differ (sym (q .0) ∙ sym s))) (one (eqb b x) (eqb a x) (in-set ws x) (marked ts v x))
+            ∙ rw (bits-row x l, after-is x l, q .1, eq-eqb a v (sym (q .0)), ne-eqb b v (λ s. ready .differ (sym (q .0) ∙ sym s)))
+            (one (eqb b x) (eqb a x) (in-set ws x) (marked ts v x))
         at x l (inr (inl q)) =
             bits x (omega (arith, q .1, ready .first, ready .small))
-            ∙ rw (bits-row x l, after-is x l, q .1, ne-eqb a v (λ s. ready .differ (s ∙ q .0)), eq-eqb b v (sym (q .0))) (two (eqb a x) (in-set ws x) (marked ts v x))
+            ∙ rw (bits-row x l, after-is x l, q .1, ne-eqb a v (λ s. ready .differ (s ∙ q .0)), eq-eqb b v (sym (q .0)))
+            (two (eqb a x) (in-set ws x) (marked ts v x))
         at x l (inr (inr q)) = absurd (ne (q .2))
 
 -- ---- listed radios as a set
@@ -323,7 +327,8 @@ setting-turn list i ws us l made h = record {
     either false true = refl
     either false false = refl
 
-    at : (w : ℕ) → w < max-radios → (ltb v max-radios ≡ true) ⊎ (ltb v max-radios ≡ false) → in-set (put-in v ws) w ≡ (member w (take i list) || member w (v ∷ []))
+    at : (w : ℕ) → w < max-radios → (ltb v max-radios ≡ true) ⊎ (ltb v max-radios ≡ false) → in-set (put-in v ws) w ≡
+        (member w (take i list) || member w (v ∷ []))
     at w lw (inl e) = in-put-in v w ws (omega (arith, h .long, ltb-true v max-radios e)) ∙ rw (h .is w lw) (either (eqb v w) (member w (take i list)))
     at w lw (inr e) =
         let far = ltb-false v max-radios e in
@@ -363,11 +368,27 @@ module _ (ds : List ℕ) (long : length ds ≡ 8) where
       go (inl e) (inl t) =
           let m : In q (common ds ds) = rw (common-filter ds ds) (filter-in (λ v. in-set ds v && in-set ds v) (range 0 max-radios) q
           (in-range 0 max-radios q (omega arith) (omega (arith, ltb-true q max-radios t))) (and-both (in-set ds q) (in-set ds q) e e)) in
+<<<<<<< ours
           absurd (omega (arith, head-or-lowest max-radios q (common ds ds) (rw (common-filter ds ds) (ascending-filter _ (range 0 max-radios) (ascending-range 0 max-radios))) m))
 
   pub lowest-small : lowest ≤ max-radios
   unfolding head-or
   lowest-small = go (common ds ds) (λ v m. omega (arith, range-in 0 max-radios v (in-filter _ (range 0 max-radios) v (rw (common-filter ds ds) at m) .0)))
+=======
+          absurd (omega (
+            arith,
+            head-or-lowest max-radios q (common ds ds)
+                (rw (common-filter ds ds long long) (ascending-filter _ (range 0 max-radios) (ascending-range 0 max-radios))) m,
+          ))
+
+  pub lowest-small : lowest ≤ max-radios
+  unfolding head-or
+  lowest-small = go (common ds ds) (λ v m. omega (
+    arith,
+    range-in 0 max-radios v
+        (in-filter _ (range 0 max-radios) v (rw (common-filter ds ds long long) at m) .0),
+  ))
+>>>>>>> theirs
     where
       go : (xs : List ℕ) → ((v : ℕ) → In v xs → v < max-radios) → head-or max-radios xs ≤ max-radios
       go [] h = omega arith
@@ -427,6 +448,7 @@ module _ (size front taken : ℕ) (ds : List ℕ) where
           → (leb size front ≡ true) ⊎ (leb size front ≡ false)
           → (front ≤ taken) ⊎ ((max-radios ≤ head-or max-radios (common ds ds)) × (size ≤ front))
       go (inl a) b d = inl (leb-true front taken a)
-      go (inr a) (inl b) d = let is : p ≡ head-or max-radios (common ds ds) = rw (a, b) at e in absurd (omega (arith, ltb-true (head-or max-radios (common ds ds)) max-radios b))
+      go (inr a) (inl b) d = let is : p ≡ head-or max-radios (common ds ds) = rw (a, b) at e in absurd
+          (omega (arith, ltb-true (head-or max-radios (common ds ds)) max-radios b))
       go (inr a) (inr b) (inl d) = inr (ltb-false (head-or max-radios (common ds ds)) max-radios b, leb-true size front d)
       go (inr a) (inr b) (inr d) = let is : p ≡ head-or max-radios (common ds ds) = rw (a, b, d) at e in absurd (omega (arith, is))

@@ -33,7 +33,8 @@ fn lower_one(
     counters: &mut [u8; Site::RADIOS as usize],
     due: &mut [u64; 8],
 )
-    requires known { ⌜ (v < length (now places)) × (v < max-radios) × (v < length (now counters)) × (getD (now places) v 0 < max-radios) × (1 ≤ getD (now counters) v 0) ⌝ }
+    requires known { ⌜ (v < length (now places)) × (v < max-radios) × (v < length (now counters)) ×
+        (getD (now places) v 0 < max-radios) × (1 ≤ getD (now counters) v 0) ⌝ }
     requires long { ⌜ length (now due) ≡ 8 ⌝ }
     ensures { λ _. ⌜ Lowered most (now (places .entry)) (v ∷ []) (now (counters .entry)) (now (due .entry)) (now (counters .exit)) (now (due .exit)) ⌝ }
 {
@@ -54,7 +55,8 @@ fn lower_word(
 )
     requires known { ⌜ (first ≤ max-radios) × Lowerable (now places) (set-bits 64 first word) (now counters) ⌝ }
     requires long { ⌜ length (now due) ≡ 8 ⌝ }
-    ensures { λ _. ⌜ Lowered most (now (places .entry)) (set-bits 64 first word) (now (counters .entry)) (now (due .entry)) (now (counters .exit)) (now (due .exit)) ⌝ }
+    ensures { λ _. ⌜ Lowered most (now (places .entry)) (set-bits 64 first word) (now (counters .entry)) (now (due .entry))
+        (now (counters .exit)) (now (due .exit)) ⌝ }
 {
     let mut rest = word;
     while rest != 0 {

@@ -387,7 +387,8 @@ module _ (f : ℕ → ℕ → Bool) (most : ℕ) (above part : List ℕ) (pos : 
               go (inr (inr e)) = absurd e
 
           left-same : (v : ℕ) → left held1 (suc front) v ≡ left (h .held) front v
-          left-same v = ap (λ (z : List ℕ). count (f v) z + count (f v) above) (append-assoc (h .held) (x ∷ []) after ∙ ap (λ (z : List ℕ). h .held ++ z) (sym cut))
+          left-same v = ap (λ (z : List ℕ). count (f v) z + count (f v) above)
+              (append-assoc (h .held) (x ∷ []) after ∙ ap (λ (z : List ℕ). h .held ++ z) (sym cut))
 
           next-late : (p : ℕ) → next p ≡ true → suc front ≤ p
           next-late p e = go (r .only p e)
@@ -431,8 +432,18 @@ module _ (f : ℕ → ℕ → Bool) (most : ℕ) (above part : List ℕ) (pos : 
                   let o = r .other v (not-front v i) in
                   (omega (arith, not-due-full v i (not-due v i), h .exact v i), o ∙ h .exact v i ∙ sym (left-same v))
               full1 v (inr e) =
-                  let own : new v ≡ c = ap new e ∙ r .own in
-                  (omega arith, own ∙ c-is ∙ omega (arith, left-same v, ap (λ (z : ℕ). left (h .held) front z) e, ap (λ (z : List ℕ). count (f x) (h .held ++ z)) cut, count-mid (f x) x (h .held) after, bit-false (f x x) (P .irreflexive x)))
+                  let own : new v ≡ c = ap new e ∙ r .own in (
+                    omega arith,
+                    own ∙ c-is ∙ omega (
+                      arith,
+                      left-same v,
+                      ap (λ (z : ℕ). left (h .held) front z) e,
+                      ap
+                          (λ (z : List ℕ). count (f x) (h .held ++ z)) cut,
+                      count-mid (f x) x (h .held) after,
+                      bit-false (f x x) (P .irreflexive x),
+                    ),
+                  )
 
               inside1 : (p : ℕ) → ((p ≡ front → ⊥) × (due p ≡ true)) ⊎ ((w : ℕ) × In w after × (pos w ≡ p)) → p < length part
               inside1 p (inl q) = h .inside p (q .1)
@@ -597,7 +608,13 @@ module _ (f : ℕ → ℕ → Bool) (most : ℕ) (above part : List ℕ) (pos : 
         pub turns-stuck : front ≡ length part → Peels f most above part taken (h .held)
         turns-stuck e =
             walk-end f most above (h .held) (rw gone at (h .takes)) (λ v m.
-            omega (arith, not-due-full v m (none (pos v) (h .behind v m)), ap (λ (z : List ℕ). count (f v) (h .held ++ z)) gone, ap (count (f v)) (append-nil (h .held))))
+            omega (
+              arith,
+              not-due-full v m (none (pos v) (h .behind v m)),
+              ap (λ (z : List ℕ). count (f v) (h .held ++ z)) gone,
+              ap (count (f v))
+                  (append-nil (h .held)),
+            ))
           where
             gone : rest ≡ []
             gone = drop-of-length-le part {i = front} (omega arith)

@@ -44,21 +44,27 @@ add-size c =
     let sized = c .before .before .before in
     let start = c .before .before .before .before .before .before .before .before .before .before .before in
     let at = start .pre .1 .1 in
-    let inside = begins-inside (start .pre .0) _ (at .level) _ refl in omega (arith, inside .2, sized .stretch-of .ensures .0, sized .stretch-of .ensures .1, start .pre .0 .small)
+    let inside = begins-inside (start .pre .0) _ (at .level) _ refl in
+    omega (arith, inside .2, sized .stretch-of .ensures .0, sized .stretch-of .ensures .1, start .pre .0 .small)
 
 sub-size : tie.Need-sub-size
 sub-size c =
     let sized = c .before .before .before in
     let start = c .before .before .before .before .before .before .before .before .before .before .before in
     let at = start .pre .1 .1 in
-    let inside = begins-inside (start .pre .0) _ (at .level) _ refl in omega (arith, inside .1, at .place, sized .stretch-of .ensures .0, sized .stretch-of .ensures .1)
+    let inside = begins-inside (start .pre .0) _ (at .level) _ refl in
+    omega (arith, inside .1, at .place, sized .stretch-of .ensures .0, sized .stretch-of .ensures .1)
 
 walk-requires : tie.Need-walk-requires
 walk-requires c κs =
     let sized = c .before .before .before .before .before .before in
     let start = c .before .before .before .before .before .before .before .before .before .before .before .before .before .before in
     let at = start .pre .1 .1 in (
-      (_, site-lent (start .pre .0) _ (at .level) _ refl _ (omega (arith, sized .stretch-of .ensures .0, sized .stretch-of .ensures .1, at .place)) _ (at .place) _ refl),
+      (
+        _,
+        site-lent (start .pre .0) _ (at .level) _ refl _ (omega (arith, sized .stretch-of .ensures .0, sized .stretch-of .ensures .1, at .place)) _
+            (at .place) _ refl,
+      ),
       start .pre .1 .0,
     )
 
@@ -67,7 +73,8 @@ returns-3 c =
     let sized = c .before .before .before .before .before .before .before in
     let start = c .before .before .before .before .before .before .before .before .before .before .before .before .before .before .before in
     let at = start .pre .1 .1 in
-    walked-lent (start .pre .0) _ (at .level) _ refl _ (omega (arith, sized .stretch-of .ensures .0, sized .stretch-of .ensures .1, at .place)) _ (at .place) _ refl _ _ _ _
+    walked-lent (start .pre .0) _ (at .level) _ refl _ (omega (arith, sized .stretch-of .ensures .0, sized .stretch-of .ensures .1, at .place)) _ (at .place) _
+    refl _ _ _ _
     (c .walk .ensures .0) (c .walk .ensures .1)
 
 walk-requires-2 : tie.Need-walk-requires-2
@@ -75,7 +82,8 @@ walk-requires-2 c κs =
     let sized = c .before .before .before .before .before .before in
     let start = c .before .before .before .before .before .before .before .before .before .before .before .before .before .before in
     let at = start .pre .1 .1 in (
-      site-lent (start .pre .0) _ (at .level) _ refl _ (omega (arith, sized .stretch-of .ensures .0, sized .stretch-of .ensures .1, at .place)) _ (at .place) _ refl,
+      site-lent (start .pre .0) _ (at .level) _ refl _ (omega (arith, sized .stretch-of .ensures .0, sized .stretch-of .ensures .1, at .place)) _ (at .place) _
+          refl,
       start .pre .1 .0,
     )
 
@@ -84,10 +92,12 @@ returns-4 c =
     let sized = c .before .before .before .before .before .before .before in
     let start = c .before .before .before .before .before .before .before .before .before .before .before .before .before .before .before in
     let at = start .pre .1 .1 in
-    walked-lent (start .pre .0) _ (at .level) _ refl _ (omega (arith, sized .stretch-of .ensures .0, sized .stretch-of .ensures .1, at .place)) _ (at .place) _ refl _ _ _ _
+    walked-lent (start .pre .0) _ (at .level) _ refl _ (omega (arith, sized .stretch-of .ensures .0, sized .stretch-of .ensures .1, at .place)) _ (at .place) _
+    refl _ _ _ _
     (c .walk2 .ensures .0) (c .walk2 .ensures .1)
 
 pub plan-on-spec : {M : Type 1} → statement M
 plan-on-spec =
     tie.close (
-    tie.spec mul-tail sub-tail part-tail-start (λ c. search needs) settled-requires (λ c κs. search needs) returns (λ c κs. search needs) (λ c κs. search needs) (λ c. search needs) add-size sub-size walk-requires returns-3 walk-requires-2 returns-4)
+    tie.spec mul-tail sub-tail part-tail-start (λ c. search needs) settled-requires (λ c κs. search needs) returns (λ c κs. search needs) (λ c κs. search needs)
+    (λ c. search needs) add-size sub-size walk-requires returns-3 walk-requires-2 returns-4)

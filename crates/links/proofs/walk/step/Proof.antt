@@ -11,7 +11,12 @@ add-if1 c =
 
 back-requires : tie.Need-back-requires
 back-requires c κs =
-    let start = c .before .before .before .before .before .before .before .before .before .before .before .before in (start .pre .0, start .pre .1, step-back (start .pre .0) (start .pre .1) (start .args .p) (start .pre .2) (c .before .before .before .before .before .if1 .taken))
+    let start = c .before .before .before .before .before .before .before .before .before .before .before .before in (
+      start .pre .0,
+      start .pre .1,
+      step-back (start .pre .0) (start .pre .1) (start .args .p) (start .pre .2)
+          (c .before .before .before .before .before .if1 .taken),
+    )
 
 returns : tie.Need-returns
 returns c =
@@ -26,7 +31,12 @@ returns c =
 
 look-requires : tie.Need-look-requires
 look-requires c κs =
-    let start = c .before .before .before .before .before .before .before .before .before .before .before .before .before .before .before in (start .pre .0, start .pre .1, step-look (start .pre .0) (start .pre .1) (start .args .p) (start .pre .2) (c .before .before .before .before .before .if2 .taken))
+    let start = c .before .before .before .before .before .before .before .before .before .before .before .before .before .before .before in (
+      start .pre .0,
+      start .pre .1,
+      step-look (start .pre .0) (start .pre .1) (start .args .p) (start .pre .2)
+          (c .before .before .before .before .before .if2 .taken),
+    )
 
 returns-2 : tie.Need-returns-2
 returns-2 c =
@@ -37,22 +47,35 @@ pass-requires : tie.Need-pass-requires
 pass-requires c κs =
     let ahead = c .before in
     let start = c .before .before .before .before .before .before .before .before .before .before .before .before .before in
-    let place = pass-place (start .pre .0) (start .pre .1) (start .args .p) (start .pre .2) _ (ahead .least .ensures) (c .before .before .before .before .before .before .if1 .left) (c .before .before .before .if2 .left) in (omega (arith, place .0), place .2, place .3)
+    let place = pass-place (start .pre .0) (start .pre .1) (start .args .p) (start .pre .2) _ (ahead .least .ensures)
+    (c .before .before .before .before .before .before .if1 .left) (c .before .before .before .if2 .left) in
+    (omega (arith, place .0), place .2, place .3)
 
 sub-t15 : tie.Need-sub-t15
 sub-t15 c =
     let ahead = c .before .before .before in
-    let start = c .before .before .before .before .before .before .before .before .before .before .before .before .before .before .before in omega (arith, pass-place (start .pre .0) (start .pre .1) (start .args .p) (start .pre .2) _ (ahead .least .ensures) (c .before .before .before .before .before .before .before .before .if1 .left) (c .before .before .before .before .before .if2 .left) .0)
+    let start = c .before .before .before .before .before .before .before .before .before .before .before .before .before .before .before in
+    omega (
+      arith,
+      pass-place (start .pre .0) (start .pre .1) (start .args .p) (start .pre .2) _ (ahead .least .ensures)
+          (c .before .before .before .before .before .before .before .before .if1 .left) (c .before .before .before .before .before .if2 .left) .0,
+    )
 
 returns-3 : tie.Need-returns-3
 returns-3 c =
     let made = c .before .before in
     let ahead = c .before .before .before .before in
     let start = c .before .before .before .before .before .before .before .before .before .before .before .before .before .before .before .before in
-    let place = pass-place (start .pre .0) (start .pre .1) (start .args .p) (start .pre .2) _ (ahead .least .ensures) (c .before .before .before .before .before .before .before .before .before .if1 .left) (c .before .before .before .before .before .before .if2 .left) in
-    (step-pass (start .pre .0) (start .pre .1) (start .args .p) (start .pre .2) _ (ahead .least .ensures) (c .before .before .before .before .before .before .before .before .before .if1 .left) (c .before .before .before .before .before .before .if2 .left) _ (made .pass .ensures), (omega (arith, place .0), omega (arith, place .0)))
+    let place = pass-place (start .pre .0) (start .pre .1) (start .args .p) (start .pre .2) _ (ahead .least .ensures)
+    (c .before .before .before .before .before .before .before .before .before .if1 .left) (c .before .before .before .before .before .before .if2 .left) in (
+      step-pass (start .pre .0) (start .pre .1) (start .args .p) (start .pre .2) _ (ahead .least .ensures)
+          (c .before .before .before .before .before .before .before .before .before .if1 .left) (c .before .before .before .before .before .before .if2 .left) _
+          (made .pass .ensures),
+      (omega (arith, place .0), omega (arith, place .0)),
+    )
 
 pub step-spec : {M : Type 1} → statement M
 step-spec =
     tie.close (
-    tie.spec add-if1 back-requires returns (λ c. search needs) look-requires returns-2 (λ c. search needs) (λ c κs. search needs) pass-requires sub-t15 (λ c. search needs) returns-3)
+    tie.spec add-if1 back-requires returns (λ c. search needs) look-requires returns-2 (λ c. search needs) (λ c κs. search needs) pass-requires sub-t15
+    (λ c. search needs) returns-3)

@@ -17,7 +17,8 @@ abbrev μ-loop : tie.MeasureT-loop
 
 look-requires : tie.Need-look-requires Inv-loop μ-loop
 look-requires c κs =
-    let start = c .before .before .before .before .before .before .before .before .before in (start .pre .0, start-state (start .pre .0) _ (start .pre .1), start-free (start .pre .0))
+    let start = c .before .before .before .before .before .before .before .before .before in
+    (start .pre .0, start-state (start .pre .0) _ (start .pre .1), start-free (start .pre .0))
 
 loop-holds : tie.Need-loop-holds Inv-loop μ-loop
 loop-holds c =
@@ -31,12 +32,16 @@ loop-holds c =
 step-requires : tie.Need-step-requires Inv-loop μ-loop
 step-requires c κs =
     let at-loop = c .before .before .before .before .before .before in
-    let start = c .before .before .before .before .before .before .before .before .before .before .before .before .before .before .before .before .before .before .before in (start .pre .0, at-loop .loop .inv .state, (at-loop .loop .inv .next, omega (arith, c .before .before .before .before .before .loop-test .taken)))
+    let start = c .before .before .before .before .before .before .before .before .before .before .before .before .before .before .before .before .before
+    .before .before in
+    (start .pre .0, at-loop .loop .inv .state, (at-loop .loop .inv .next, omega (arith, c .before .before .before .before .before .loop-test .taken)))
 
 loop-less : tie.Need-loop-less Inv-loop μ-loop
 loop-less c =
     let made = c .before .before in
-    let start = c .before .before .before .before .before .before .before .before .before .before .before .before .before .before .before .before .before .before .before .before .before .before in omega (arith, made .step .ensures .1 .1, made .step .ensures .0 .passed, front-fits (start .pre .0) (made .step .ensures .0) .0)
+    let start = c .before .before .before .before .before .before .before .before .before .before .before .before .before .before .before .before .before
+    .before .before .before .before .before in
+    omega (arith, made .step .ensures .1 .1, made .step .ensures .0 .passed, front-fits (start .pre .0) (made .step .ensures .0) .0)
 
 loop-again : tie.Need-loop-again Inv-loop μ-loop
 loop-again c =
@@ -51,16 +56,23 @@ loop-again c =
 list-entries-requires : tie.Need-list-entries-requires Inv-loop μ-loop
 list-entries-requires c κs =
     let at-loop = c .before .before .before in
-    let start = c .before .before .before .before .before .before .before .before .before .before .before .before .before .before .before .before in walk-entries (start .pre .0) (at-loop .loop .inv .state)
+    let start = c .before .before .before .before .before .before .before .before .before .before .before .before .before .before .before .before in
+    walk-entries (start .pre .0) (at-loop .loop .inv .state)
 
 returns : tie.Need-returns Inv-loop μ-loop
 returns c =
     let made = c .before in
     let at-loop = c .before .before .before .before .before in
-    let start = c .before .before .before .before .before .before .before .before .before .before .before .before .before .before .before .before .before .before in
-    (c .plan-of .ensures .0, done-as (c .plan-of .ensures .1) (c .plan-of .ensures .2) (walk-end (start .pre .0) (at-loop .loop .inv .state) (at-loop .loop .inv .some) (at-loop .loop .p) (c .before .before .before .before .loop-test .left) (at-loop .loop .inv .next) _ (made .list-entries .ensures)))
+    let start = c .before .before .before .before .before .before .before .before .before .before .before .before .before .before .before .before .before
+    .before in (
+      c .plan-of .ensures .0,
+      done-as (c .plan-of .ensures .1) (c .plan-of .ensures .2)
+          (walk-end (start .pre .0) (at-loop .loop .inv .state) (at-loop .loop .inv .some) (at-loop .loop .p) (c .before .before .before .before .loop-test .left)
+          (at-loop .loop .inv .next) _ (made .list-entries .ensures)),
+    )
 
 pub walk-spec : {M : Type 1} → statement M
 walk-spec =
     tie.close (
-    tie.spec Inv-loop μ-loop look-requires (λ c κs. search needs) loop-holds step-requires (λ c κs. search needs) loop-less loop-again list-entries-requires (λ c κs. search needs) returns)
+    tie.spec Inv-loop μ-loop look-requires (λ c κs. search needs) loop-holds step-requires (λ c κs. search needs) loop-less loop-again list-entries-requires
+    (λ c κs. search needs) returns)

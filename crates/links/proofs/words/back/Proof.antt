@@ -5,7 +5,8 @@ use Prim.Native.Nat.{ℕ, _-_}
 use native.Mathlib.Omega.{arith}
 use lib.ListN.{length-replicate}
 use borrow.Author.Needs.{needs}
-use Rattle.links.proofs.WordTurns.{ends-ready, back-place, back-below, back-fits, back-lowerable, back-done, lowerable-as, lowered-as, out-long, state-as}
+use Rattle.links.proofs.WordTurns.{ends-ready, back-place, back-below, back-fits, back-lowerable, back-done}
+use Rattle.links.proofs.WordTurns.{lowerable-as, lowered-as, out-long, state-as}
 use Rattle.links.proofs.words.back.Statement.{statement}
 use Rattle.links.proofs.words.back.Tie as tie
 
@@ -37,7 +38,11 @@ shared-slice-read-v c =
     omega (arith, back-place site st p (at .0) (at .1) .2, site .fits)
 
 cast-join-after : tie.Need-cast-join-after
-cast-join-after c = omega (arith, c .shared-slice-known4 .given (c .before .before .before .before .before .args .p - c .before .before .before .before .before .args .part .first))
+cast-join-after c = omega (
+  arith,
+  c .shared-slice-known4 .given (c .before .before .before .before .before .args .p - c .before .before .before .before
+      .before .args .part .first),
+)
 
 join-after-requires : tie.Need-join-after-requires
 join-after-requires c κs =
@@ -67,10 +72,20 @@ cast-take-out-2 c =
     omega (arith, at .1)
 
 cast-take-out-3 : tie.Need-cast-take-out-3
-cast-take-out-3 c = omega (arith, c .before .before .before .before .before .before .before .shared-slice-known4 .given (c .before .before .before .before .before .before .before .before .before .before .before .before .args .p - c .before .before .before .before .before .before .before .before .before .before .before .before .args .part .first))
+cast-take-out-3 c = omega (
+  arith,
+  c .before .before .before .before .before .before .before .shared-slice-known4 .given
+      (c .before .before .before .before .before .before .before .before .before .before .before .before .args .p - c .before .before .before .before .before
+      .before .before .before .before .before .before .before .args .part .first),
+)
 
 cast-take-out-4 : tie.Need-cast-take-out-4
-cast-take-out-4 c = omega (arith, c .before .before .before .before .before .before .before .before .before .shared-slice-known4 .given (c .before .before .before .before .before .before .before .before .before .before .before .before .before .before .args .p - c .before .before .before .before .before .before .before .before .before .before .before .before .before .before .args .part .first))
+cast-take-out-4 c = omega (
+  arith,
+  c .before .before .before .before .before .before .before .before .before .shared-slice-known4 .given
+      (c .before .before .before .before .before .before .before .before .before .before .before .before .before .before .args .p - c .before .before .before
+      .before .before .before .before .before .before .before .before .before .before .before .args .part .first),
+)
 
 mul-list : tie.Need-mul-list
 mul-list c =
@@ -92,7 +107,8 @@ element-write-list c =
 
 add-t19 : tie.Need-add-t19
 add-t19 c =
-    let start = c .before .before .before .before .before .before .before .before .before .before .before .before .before .before .before .before .before .before .before .before in
+    let start = c .before .before .before .before .before .before .before .before .before .before .before .before .before .before .before .before .before
+    .before .before .before in
     let site = start .pre .0 .1 in
     let st = start .pre .1 .0 in
     let at = start .pre .1 .1 in
@@ -101,7 +117,8 @@ add-t19 c =
 
 lower-requires : tie.Need-lower-requires
 lower-requires c κs =
-    let start = c .before .before .before .before .before .before .before .before .before .before .before .before .before .before .before .before .before .before .before in
+    let start = c .before .before .before .before .before .before .before .before .before .before .before .before .before .before .before .before .before
+    .before .before in
     let site = start .pre .0 .1 in
     let st = start .pre .1 .0 in
     let at = start .pre .1 .1 in
@@ -110,12 +127,18 @@ lower-requires c κs =
     let long = joined .long ∙ length-replicate {A = ℕ} 8 0 in
     let cand = c .before .before .before .before .before .before .take-out3 .ensures in (
       lowerable-as _ cand (back-lowerable site st p (at .0) (at .1) _ refl _ long joined),
-      (long, out-long _ _ _ cand (st .held-long), out-long _ _ _ (c .before .before .before .before .before .before .before .before .before .before .take-out .ensures) (st .due-long)),
+      (
+        long,
+        out-long _ _ _ cand (st .held-long),
+        out-long _ _ _ (c .before .before .before .before .before .before .before .before .before .before
+            .take-out .ensures) (st .due-long),
+      ),
     )
 
 returns : tie.Need-returns
 returns c =
-    let start = c .before .before .before .before .before .before .before .before .before .before .before .before .before .before .before .before .before .before .before .before in
+    let start = c .before .before .before .before .before .before .before .before .before .before .before .before .before .before .before .before .before
+    .before .before .before in
     let site = start .pre .0 .1 in
     let st = start .pre .1 .0 in
     let at = start .pre .1 .1 in
@@ -123,8 +146,10 @@ returns c =
     let joined = c .before .before .before .before .before .before .before .before .before .before .before .before .before .join-after .ensures in
     let long = joined .long ∙ length-replicate {A = ℕ} 8 0 in
     let cand = c .before .before .before .before .before .before .before .take-out3 .ensures in (
-      state-as (c .before .before .before .before .before .take-out4 .ensures) cand refl refl (c .before .before .before .before .before .before .before .before .before .take-out2 .ensures)
-          (back-done site st p (at .0) (at .1) _ refl _ long joined _ _ (lowered-as _ cand (c .before .before .before .before .before .before .before .before .before .before .before .take-out .ensures) (c .lower .ensures))),
+      state-as (c .before .before .before .before .before .take-out4 .ensures) cand refl refl
+          (c .before .before .before .before .before .before .before .before .before .take-out2 .ensures)
+          (back-done site st p (at .0) (at .1) _ refl _ long joined _ _ (lowered-as _ cand
+          (c .before .before .before .before .before .before .before .before .before .before .before .take-out .ensures) (c .lower .ensures))),
       (refl, refl),
     )
 

@@ -84,7 +84,11 @@ element-write-list c =
     omega (arith, front-room site st _ refl (free .0) (free .1), st .room)
 
 cast-take-out : tie.Need-cast-take-out
-cast-take-out c = omega (arith, c .before .before .before .before .before .shared-slice-known4 .given (c .before .before .before .before .before .before .before .before .before .before .args .at .front))
+cast-take-out c = omega (
+  arith,
+  c .before .before .before .before .before .shared-slice-known4 .given
+      (c .before .before .before .before .before .before .before .before .before .before .args .at .front),
+)
 
 add-t18 : tie.Need-add-t18
 add-t18 c =
@@ -115,12 +119,14 @@ returns-3 c =
     let p = start .args .p in
     let free = step-free site st p turn (c .before .before .before .before .before .before .before .if1 .left) in (
       state-as (c .take-out .ensures) refl refl refl refl
-          (pass-done site st _ refl (free .0) (free .1) (omega (arith, step-some site st p turn)) (sym (c .before .before .before .is-in .ensures) ∙ c .before .before .if2 .left)),
+          (pass-done site st _ refl (free .0) (free .1) (omega (arith, step-some site st p turn))
+          (sym (c .before .before .before .is-in .ensures) ∙ c .before .before .if2 .left)),
       (omega arith, omega arith),
     )
 
 pub step-spec : {M : Type 1} → statement M
 step-spec =
     tie.close (
-    tie.spec (λ c. search needs) back-requires returns mul-v shared-slice-read-v cast-is-in (λ c κs. search needs) look-requires returns-2 mul-list element-write-list
+    tie.spec (λ c. search needs) back-requires returns mul-v shared-slice-read-v cast-is-in (λ c κs. search needs) look-requires returns-2 mul-list
+    element-write-list
     cast-take-out (λ c κs. search needs) add-t18 add-t45 returns-3)

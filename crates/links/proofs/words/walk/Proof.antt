@@ -20,8 +20,13 @@ abbrev μ-loop : tie.MeasureT-loop
 
 look-requires : tie.Need-look-requires Inv-loop μ-loop
 look-requires c κs =
-    let start = c .before .before .before .before .before .before .before .before .before .before .before in
-    (start .pre .0, (words-start (start .pre .0 .1) _ _ (c .before .before .before .before .before .before .before .set-of .ensures) (start .pre .1), (start .pre .0 .1 .some, λ p. in-set-zeros 8 p)))
+    let start = c .before .before .before .before .before .before .before .before .before .before .before in (
+      start .pre .0,
+      (
+        words-start (start .pre .0 .1) _ _ (c .before .before .before .before .before .before .before .set-of .ensures) (start .pre .1),
+        (start .pre .0 .1 .some, λ p. in-set-zeros 8 p),
+      ),
+    )
 
 loop-holds : tie.Need-loop-holds Inv-loop μ-loop
 loop-holds c =
@@ -30,13 +35,30 @@ loop-holds c =
 
 step-requires : tie.Need-step-requires Inv-loop μ-loop
 step-requires c κs =
-    let at-loop = c .before .before .before .before .before .before .before .before in
-    (c .before .before .before .before .before .before .before .before .before .before .before .before .before .before .before .before .before .before .before .before .before .before .before .pre .0, (at-loop .loop .inv .state, (at-loop .loop .inv .next, omega (arith, c .before .before .before .before .before .before .before .loop-test .taken))))
+    let at-loop = c .before .before .before .before .before .before .before .before in (
+      c .before .before .before .before .before .before .before .before .before .before .before .before .before .before .before .before .before .before .before
+          .before .before .before .before .pre .0,
+      (
+        at-loop .loop .inv .state,
+        (
+          at-loop .loop .inv .next,
+          omega
+              (arith, c .before .before .before .before .before .before .before .loop-test .taken),
+        ),
+      ),
+    )
 
 loop-less : tie.Need-loop-less Inv-loop μ-loop
 loop-less c =
     let made = c .before .before in
-    omega (arith, made .step .ensures .1 .1, made .step .ensures .0 .passed, front-fits (c .before .before .before .before .before .before .before .before .before .before .before .before .before .before .before .before .before .before .before .before .before .before .before .before .before .before .pre .0 .1) (made .step .ensures .0) .0)
+    omega (
+      arith,
+      made .step .ensures .1 .1,
+      made .step .ensures .0 .passed,
+      front-fits
+          (c .before .before .before .before .before .before .before .before .before .before .before .before .before .before .before .before .before .before .before
+          .before .before .before .before .before .before .before .pre .0 .1) (made .step .ensures .0) .0,
+    )
 
 loop-again : tie.Need-loop-again Inv-loop μ-loop
 loop-again c =
@@ -44,14 +66,17 @@ loop-again c =
     record { some = made .step .ensures .1 .0; next = c .next2 .ensures; state = made .step .ensures .0 }
 
 list-entries-requires : tie.Need-list-entries-requires Inv-loop μ-loop
-list-entries-requires c κs = words-entries (c .before .before .before .before .before .before .before .before .before .before .before .before .before .before .before .before .before .before .pre .0 .1) (c .before .before .before .loop .inv .state)
+list-entries-requires c κs = words-entries (c .before .before .before .before .before .before .before .before .before .before .before .before .before .before
+    .before .before .before .before .pre .0 .1) (c .before .before .before .loop .inv .state)
 
 returns : tie.Need-returns Inv-loop μ-loop
 returns c =
     let at-loop = c .before .before .before .before .before in (
       c .plan-of .ensures .0,
       done-as (c .plan-of .ensures .1) (c .plan-of .ensures .2)
-          (words-end (c .before .before .before .before .before .before .before .before .before .before .before .before .before .before .before .before .before .before .before .before .pre .0 .1) (at-loop .loop .inv .state) (at-loop .loop .inv .some) (at-loop .loop .p) (c .before .before .before .before .loop-test .left)
+          (words-end (c .before .before .before .before .before .before .before .before .before .before .before .before .before .before .before .before .before
+          .before .before .before .pre .0 .1) (at-loop .loop .inv .state) (at-loop .loop .inv .some) (at-loop .loop .p) (c .before .before .before
+          .before .loop-test .left)
           (at-loop .loop .inv .next) _ (c .before .list-entries .ensures)),
     )
 

@@ -31,5 +31,6 @@ returns c = set-entries-end _ _ _ _ _ _ (c .before .loop .k) _ (c .loop-test .le
 pub list-entries-spec : {M : Type 1} → statement M
 list-entries-spec =
     tie.close (
-    tie.spec Inv-loop μ-loop (λ c. set-entries-none _ _ _ _ _ (c .before .pre .1)) (λ c. search needs) (λ c. search needs) (λ c. search needs) list-word-requires (λ c. search needs) (λ c. search needs)
+    tie.spec Inv-loop μ-loop (λ c. set-entries-none _ _ _ _ _ (c .before .pre .1)) (λ c. search needs) (λ c. search needs) (λ c. search needs)
+    list-word-requires (λ c. search needs) (λ c. search needs)
     loop-again returns)

@@ -36,12 +36,19 @@ mul-put16 c = omega (arith, trailing-le 64 (c .before .before .loop .rest), c .b
 
 shared-slice-read-put16 : tie.Need-shared-slice-read-put16 Inv-loop μ-loop
 shared-slice-read-put16 c =
-    let at-loop = c .before .before .before in word-place _ _ _ _ _ _ (at-loop .loop .rest) (at-loop .loop .n) _ (at-loop .loop .inv) (c .before .before .loop-test .taken) .1
+    let at-loop = c .before .before .before in
+    word-place _ _ _ _ _ _ (at-loop .loop .rest) (at-loop .loop .n) _ (at-loop .loop .inv) (c .before .before .loop-test .taken) .1
 
 add-n : tie.Need-add-n Inv-loop μ-loop
 add-n c =
     let at-loop = c .before .before .before .before in
-    omega (arith, word-room _ _ _ _ _ _ (at-loop .loop .rest) (at-loop .loop .n) _ (at-loop .loop .inv) (c .before .before .before .loop-test .taken), at-loop .before .before .pre .1, at-loop .before .before .pre .0)
+    omega (
+      arith,
+      word-room _ _ _ _ _ _ (at-loop .loop .rest) (at-loop .loop .n) _ (at-loop .loop .inv) (c .before .before .before .loop-test .taken),
+      at-loop
+          .before .before .pre .1,
+      at-loop .before .before .pre .0,
+    )
 
 loop-less : tie.Need-loop-less Inv-loop μ-loop
 loop-less c = let rest = c .before .before .before .before .loop .rest in omega (arith, and-le-r rest (rest - 1), c .before .before .before .loop-test .taken)
@@ -58,5 +65,6 @@ returns c =
 pub list-word-spec : {M : Type 1} → statement M
 list-word-spec =
     tie.close (
-    tie.spec Inv-loop μ-loop loop-holds (λ c. search needs) add-p cast-p sub-put16 mul-put16 shared-slice-read-put16 (λ c κs. search needs) (λ c. search needs) add-n
+    tie.spec Inv-loop μ-loop loop-holds (λ c. search needs) add-p cast-p sub-put16 mul-put16 shared-slice-read-put16 (λ c κs. search needs) (λ c. search needs)
+    add-n
     loop-less loop-again returns)

@@ -16,7 +16,8 @@ returns-2 : tie.Need-returns-2
 returns-2 c =
     let start = c .before .before .before .before .before in
     let joined = c .before .before in
-    joined-row (start .pre .0 .1) _ _ (start .pre .1) (joined .join-row .ensures) (joined .join-row .kept .1 .1 .0 ∙ start .pre .1) _ (c .before .other-end .ensures)
+    joined-row (start .pre .0 .1) _ _ (start .pre .1) (joined .join-row .ensures) (joined .join-row .kept .1 .1 .0 ∙ start .pre .1) _
+    (c .before .other-end .ensures)
     (c .if1 .left)
 
 pub join-after-spec : {M : Type 1} → statement M

@@ -26,7 +26,8 @@ loop-again : tie.Need-loop-again Inv-loop μ-loop
 loop-again c =
     let at-loop = c .before .before .before .before .before .before in
     let start = at-loop .before .before in
-    words-lowered _ _ _ _ (start .pre .1 .0) (start .pre .1 .1) _ _ (at-loop .loop .k) _ _ (at-loop .loop .inv) (c .before .before .before .before .before .loop-test .taken)
+    words-lowered _ _ _ _ (start .pre .1 .0) (start .pre .1 .1) _ _ (at-loop .loop .k) _ _ (at-loop .loop .inv)
+    (c .before .before .before .before .before .loop-test .taken)
     _ _ (c .lower-word .ensures)
 
 returns : tie.Need-returns Inv-loop μ-loop
@@ -37,5 +38,6 @@ returns c =
 pub lower-spec : {M : Type 1} → statement M
 lower-spec =
     tie.close (
-    tie.spec Inv-loop μ-loop (λ c. words-lowering-none _ _ _ _ (c .before .pre .1 .0) (c .before .pre .1 .1) _ _ (c .before .pre .0)) (λ c. search needs) (λ c. search needs) (λ c. search needs) (λ c. search needs) (λ c. search needs) (λ c. search needs)
+    tie.spec Inv-loop μ-loop (λ c. words-lowering-none _ _ _ _ (c .before .pre .1 .0) (c .before .pre .1 .1) _ _ (c .before .pre .0)) (λ c. search needs)
+    (λ c. search needs) (λ c. search needs) (λ c. search needs) (λ c. search needs) (λ c. search needs)
     lower-word-requires (λ c. search needs) (λ c. search needs) loop-again returns)

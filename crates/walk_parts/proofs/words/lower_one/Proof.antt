@@ -7,7 +7,8 @@ use Rattle.walk_parts.proofs.words.lower_one.Tie as tie
 returns : tie.Need-returns
 returns c =
     let start = c .before .before .before .before .before .before .before in
-    lowered-due _ _ _ _ _ (start .pre .0 .2) (start .pre .0 .4) (start .pre .0 .3) (start .pre .1) _ (c .before .before .before .if1 .taken) (c .put-in .ensures)
+    lowered-due _ _ _ _ _ (start .pre .0 .2) (start .pre .0 .4) (start .pre .0 .3) (start .pre .1) _ (c .before .before .before .if1 .taken)
+    (c .put-in .ensures)
 
 returns-2 : tie.Need-returns-2
 returns-2 c =

@@ -28,5 +28,6 @@ returns c =
 pub set-of-spec : {M : Type 1} → statement M
 set-of-spec =
     tie.close (
-    tie.spec Inv-loop μ-loop (λ c. setting-none _) (λ c. search needs) (λ c. search needs) (λ c. search needs) cast-put-in (λ c κs. search needs) (λ c. search needs)
+    tie.spec Inv-loop μ-loop (λ c. setting-none _) (λ c. search needs) (λ c. search needs) (λ c. search needs) cast-put-in (λ c κs. search needs)
+    (λ c. search needs)
     (λ c. search needs) loop-again returns)
