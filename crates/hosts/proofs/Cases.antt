@@ -124,7 +124,12 @@ module _ (ρ : Public → Routine) (runs : (x : Public) → Runs (ρ x) (call x)
         memory = h .memory;
         returns = h .returns;
         state = record {
-          links = record { stands = h .stand .0; held = ran-held h .0; room = still (tyInt w8) (0, 0) (q .links .room); long = ran-lengths h .0 ∙ q .links .long };
+          links = record {
+            stands = h .stand .0;
+            held = ran-held h .0;
+            room = still (tyInt w8) (0, 0) (q .links .room);
+            long = ran-lengths h .0 ∙ q .links .long;
+          };
           numbers = record {
             stands = h .stand .1 .0;
             held = ran-held h .1 .0;
@@ -162,7 +167,12 @@ module _ (ρ : Public → Routine) (runs : (x : Public) → Runs (ρ x) (call x)
         memory = h .memory;
         returns = h .returns;
         state = record {
-          links = record { stands = h .stand .0; held = ran-held h .0; room = still (tyInt w8) (0, 0) (q .links .room); long = ran-lengths h .0 ∙ q .links .long };
+          links = record {
+            stands = h .stand .0;
+            held = ran-held h .0;
+            room = still (tyInt w8) (0, 0) (q .links .room);
+            long = ran-lengths h .0 ∙ q .links .long;
+          };
           numbers = record {
             stands = h .stand .1 .0;
             held = ran-held h .1 .0;

@@ -246,10 +246,14 @@ module _ (s : Site) (σ : Memory) (t : Tables) (long : lengths-of t ≡ s .lengt
   abbrev u32 : Form
   u32 = unsigned w32
 
-  writing : (ps : List Param) (g : Inputs ps) (f : Fitting ps g) → Ready (σ ++ blocks ps g) (site-params 0 to-write ps) (lent-all s σ t long free ps g f to-write)
+  writing :
+      (ps : List Param) (g : Inputs ps) (f : Fitting ps g) →
+      Ready (σ ++ blocks ps g) (site-params 0 to-write ps) (lent-all s σ t long free ps g f to-write)
   writing = ready-to-write s σ t long free
 
-  reading-them : (ps : List Param) (g : Inputs ps) (f : Fitting ps g) → Ready (σ ++ blocks ps g) (site-params 0 to-read ps) (lent-all s σ t long free ps g f to-read)
+  reading-them :
+      (ps : List Param) (g : Inputs ps) (f : Fitting ps g) →
+      Ready (σ ++ blocks ps g) (site-params 0 to-read ps) (lent-all s σ t long free ps g f to-read)
   reading-them = ready-to-read s σ t long free
 
   asked : (w : Turn) (i : Inputs (call (made w) .params)) → Fitting (call (made w) .params) i → Asked s σ t (book-call w i)

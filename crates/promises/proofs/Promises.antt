@@ -23,8 +23,8 @@ use Rattle.mesh.proofs.Marks.Rules.{store-good-iff}
 use Rattle.calls.specs.Questions.{lengths-of, image-length, write-refusal}
 use Rattle.calls.specs.Outcomes.{write-outcome}
 use Rattle.calls.proofs.ChainLaws.{write-zero}
-use Rattle.calls.proofs.Refusals.{value-keeps, listing-keeps, store-keeps, clear-keeps, read-keeps, return-keeps, link-keeps, commit-keeps, hear-keeps, later-keeps, lift-keeps}
-use Rattle.calls.proofs.Refusals.{ask-keeps, tree-keeps, block-keeps}
+use Rattle.calls.proofs.Refusals.{value-keeps, listing-keeps, store-keeps, clear-keeps, read-keeps, return-keeps, link-keeps, commit-keeps}
+use Rattle.calls.proofs.Refusals.{hear-keeps, later-keeps, lift-keeps, ask-keeps, tree-keeps, block-keeps}
 use Rattle.calls.proofs.Accepted.{check-right, link-right, number-right, later-right, core-right, backbone-right, tree-right-listed, write-right}
 use Rattle.calls.proofs.Accepted.{listing-is, ask-right, commit-right, read-what-was-written, read-right, block-right, sheet-right}
 use Rattle.calls.proofs.Batches.{batch-keeps, batch-right, batch-single}
