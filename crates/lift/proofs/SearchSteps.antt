@@ -98,7 +98,8 @@ module _ (links numbers highs : List ℕ) (s : Search-site links numbers highs) 
     unfolding is-free room-left
     is-free-of v l h d =
         fr .is v l
-        ∙ and-both (leb k (getD numbers v 0)) (ltb (row-count max-neighbours links v) max-neighbours) (le-leb k (getD numbers v 0) (omega (arith, number-is links numbers highs s v l)))
+        ∙ and-both (leb k (getD numbers v 0)) (ltb (row-count max-neighbours links v) max-neighbours) (le-leb k (getD numbers v 0) (omega
+        (arith, number-is links numbers highs s v l)))
         (lt-ltb (row-count max-neighbours links v) max-neighbours (omega (arith, row-degree-is v l)))
 
     module _ (places tight-row : List ℕ) (o : Search-places links numbers places) (tr : Tight k r links numbers places tight-row) (a : ℕ)
@@ -201,7 +202,8 @@ module _ (links numbers highs : List ℕ) (s : Search-site links numbers highs) 
           long = m .long ∙ length-replicate {A = ℕ} row-bytes 0;
           candidates = λ c lc q. own c lc q (bool-cases (ltb c (length numbers)));
           rest = λ c ac lc q. not-lifts c ac (omega (arith, lc, graph-radios links numbers highs s))
-              (sym (m .is c (omega (arith, lc, graph-radios links numbers highs s)) (omega (arith, lc, graph-radios links numbers highs s, site-small links numbers highs s))) ∙ q);
+              (sym (m .is c (omega (arith, lc, graph-radios links numbers highs s)) (omega
+              (arith, lc, graph-radios links numbers highs s, site-small links numbers highs s))) ∙ q);
         }
           where
             own : (c : ℕ) → c < max-radios → marked new 0 c ≡ true → (ltb c (length numbers) ≡ true) ⊎ (ltb c (length numbers) ≡ false)

@@ -158,4 +158,5 @@ pub tight-refutes : (g : Graph) (xs : List ℕ) (valid : Valid max-neighbours g 
     (kr : number g r ≡ k) → tight g place k r (first-end place a c) ≡ false → lifts g r (link-of a c) ≡ false
 tight-refutes g xs valid place o k r a c lr kr e =
     refuted g r a c (λ h. never (tight g place k r (first-end place a c))
-    (group-begins g place o k r a c (risen g xs valid k r a c lr kr h) (lift-group g xs valid k r a c lr kr h) (r-risen g xs valid k r a c lr kr h) kr (valid .links-proper)) e)
+    (group-begins g place o k r a c (risen g xs valid k r a c lr kr h) (lift-group g xs valid k r a c lr kr h) (r-risen g xs valid k r a c lr kr h) kr
+    (valid .links-proper)) e)

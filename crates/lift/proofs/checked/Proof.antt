@@ -21,7 +21,9 @@ returns-2 c =
     let start = c .before .before .before .before .before .before .before .before .before .before .before .before .before .before .before in
     let call = start .args in
     let t = tables (call .links .now) (call .numbers .now) (call .order .now) in
-    checked-unsound (call .n) t _ _ _ (c .before .before .before .before .before .before .before .before .before .of-tables .ensures) (c .before .before .before .before .before .before .before .before .if1 .left) _ _ (start .pre .0) (start .pre .1) _ (c .before .before .before .before .before .examine .ensures) (c .if2 .taken)
+    checked-unsound (call .n) t _ _ _ (c .before .before .before .before .before .before .before .before .before .of-tables .ensures)
+    (c .before .before .before .before .before .before .before .before .if1 .left) _ _ (start .pre .0) (start .pre .1) _
+    (c .before .before .before .before .before .examine .ensures) (c .if2 .taken)
 
 returns-3 : tie.Need-returns-3
 unfolding lengths-of
@@ -29,7 +31,9 @@ returns-3 c =
     let start = c .before .before .before .before .before .before .before .before .before .before .before .before .before .before .before in
     let call = start .args in
     let t = tables (call .links .now) (call .numbers .now) (call .order .now) in
-    checked-sound (call .n) t _ _ _ (c .before .before .before .before .before .before .before .before .before .of-tables .ensures) (c .before .before .before .before .before .before .before .before .if1 .left) _ _ (start .pre .0) (start .pre .1) _ (c .before .before .before .before .before .examine .ensures) (c .if2 .left)
+    checked-sound (call .n) t _ _ _ (c .before .before .before .before .before .before .before .before .before .of-tables .ensures)
+    (c .before .before .before .before .before .before .before .before .if1 .left) _ _ (start .pre .0) (start .pre .1) _
+    (c .before .before .before .before .before .examine .ensures) (c .if2 .left)
 
 pub checked-spec : {M : Type 1} → statement M
 checked-spec =

@@ -30,14 +30,16 @@ returns-3 : tie.Need-returns-3
 returns-3 c =
     let call = c .before .before .before .before .before .before .before .before .before .before .before .before .before .before .before .args in
     let t = tables (call .links .now) (call .numbers .now) (call .order .now) in
-    answer-none (call .n) (call .v) t _ _ _ (c .before .before .before .before .before .before .before .before .before .checked .ensures) (c .before .before .before .before .before .before .if1 .left) (c .before .before .before .before .before .if2 .left)
+    answer-none (call .n) (call .v) t _ _ _ (c .before .before .before .before .before .before .before .before .before .checked .ensures)
+    (c .before .before .before .before .before .before .if1 .left) (c .before .before .before .before .before .if2 .left)
     (c .before .before .first-pair .ensures .none (c .if3 .taken))
 
 returns-4 : tie.Need-returns-4
 returns-4 c =
     let call = c .before .before .before .before .before .before .before .before .before .before .before .before .before .before .before .args in
     let t = tables (call .links .now) (call .numbers .now) (call .order .now) in
-    answer-some (call .n) (call .v) t _ _ _ (c .before .before .before .before .before .before .before .before .before .checked .ensures) (c .before .before .before .before .before .before .if1 .left) (c .before .before .before .before .before .if2 .left) _ _
+    answer-some (call .n) (call .v) t _ _ _ (c .before .before .before .before .before .before .before .before .before .checked .ensures)
+    (c .before .before .before .before .before .before .if1 .left) (c .before .before .before .before .before .if2 .left) _ _
     (c .before .before .first-pair .ensures .some (c .if3 .left))
 
 pub lift-spec : {M : Type 1} → statement M

@@ -35,14 +35,20 @@ loop-again c =
     let call = start .args in
     let i = at-loop .loop .i in
     lowering-turn _ _ _ _ _ _ i (getD (call .near .now) i 0) _ _ _ _
-    (omega (arith, length-take-le (call .k) (call .near .now) (start .pre .0), c .before .before .before .before .before .before .before .before .loop-test .taken))
+    (omega (
+      arith,
+      length-take-le (call .k) (call .near .now)
+          (start .pre .0),
+      c .before .before .before .before .before .before .before .before .loop-test .taken,
+    ))
     (sym (getD-take (call .k) (call .near .now) i 0 (omega arith))) (c .before .before .before .before .lower-one .ensures) (at-loop .loop .inv)
 
 returns : tie.Need-returns Inv-loop μ-loop
 returns c =
     let start = c .before .before .before .before .before .before in
     let call = start .args in
-    lowering-end _ _ _ _ _ _ (c .before .loop .i) _ _ (omega (arith, length-take-le (call .k) (call .near .now) (start .pre .0), c .loop-test .left)) (c .before .loop .inv)
+    lowering-end _ _ _ _ _ _ (c .before .loop .i) _ _ (omega (arith, length-take-le (call .k) (call .near .now) (start .pre .0), c .loop-test .left))
+    (c .before .loop .inv)
 
 pub lower-spec : {M : Type 1} → statement M
 lower-spec =

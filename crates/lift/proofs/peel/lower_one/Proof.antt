@@ -12,13 +12,17 @@ returns c = lowered-gone _ _ _ _ _ _ (c .before .before .before .before .before 
 returns-2 : tie.Need-returns-2
 returns-2 c =
     let start = c .before .before .before .before .before .before .before .before .before .before .before .before .before in
-    lowered-one _ _ _ _ _ _ (start .pre .0) _ _ _ (start .pre .1) (start .pre .2) (c .before .before .before .before .before .before .before .before .if1 .left) (c .before .before .before .before .before .before .before .one-less .ensures)
-    (c .before .before .before .before .before .is-due .ensures) (c .before .before .put-bit .ensures ∙ sym (cond-true _ _ _ (c .before .before .before .before .if2 .taken)))
+    lowered-one _ _ _ _ _ _ (start .pre .0) _ _ _ (start .pre .1) (start .pre .2)
+    (c .before .before .before .before .before .before .before .before .if1 .left)
+    (c .before .before .before .before .before .before .before .one-less .ensures)
+    (c .before .before .before .before .before .is-due .ensures) (c .before .before .put-bit .ensures ∙ sym (cond-true _ _ _
+    (c .before .before .before .before .if2 .taken)))
 
 returns-3 : tie.Need-returns-3
 returns-3 c =
     let start = c .before .before .before .before .before .before .before .before .before in
-    lowered-one _ _ _ _ _ _ (start .pre .0) _ _ _ (start .pre .1) (start .pre .2) (c .before .before .before .before .if1 .left) (c .before .before .before .one-less .ensures)
+    lowered-one _ _ _ _ _ _ (start .pre .0) _ _ _ (start .pre .1) (start .pre .2) (c .before .before .before .before .if1 .left)
+    (c .before .before .before .one-less .ensures)
     (c .before .is-due .ensures) (sym (cond-false _ _ _ (c .if2 .left)))
 
 pub lower-one-spec : {M : Type 1} → statement M

@@ -32,6 +32,7 @@ loop-again c =
 pub mark-due-spec : {M : Type 1} → statement M
 mark-due-spec =
     tie.close (
-    tie.spec Inv-loop μ-loop (λ c. putting-none _ _ (c .before .before .before .pre .1)) (λ c κs. omega (arith, c .loop-test .taken, c .before .before .before .before .before .pre .0)) (λ c κs. search needs)
+    tie.spec Inv-loop μ-loop (λ c. putting-none _ _ (c .before .before .before .pre .1)) (λ c κs. omega
+    (arith, c .loop-test .taken, c .before .before .before .before .before .pre .0)) (λ c κs. search needs)
     (λ c. search needs) (λ c. search needs) loop-again (λ c. search needs)
     (λ c. (c .before .loop .inv .long, putting-end _ (c .before .loop .v) _ (c .loop-test .left) (c .before .loop .inv))))

@@ -16,12 +16,18 @@ abbrev μ-loop : tie.MeasureT-loop
 μ-loop links r stop level a held counters₀ due₀ v₀ counters due v = count (left counters) (range 0 max-radios)
 
 loop-holds : tie.Need-loop-holds Inv-loop μ-loop
-loop-holds c = let start = c .before .before .before .before .before .before in peel-starts _ _ _ _ _ _ _ _ _ (start .pre .3) (start .pre .4) (start .pre .1) (c .first-marked .ensures)
+loop-holds c = let start = c .before .before .before .before .before .before in peel-starts _ _ _ _ _ _ _ _ _ (start .pre .3) (start .pre .4)
+    (start .pre .1) (c .first-marked .ensures)
 
 take-requires : tie.Need-take-requires Inv-loop μ-loop
 take-requires c κs =
-    let inv = c .before .before .before .loop .inv in
-    (c .before .before .before .before .before .before .before .before .before .before .pre .0, inv .state, c .before .before .loop-test .taken, first-due _ (inv .state .due-long) _ (inv .first) (c .before .before .loop-test .taken))
+    let inv = c .before .before .before .loop .inv in (
+      c .before .before .before .before .before .before .before .before .before .before .pre .0,
+      inv .state,
+      c .before .before .loop-test .taken,
+      first-due
+          _ (inv .state .due-long) _ (inv .first) (c .before .before .loop-test .taken),
+    )
 
 is-over-requires : tie.Need-is-over-requires Inv-loop μ-loop
 is-over-requires c κs =
@@ -29,23 +35,34 @@ is-over-requires c κs =
     let begins = c .before .before .before .before .before .before .before .before .before .before .before .before .before .before .before .before .pre .1 in (
       omega (arith, long, inside-left _ _ (begins .base .long) (begins .base .there)),
       omega (arith, long, inside-left _ _ (begins .base .long) (begins .stop-there)),
-      omega (arith, long, c .before .before .before .before .before .before .before .before .before .before .before .before .before .before .before .before .pre .2),
+      omega (
+        arith,
+        long,
+        c .before .before .before .before .before .before .before .before .before .before .before .before .before .before .before
+            .before .pre .2,
+      ),
     )
 
 same-length : tie.Need-same-length Inv-loop μ-loop
-same-length c = c .before .before .before .before .before .before .before .take .ensures .0 .long ∙ sym (c .before .before .before .before .before .before .before .before .before .before .before .before .before .before .before .before .before .before .pre .1 .base .long)
+same-length c = c .before .before .before .before .before .before .before .take .ensures .0 .long ∙ sym
+    (c .before .before .before .before .before .before .before .before .before .before .before .before .before .before .before .before .before .before
+    .pre .1 .base .long)
 
 same-length-2 : tie.Need-same-length-2 Inv-loop μ-loop
-same-length-2 c = c .before .before .before .before .before .before .before .take .ensures .0 .due-long ∙ sym (c .before .before .before .before .before .before .before .before .before .before .before .before .before .before .before .before .before .before .pre .3)
+same-length-2 c = c .before .before .before .before .before .before .before .take .ensures .0 .due-long ∙ sym
+    (c .before .before .before .before .before .before .before .before .before .before .before .before .before .before .before .before .before .before
+    .pre .3)
 
 returns : tie.Need-returns Inv-loop μ-loop
-returns c = peel-over _ _ _ _ _ _ _ _ (c .before .before .before .before .before .before .before .take .ensures .0) (sym (c .before .is-over .ensures) ∙ c .if1 .taken)
+returns c = peel-over _ _ _ _ _ _ _ _ (c .before .before .before .before .before .before .before .take .ensures .0) (sym (c .before .is-over .ensures)
+    ∙ c .if1 .taken)
 
 loop-less : tie.Need-loop-less Inv-loop μ-loop
 loop-less c = c .before .before .before .before .before .before .before .before .before .take .ensures .1
 
 loop-again : tie.Need-loop-again Inv-loop μ-loop
-loop-again c = peel-on _ _ _ _ _ _ _ _ (c .before .before .before .before .before .before .before .before .before .take .ensures .0) _ (sym (c .before .before .before .is-over .ensures) ∙ c .before .before .if1 .left) (c .first-marked2 .ensures)
+loop-again c = peel-on _ _ _ _ _ _ _ _ (c .before .before .before .before .before .before .before .before .before .take .ensures .0) _ (sym
+    (c .before .before .before .is-over .ensures) ∙ c .before .before .if1 .left) (c .first-marked2 .ensures)
 
 same-length-3 : tie.Need-same-length-3 Inv-loop μ-loop
 same-length-3 c = c .before .loop .inv .state .long ∙ sym (c .before .before .before .before .before .before .before .before .pre .1 .base .long)

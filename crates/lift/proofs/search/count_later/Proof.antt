@@ -42,17 +42,24 @@ loop-again c =
     let start = c .before .before .before .before in
     let call = start .args in
     let i = c .before .before .before .loop .i in
-    later-turn _ _ _ i _ (getD (call .near .now) i 0) (omega (arith, length-take-le (call .k) (call .near .now) (start .pre .1), c .before .before .loop-test .taken))
+    later-turn _ _ _ i _ (getD (call .near .now) i 0) (omega (
+      arith,
+      length-take-le (call .k) (call .near .now)
+          (start .pre .1),
+      c .before .before .loop-test .taken,
+    ))
     (sym (getD-take (call .k) (call .near .now) i 0 (c .before .before .loop-test .taken))) (c .before .before .before .loop .inv)
 
 returns : tie.Need-returns Inv-loop μ-loop
 returns c =
     let start = c .before .before in
-    later-end _ _ _ (c .before .loop .i) _ (omega (arith, length-take-le (start .args .k) (start .args .near .now) (start .pre .1), c .loop-test .left)) (c .before .loop .inv)
+    later-end _ _ _ (c .before .loop .i) _ (omega (arith, length-take-le (start .args .k) (start .args .near .now) (start .pre .1), c .loop-test .left))
+    (c .before .loop .inv)
 
 pub count-later-spec : {M : Type 1} → statement M
 count-later-spec =
     tie.close (
     tie.spec Inv-loop μ-loop (λ c. later-none _ _ _) (λ c. search needs) (λ c. search needs) (λ c. search needs) cast-count-2
-    (λ c. omega (arith, c .shared-slice-known .given (c .before .before .loop .i))) shared-slice-read-count-2 (λ c. search needs) add-count (λ c. search needs) (λ c. search needs)
+    (λ c. omega (arith, c .shared-slice-known .given (c .before .before .loop .i))) shared-slice-read-count-2 (λ c. search needs) add-count
+    (λ c. search needs) (λ c. search needs)
     loop-again returns)

@@ -28,24 +28,39 @@ returns c =
     (sym (c .before .is-marked .ensures) ∙ not-true _ (c .if1 .taken))
 
 mark-ends-requires : tie.Need-mark-ends-requires Inv-loop μ-loop
-mark-ends-requires c κs = let start = c .before .before .before .before .before .before .before .before .before in (site-small _ _ _ (start .pre .0), search needs, start .pre .2, start .pre .4 .long)
+mark-ends-requires c κs = let start = c .before .before .before .before .before .before .before .before .before in (
+  site-small _ _ _
+      (start .pre .0),
+  search needs,
+  start .pre .2,
+  start .pre .4 .long,
+)
 
 returns-2 : tie.Need-returns-2 Inv-loop μ-loop
 returns-2 c =
     let start = c .before .before .before .before .before .before .before .before .before .before .before .before .before .before in
-    let on = sym (c .before .before .before .before .before .before .before .is-marked .ensures) ∙ not-false _ (c .before .before .before .before .before .before .if1 .left) in
-    let trying = trying-start _ _ _ (start .pre .0) (start .args .r) (start .pre .1) _ (start .pre .3) _ _ (start .pre .4) (start .pre .5) _ (start .pre .2) on _
+    let on = sym (c .before .before .before .before .before .before .before .is-marked .ensures) ∙ not-false _
+    (c .before .before .before .before .before .before .if1 .left) in
+    let trying = trying-start _ _ _ (start .pre .0) (start .args .r) (start .pre .1) _ (start .pre .3) _ _ (start .pre .4) (start .pre .5) _
+    (start .pre .2) on _
     (c .before .before .before .before .mark-ends .ensures) in
     end-empty _ _ _ (start .pre .0) (start .args .r) (start .pre .1) _ _ _ trying (c .before .first-marked .ensures) (c .if2 .taken)
 
 start-requires : tie.Need-start-requires Inv-loop μ-loop
-start-requires c κs = (c .before .before .before .before .before .before .before .before .before .before .before .before .before .before .before .before .pre .0 .highs-long, search needs)
+start-requires c κs = (
+  c .before .before .before .before .before .before .before .before .before .before .before .before .before .before .before .before .pre .0
+      .highs-long,
+  search needs,
+)
 
 settle-requires : tie.Need-settle-requires Inv-loop μ-loop
 settle-requires c κs =
-    let start = c .before .before .before .before .before .before .before .before .before .before .before .before .before .before .before .before .before .before .before .before in
-    let on = sym (c .before .before .before .before .before .before .before .before .before .before .before .before .before .is-marked .ensures) ∙ not-false _ (c .before .before .before .before .before .before .before .before .before .before .before .before .if1 .left) in
-    let trying = trying-start _ _ _ (start .pre .0) (start .args .r) (start .pre .1) _ (start .pre .3) _ _ (start .pre .4) (start .pre .5) _ (start .pre .2) on _
+    let start = c .before .before .before .before .before .before .before .before .before .before .before .before .before .before .before .before .before
+    .before .before .before in
+    let on = sym (c .before .before .before .before .before .before .before .before .before .before .before .before .before .is-marked .ensures)
+    ∙ not-false _ (c .before .before .before .before .before .before .before .before .before .before .before .before .if1 .left) in
+    let trying = trying-start _ _ _ (start .pre .0) (start .args .r) (start .pre .1) _ (start .pre .3) _ _ (start .pre .4) (start .pre .5) _
+    (start .pre .2) on _
     (c .before .before .before .before .before .before .before .before .before .before .mark-ends .ensures) in (
       record { highs = start .args .highs .now; site = start .pre .0 },
       start .pre .1,
@@ -60,34 +75,50 @@ loop-holds c = let done = c .before .before .settle .ensures in (done .0, done .
 
 lifts-requires : tie.Need-lifts-requires Inv-loop μ-loop
 lifts-requires c κs =
-    let start = c .before .before .before .before .before .before .before .before .before .before .before .before .before .before .before .before .before .before .before .before .before .before .before .before .before .before .before in
-    (record { highs = start .args .highs .now; site = start .pre .0 }, start .pre .1, c .before .before .loop-test .taken, c .before .before .before .loop .inv .0 .some (c .before .before .loop-test .taken))
+    let start = c .before .before .before .before .before .before .before .before .before .before .before .before .before .before .before .before .before
+    .before .before .before .before .before .before .before .before .before .before in (
+      record { highs = start .args .highs .now; site = start .pre .0 },
+      start .pre .1,
+      c .before .before .loop-test .taken,
+      c .before .before .before .loop
+          .inv .0 .some (c .before .before .loop-test .taken),
+    )
 
 returns-3 : tie.Need-returns-3 Inv-loop μ-loop
 returns-3 c =
-    let start = c .before .before .before .before .before .before .before .before .before .before .before .before .before .before .before .before .before .before .before .before .before .before .before .before .before .before .before .before .before .before in
-    end-found _ _ _ (start .pre .0) _ (start .pre .1) _ _ _ _ (c .before .before .before .before .before .before .loop .inv .0) (c .before .before .before .before .before .loop-test .taken) _ _ (c .if3 .taken) (c .before .before .lifts .ensures)
+    let start = c .before .before .before .before .before .before .before .before .before .before .before .before .before .before .before .before .before
+    .before .before .before .before .before .before .before .before .before .before .before .before .before in
+    end-found _ _ _ (start .pre .0) _ (start .pre .1) _ _ _ _ (c .before .before .before .before .before .before .loop .inv .0)
+    (c .before .before .before .before .before .loop-test .taken) _ _ (c .if3 .taken) (c .before .before .lifts .ensures)
 
 settle-requires-2 : tie.Need-settle-requires-2 Inv-loop μ-loop
 settle-requires-2 c κs =
-    let start = c .before .before .before .before .before .before .before .before .before .before .before .before .before .before .before .before .before .before .before .before .before .before .before .before .before .before .before .before .before .before .before .before in
+    let start = c .before .before .before .before .before .before .before .before .before .before .before .before .before .before .before .before .before
+    .before .before .before .before .before .before .before .before .before .before .before .before .before .before .before in
     let tried = c .before .before .before .before .lifts .ensures in (
       record { highs = start .args .highs .now; site = start .pre .0 },
       start .pre .1,
       start .pre .2,
       tried .next (c .before .before .if3 .left),
-      settling-next _ _ _ (start .pre .0) _ (start .pre .1) _ _ _ _ (c .before .before .before .before .before .before .before .before .loop .inv .0) (c .before .before .before .before .before .before .before .loop-test .taken) _ _ (c .before .before .if3 .left) tried,
+      settling-next _ _ _ (start .pre .0) _ (start .pre .1) _ _ _ _ (c .before .before .before .before .before .before .before .before .loop .inv .0)
+          (c .before .before .before .before .before .before .before .loop-test .taken) _ _ (c .before .before .if3 .left) tried,
     )
 
 loop-less : tie.Need-loop-less Inv-loop μ-loop
-loop-less c = omega (arith, c .before .before .before .before .before .before .before .lifts .ensures .fewer (c .before .before .before .before .before .if3 .left), c .before .before .settle2 .ensures .1 .1)
+loop-less c = omega (
+  arith,
+  c .before .before .before .before .before .before .before .lifts .ensures .fewer
+      (c .before .before .before .before .before .if3 .left),
+  c .before .before .settle2 .ensures .1 .1,
+)
 
 loop-again : tie.Need-loop-again Inv-loop μ-loop
 loop-again c = let done = c .before .before .settle2 .ensures in (done .0, done .1 .0 .0, done .1 .0 .1)
 
 returns-4 : tie.Need-returns-4 Inv-loop μ-loop
 returns-4 c =
-    let start = c .before .before .before .before .before .before .before .before .before .before .before .before .before .before .before .before .before .before .before .before .before .before .before .before .before in
+    let start = c .before .before .before .before .before .before .before .before .before .before .before .before .before .before .before .before .before
+    .before .before .before .before .before .before .before .before in
     end-none _ _ _ (start .pre .0) _ (start .pre .1) _ _ _ _ (c .before .loop .inv .0) (c .loop-test .left)
 
 pub higher-end-spec : {M : Type 1} → statement M
@@ -95,5 +126,6 @@ higher-end-spec =
     tie.close (
     tie.spec Inv-loop μ-loop (λ c κs. search needs) returns (λ c. search needs) mark-ends-requires (λ c. search needs) (λ c κs. search needs) returns-2
     (λ c. search needs) (λ c. search needs) start-requires (λ c. search needs) (λ c. search needs) settle-requires loop-holds
-    (λ c. sym (c .before .before .loop .inv .1)) (λ c. sym (c .before .before .before .loop .inv .2)) lifts-requires returns-3 (λ c. sym (c .before .before .before .before .before .before .before .loop .inv .1))
+    (λ c. sym (c .before .before .loop .inv .1)) (λ c. sym (c .before .before .before .loop .inv .2)) lifts-requires returns-3 (λ c. sym
+    (c .before .before .before .before .before .before .before .loop .inv .1))
     (λ c. sym (c .before .before .before .before .lifts .ensures .next (c .before .before .if3 .left) .long)) settle-requires-2 loop-less loop-again returns-4)

@@ -32,4 +32,6 @@ returns c =
 pub later-spec : {M : Type 1} → statement M
 later-spec =
     tie.close (
-    tie.spec (λ c. search needs) (λ c κs. search needs) (λ c. search needs) (λ c. search needs) (λ c. omega (arith, c .before .before .before .before .before .before .before .pre .1, c .before .before .before .before .before .before .before .pre .2)) count-later-requires returns)
+    tie.spec (λ c. search needs) (λ c κs. search needs) (λ c. search needs) (λ c. search needs) (λ c. omega
+    (arith, c .before .before .before .before .before .before .before .pre .1, c .before .before .before .before .before .before .before .pre .2))
+    count-later-requires returns)

@@ -21,7 +21,15 @@ loop-holds : tie.Need-loop-holds Inv-loop μ-loop
 loop-holds c = (marking-none _ _ (c .before .before .before .before .before .before .pre .1), omega arith)
 
 may-lift-requires : tie.Need-may-lift-requires Inv-loop μ-loop
-may-lift-requires c κs = (omega (arith, c .before .before .before .before .before .before .before .before .before .pre .2, c .before .before .before .before .before .before .before .before .before .pre .3), omega (arith, c .before .loop-test .taken, c .before .before .before .before .before .before .before .before .before .pre .3))
+may-lift-requires c κs = (
+  omega (
+    arith,
+    c .before .before .before .before .before .before .before .before .before .pre .2,
+    c .before .before .before .before .before .before .before
+        .before .before .pre .3,
+  ),
+  omega (arith, c .before .loop-test .taken, c .before .before .before .before .before .before .before .before .before .pre .3),
+)
 
 loop-again : tie.Need-loop-again Inv-loop μ-loop
 loop-again c =
@@ -29,7 +37,8 @@ loop-again c =
     let start = c .before .before .before .before .before .before .before .before .before .before .before .before .before in
     let v = at-loop .loop .c in (
       marking-turn _ _ (start .pre .1) v _ _ (omega (arith, start .pre .0, c .before .before .before .before .before .loop-test .taken))
-          (c .before .before .put-bit .ensures ∙ ap (λ (t : Bool). put-bit t 0 v (at-loop .loop .untried)) (c .before .before .before .may-lift .ensures)) (at-loop .loop .inv .0),
+          (c .before .before .put-bit .ensures ∙ ap (λ (t : Bool). put-bit t 0 v (at-loop .loop .untried)) (c .before .before .before .may-lift .ensures))
+          (at-loop .loop .inv .0),
       omega (arith, c .before .before .before .before .before .loop-test .taken),
     )
 

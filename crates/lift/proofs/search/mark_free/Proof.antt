@@ -24,16 +24,27 @@ loop-again : tie.Need-loop-again Inv-loop μ-loop
 loop-again c =
     let at-loop = c .before .before .before .before .before .before in
     let v = at-loop .loop .v in
-    marking-turn _ _ (c .before .before .before .before .before .before .before .before .before .before .pre .1) v _ _ (omega (arith, c .before .before .before .before .before .before .before .before .before .before .pre .0, c .before .before .before .before .before .loop-test .taken))
-    (c .before .before .put-bit .ensures ∙ ap (λ (t : Bool). put-bit t 0 v (at-loop .loop .free)) (c .before .before .before .is-free .ensures)) (at-loop .loop .inv)
+    marking-turn _ _ (c .before .before .before .before .before .before .before .before .before .before .pre .1) v _ _ (omega (
+      arith,
+      c .before .before .before .before .before .before .before .before .before .before .pre .0,
+      c .before .before .before .before .before
+          .loop-test .taken,
+    ))
+    (c .before .before .put-bit .ensures ∙ ap (λ (t : Bool). put-bit t 0 v (at-loop .loop .free)) (c .before .before .before .is-free .ensures))
+    (at-loop .loop .inv)
 
 returns : tie.Need-returns Inv-loop μ-loop
 returns c =
     let inv = c .before .loop .inv in
-    record { long = inv .long ∙ c .before .before .before .before .before .pre .1; is = λ v l. inv .is v (omega (arith, c .loop-test .left)) (omega (arith, c .before .before .before .before .before .pre .0)) }
+    record {
+      long = inv .long ∙ c .before .before .before .before .before .pre .1;
+      is = λ v l. inv .is v (omega (arith, c .loop-test .left)) (omega
+          (arith, c .before .before .before .before .before .pre .0));
+    }
 
 pub mark-free-spec : {M : Type 1} → statement M
 mark-free-spec =
     tie.close (
-    tie.spec Inv-loop μ-loop loop-holds (λ c. search needs) (λ c κs. search needs) (λ c. search needs) (λ c κs. search needs) (λ c. search needs) (λ c. search needs) loop-again
+    tie.spec Inv-loop μ-loop loop-holds (λ c. search needs) (λ c κs. search needs) (λ c. search needs) (λ c κs. search needs) (λ c. search needs)
+    (λ c. search needs) loop-again
     (λ c. c .before .loop .inv .long) returns)

@@ -12,7 +12,8 @@ use Rattle.lift.proofs.search.mark_tight.Statement.{statement}
 use Rattle.lift.proofs.search.mark_tight.Tie as tie
 
 abbrev Inv-loop : tie.InvT-loop
-Inv-loop r links numbers places tight₀ level v₀ tight v = Marking (is-tight (getD numbers r 0) r links numbers places) tight₀ v tight × (level ≡ getD numbers r 0)
+Inv-loop r links numbers places tight₀ level v₀ tight v = Marking (is-tight (getD numbers r 0) r links numbers places) tight₀ v tight ×
+    (level ≡ getD numbers r 0)
 
 abbrev μ-loop : tie.MeasureT-loop
 μ-loop r links numbers places tight₀ level v₀ tight v = length numbers - v
@@ -21,7 +22,8 @@ loop-holds : tie.Need-loop-holds Inv-loop μ-loop
 loop-holds c = (marking-none _ _ (c .before .before .before .before .before .pre .3), refl)
 
 is-tight-requires : tie.Need-is-tight-requires Inv-loop μ-loop
-is-tight-requires c κs = let start = c .before .before .before .before .before .before .before .before in (start .pre .0, c .before .loop-test .taken, start .pre .1)
+is-tight-requires c κs = let start = c .before .before .before .before .before .before .before .before in
+    (start .pre .0, c .before .loop-test .taken, start .pre .1)
 
 loop-again : tie.Need-loop-again Inv-loop μ-loop
 loop-again c =
@@ -29,7 +31,8 @@ loop-again c =
     let start = c .before .before .before .before .before .before .before .before .before .before .before .before in
     let v = at-loop .loop .v in (
       marking-turn _ _ (start .pre .3) v _ _ (omega (arith, start .pre .2, c .before .before .before .before .before .loop-test .taken))
-          (c .before .before .put-bit .ensures ∙ ap (λ (t : Bool). put-bit t 0 v (at-loop .loop .tight)) (rw (← at-loop .loop .inv .1) (c .before .before .before .is-tight .ensures)))
+          (c .before .before .put-bit .ensures ∙ ap (λ (t : Bool). put-bit t 0 v (at-loop .loop .tight)) (rw (← at-loop .loop .inv .1)
+          (c .before .before .before .is-tight .ensures)))
           (at-loop .loop .inv .0),
       at-loop .loop .inv .1,
     )

@@ -9,4 +9,5 @@ pub is-ruled-out-spec : {M : Type 1} → statement M
 is-ruled-out-spec =
     tie.close (
     tie.spec (λ c. search needs) (λ c. search (needs, ruled-above)) (λ c. search needs) (λ c. search (needs, ruled-left))
-    (λ c. omega (arith, c .before .shared-slice-known2 .given (c .before .before .before .before .args .c))) (λ c. search needs) (λ c. search needs) (λ c. search (needs, ruled-taken)))
+    (λ c. omega (arith, c .before .shared-slice-known2 .given (c .before .before .before .before .args .c))) (λ c. search needs) (λ c. search needs)
+    (λ c. search (needs, ruled-taken)))

@@ -19,32 +19,56 @@ peel-around-requires c κs =
     let start = c .before .before .before .before .before .before .before .before .before .before .before .before .before .before in
     let set = start .pre .3 in (
       site-links _ _ _ (start .pre .0 .site),
-      pair-begin _ _ _ (start .pre .0 .site) (start .args .r) (start .pre .1) _ _ _ _ (start .pre .2) set _ (c .before .before .before .before .put-bit .ensures) _ (c .before .before .stop-of .ensures) _
-          (c .before .before .before .before .before .before .before .copy8 .ensures ∙ overwrite-take (start .args .base .now) (replicate max-radios 0) (set .base .long)),
+      pair-begin _ _ _ (start .pre .0 .site) (start .args .r) (start .pre .1) _ _ _ _ (start .pre .2) set _
+          (c .before .before .before .before .put-bit .ensures) _ (c .before .before .stop-of .ensures) _
+          (c .before .before .before .before .before .before .before .copy8 .ensures ∙ overwrite-take (start .args .base .now) (replicate max-radios 0)
+          (set .base .long)),
       settled-small _ _ _ (start .pre .0 .site) (start .args .r) (start .pre .1) _ _ _ _ (start .pre .2) set,
     )
 
 returns : tie.Need-returns
 returns c =
     let start = c .before .before .before .before .before .before .before .before .before .before .before .before .before .before .before .before .before in
-    tried-found _ _ _ (start .pre .0 .site) (start .args .r) (start .pre .1) _ _ _ _ (start .pre .2) (start .pre .3) _ (c .before .before .before .before .before .before .before .put-bit .ensures) _
+    tried-found _ _ _ (start .pre .0 .site) (start .args .r) (start .pre .1) _ _ _ _ (start .pre .2) (start .pre .3) _
+    (c .before .before .before .before .before .before .before .put-bit .ensures) _
     (c .before .before .before .before .before .stop-of .ensures) _ _ (c .before .before .peel-around .ensures) (c .if1 .taken)
 
 is-gone-requires : tie.Need-is-gone-requires
 is-gone-requires c κs =
-    let start = c .before .before .before .before .before .before .before .before .before .before .before .before .before .before .before .before .before .before in
-    let long = c .before .before .before .peel-around .ensures .long in
-    (omega (arith, long, start .pre .1, site-small _ _ _ (start .pre .0 .site)), omega (arith, long, settled-small _ _ _ (start .pre .0 .site) (start .args .r) (start .pre .1) _ _ _ _ (start .pre .2) (start .pre .3)))
+    let start = c .before .before .before .before .before .before .before .before .before .before .before .before .before .before .before .before .before
+    .before in
+    let long = c .before .before .before .peel-around .ensures .long in (
+      omega (arith, long, start .pre .1, site-small _ _ _ (start .pre .0 .site)),
+      omega (
+        arith,
+        long,
+        settled-small _ _ _ (start .pre .0 .site)
+            (start .args .r) (start .pre .1) _ _ _ _ (start .pre .2) (start .pre .3),
+      ),
+    )
 
 rule-out-requires : tie.Need-rule-out-requires
 rule-out-requires c κs =
-    let start = c .before .before .before .before .before .before .before .before .before .before .before .before .before .before .before .before .before .before .before .before .before in (site-small _ _ _ (start .pre .0 .site), c .before .before .before .before .before .before .peel-around .ensures .long, start .pre .3 .trying .long)
+    let start = c .before .before .before .before .before .before .before .before .before .before .before .before .before .before .before .before .before
+    .before .before .before .before in (
+      site-small _ _ _
+          (start .pre .0 .site),
+      c .before .before .before .before .before .before .peel-around .ensures .long,
+      start .pre .3 .trying .long,
+    )
 
 returns-2 : tie.Need-returns-2
 returns-2 c =
-    let start = c .before .before .before .before .before .before .before .before .before .before .before .before .before .before .before .before .before .before .before .before .before .before .before .before .before .before .before .before in
-    tried-not _ _ _ (start .pre .0 .site) (start .args .r) (start .pre .1) _ _ _ _ (start .pre .2) (start .pre .3) _ (c .before .before .before .before .before .before .before .before .before .before .before .before .before .before .before .before .before .before .put-bit .ensures) _
-    (c .before .before .before .before .before .before .before .before .before .before .before .before .before .before .before .before .stop-of .ensures) _ _ (c .before .before .before .before .before .before .before .before .before .before .before .before .before .peel-around .ensures) (c .before .before .before .before .before .before .before .before .before .before .before .if1 .left) _ (c .before .before .before .before .before .before .before .before .before .is-gone .ensures) _ _ (c .before .before .before .before .before .before .rule-out .ensures) (c .before .before .put-bit2 .ensures)
+    let start = c .before .before .before .before .before .before .before .before .before .before .before .before .before .before .before .before .before
+    .before .before .before .before .before .before .before .before .before .before .before in
+    tried-not _ _ _ (start .pre .0 .site) (start .args .r) (start .pre .1) _ _ _ _ (start .pre .2) (start .pre .3) _
+    (c .before .before .before .before .before .before .before .before .before .before .before .before .before .before .before .before .before .before
+    .put-bit .ensures) _
+    (c .before .before .before .before .before .before .before .before .before .before .before .before .before .before .before .before .stop-of .ensures)
+    _ _ (c .before .before .before .before .before .before .before .before .before .before .before .before .before .peel-around .ensures)
+    (c .before .before .before .before .before .before .before .before .before .before .before .if1 .left) _
+    (c .before .before .before .before .before .before .before .before .before .is-gone .ensures) _ _
+    (c .before .before .before .before .before .before .rule-out .ensures) (c .before .before .put-bit2 .ensures)
 
 pub lifts-spec : {M : Type 1} → statement M
 lifts-spec =

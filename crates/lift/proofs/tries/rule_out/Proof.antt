@@ -29,17 +29,20 @@ loop-again c =
     let test = c .before .is-ruled-out in
     let new : c .if1 .untried ≡ cond (test .result) (put-bit false 0 i (at-loop .loop .untried)) (at-loop .loop .untried) =
     ⊎-elim (λ w. w .5 ∙ w .2 .ensures ∙ sym (cond-true _ _ _ (w .0 .taken))) (λ w. w .1 ∙ sym (cond-false _ _ _ (w .0 .left))) (c .if1 .came) in (
-      ruling-turn _ _ _ _ _ (start .pre .2) i (test .result) _ _ (omega (arith, start .pre .0, c .before .before .loop-test .taken)) (test .ensures) new (at-loop .loop .inv .0),
+      ruling-turn _ _ _ _ _ (start .pre .2) i (test .result) _ _ (omega (arith, start .pre .0, c .before .before .loop-test .taken)) (test .ensures) new
+          (at-loop .loop .inv .0),
       omega (arith, c .before .before .loop-test .taken),
     )
 
 returns : tie.Need-returns Inv-loop μ-loop
 returns c =
     let at-loop = c .before in
-    ruling-end _ _ _ _ _ (c .before .before .before .before .before .pre .2) (at-loop .loop .c) _ (omega (arith, c .loop-test .left, at-loop .loop .inv .1)) (at-loop .loop .inv .0)
+    ruling-end _ _ _ _ _ (c .before .before .before .before .before .pre .2) (at-loop .loop .c) _ (omega
+    (arith, c .loop-test .left, at-loop .loop .inv .1)) (at-loop .loop .inv .0)
 
 pub rule-out-spec : {M : Type 1} → statement M
 rule-out-spec =
     tie.close (
-    tie.spec Inv-loop μ-loop loop-holds (λ c. search needs) (λ c κs. search needs) (λ c. search needs) (λ c κs. search needs) (λ c. search needs) (λ c. search needs)
+    tie.spec Inv-loop μ-loop loop-holds (λ c. search needs) (λ c κs. search needs) (λ c. search needs) (λ c κs. search needs) (λ c. search needs)
+    (λ c. search needs)
     loop-again (λ c. c .before .loop .inv .0 .long) returns)

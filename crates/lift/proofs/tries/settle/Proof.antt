@@ -28,21 +28,36 @@ returns c =
 
 rule-out-requires : tie.Need-rule-out-requires
 rule-out-requires c κs =
-    let start = c .before .before .before .before .before .before .before .before .before .before .before .before .before in (site-small _ _ _ (start .pre .0 .site), c .before .before .before .before .before .peel-around .ensures .long, start .pre .3 .long)
+    let start = c .before .before .before .before .before .before .before .before .before .before .before .before .before in (
+      site-small _ _ _
+          (start .pre .0 .site),
+      c .before .before .before .before .before .peel-around .ensures .long,
+      start .pre .3 .long,
+    )
 
 returns-2 : tie.Need-returns-2
 returns-2 c =
-    let start = c .before .before .before .before .before .before .before .before .before .before .before .before .before .before .before .before .before .before in
+    let start = c .before .before .before .before .before .before .before .before .before .before .before .before .before .before .before .before .before
+    .before in
     let end = c .before .before .before .before .before .before .before .before .before .before .peel-around .ensures in
     let ruled = c .before .before .before .before .rule-out .ensures in (
-      settled-some _ _ _ (start .pre .0 .site) (start .args .r) (start .pre .1) _ _ _ _ end (not-false _ (c .before .before .before .before .before .before .before .if1 .left)) (start .pre .3) _ ruled _
+      settled-some _ _ _ (start .pre .0 .site) (start .args .r) (start .pre .1) _ _ _ _ end (not-false _
+          (c .before .before .before .before .before .before .before .if1 .left)) (start .pre .3) _ ruled _
           (c .first-marked .ensures),
-      ((end .long, ruled .long ∙ start .pre .3 .long), ruled-fewer _ _ _ (start .pre .0 .site) (start .args .r) (start .pre .1) _ _ (end .peeling) _ (λ q. never _ q refl) _ _ (start .pre .3) ruled),
+      (
+        (end .long, ruled .long ∙ start .pre .3 .long),
+        ruled-fewer _ _ _ (start .pre .0 .site) (start .args .r) (start .pre .1) _ _ (end .peeling) _
+            (λ q. never _ q refl) _ _ (start .pre .3) ruled,
+      ),
     )
 
 pub settle-spec : {M : Type 1} → statement M
 settle-spec =
     tie.close (
-    tie.spec (λ c. search needs) peel-around-requires (λ c. c .before .before .before .peel-around .ensures .long ∙ sym (c .before .before .before .before .before .before .before .before .before .before .before .pre .4 .base .long)) (λ c. search needs) returns
-    rule-out-requires (λ c κs. search needs) (λ c. c .before .before .before .before .before .before .before .before .before .before .peel-around .ensures .long ∙ sym (c .before .before .before .before .before .before .before .before .before .before .before .before .before .before .before .before .before .before .pre .4 .base .long))
+    tie.spec (λ c. search needs) peel-around-requires (λ c. c .before .before .before .peel-around .ensures .long ∙ sym
+    (c .before .before .before .before .before .before .before .before .before .before .before .pre .4 .base .long)) (λ c. search needs) returns
+    rule-out-requires (λ c κs. search needs)
+    (λ c. c .before .before .before .before .before .before .before .before .before .before .peel-around .ensures .long ∙ sym
+    (c .before .before .before .before .before .before .before .before .before .before .before .before .before .before .before .before .before .before
+    .pre .4 .base .long))
     (λ c. c .before .before .before .before .rule-out .ensures .long) returns-2)

@@ -17,11 +17,13 @@ loop-holds : tie.Need-loop-holds Inv-loop μ-loop
 loop-holds c = starting-none _ _ _ _ (c .before .before .before .pre .1)
 
 slice-write-counters : tie.Need-slice-write-counters Inv-loop μ-loop
-slice-write-counters c = omega (arith, c .before .before .before .before .before .before .pre .1, c .before .before .loop .inv .long, c .before .loop-test .taken)
+slice-write-counters c = omega
+    (arith, c .before .before .before .before .before .before .pre .1, c .before .before .loop .inv .long, c .before .loop-test .taken)
 
 loop-again : tie.Need-loop-again Inv-loop μ-loop
 loop-again c =
-    starting-turn _ _ _ _ (c .before .before .before .before .before .before .pre .1) (c .before .before .loop .v) _ _ (c .before .loop-test .taken) (c .counter-of .ensures) (c .before .before .loop .inv)
+    starting-turn _ _ _ _ (c .before .before .before .before .before .before .pre .1) (c .before .before .loop .v) _ _ (c .before .loop-test .taken)
+    (c .counter-of .ensures) (c .before .before .loop .inv)
 
 returns : tie.Need-returns Inv-loop μ-loop
 returns c = starting-end _ _ _ _ (c .before .before .before .before .before .pre .1) (c .before .loop .v) _ (c .loop-test .left) (c .before .loop .inv)
