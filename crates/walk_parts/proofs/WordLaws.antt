@@ -368,17 +368,10 @@ module _ (ds : List ℕ) (long : length ds ≡ 8) where
       go (inl e) (inl t) =
           let m : In q (common ds ds) = rw (common-filter ds ds) (filter-in (λ v. in-set ds v && in-set ds v) (range 0 max-radios) q
           (in-range 0 max-radios q (omega arith) (omega (arith, ltb-true q max-radios t))) (and-both (in-set ds q) (in-set ds q) e e)) in
-<<<<<<< ours
-          absurd (omega (arith, head-or-lowest max-radios q (common ds ds) (rw (common-filter ds ds) (ascending-filter _ (range 0 max-radios) (ascending-range 0 max-radios))) m))
-
-  pub lowest-small : lowest ≤ max-radios
-  unfolding head-or
-  lowest-small = go (common ds ds) (λ v m. omega (arith, range-in 0 max-radios v (in-filter _ (range 0 max-radios) v (rw (common-filter ds ds) at m) .0)))
-=======
           absurd (omega (
             arith,
             head-or-lowest max-radios q (common ds ds)
-                (rw (common-filter ds ds long long) (ascending-filter _ (range 0 max-radios) (ascending-range 0 max-radios))) m,
+                (rw (common-filter ds ds) (ascending-filter _ (range 0 max-radios) (ascending-range 0 max-radios))) m,
           ))
 
   pub lowest-small : lowest ≤ max-radios
@@ -386,9 +379,8 @@ module _ (ds : List ℕ) (long : length ds ≡ 8) where
   lowest-small = go (common ds ds) (λ v m. omega (
     arith,
     range-in 0 max-radios v
-        (in-filter _ (range 0 max-radios) v (rw (common-filter ds ds long long) at m) .0),
+        (in-filter _ (range 0 max-radios) v (rw (common-filter ds ds) at m) .0),
   ))
->>>>>>> theirs
     where
       go : (xs : List ℕ) → ((v : ℕ) → In v xs → v < max-radios) → head-or max-radios xs ≤ max-radios
       go [] h = omega arith

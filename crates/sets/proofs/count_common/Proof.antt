@@ -28,16 +28,8 @@ loop-again c =
     common-counting-turn _ _ (at-loop .loop .n) k (c .before .before .loop-test .taken) (c .before .shared-slice-known .given k .fits)
     (c .shared-slice-known2 .given k .fits) (at-loop .loop .inv)
 
-<<<<<<< ours
 returns : tie.Need-returns Inv-loop μ-loop
 returns c = common-counting-end _ _ (c .before .loop .n) (c .before .loop .k) (c .loop-test .left) (c .before .loop .inv)
-=======
-returns-3 : tie.Need-returns-3 Inv-loop μ-loop
-returns-3 c =
-    let at-loop = c .before in
-    common-counting-end _ _ (at-loop .loop .n) (at-loop .loop .k) (c .loop-test .left) (at-loop .before .before .if1 .left) (at-loop .before .if2 .left)
-    (at-loop .loop .inv)
->>>>>>> theirs
 
 pub count-common-spec : {M : Type 1} → statement M
 count-common-spec =
