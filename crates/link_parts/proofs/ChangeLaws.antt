@@ -25,8 +25,10 @@ use Rattle.lists.proofs.Count.{count-le-length}
 use Rattle.lists.proofs.Filter.{length-filter}
 use Rattle.lists.proofs.Range.{length-range}
 use Rattle.lists.proofs.Overwrite.{overwrite-take}
-use Rattle.link_parts.specs.Changes.{changed-part, in-order, counted-step, plan-fits, Plan-put, Write-contract, Applied, Apply-contract}
+use Rattle.link_parts.specs.Planned.{changed-part}
+use Rattle.link_parts.specs.Changes.{in-order, counted-step, plan-fits, Plan-put, Write-contract, Applied, Apply-contract}
 use Rattle.lists.proofs.Parts.{take-min, drop-take}
+use Rattle.link_parts.proofs.Pasted.{put-part}
 
 -- ---- the changed radios of a plan
 
@@ -93,16 +95,6 @@ module _ (start size taken stretch order : ℕ) where
       )
 
 -- ---- the stretch
-
--- ys copied over the part of xs that ends before place e
-pub put-part : (xs ys new : List ℕ) (i e : ℕ) → i + length ys ≡ e → e ≤ length xs
-    → new ≡ overwrite (take (length (midOf i (e - i) xs)) ys) (midOf i (e - i) xs) → putMid i (e - i) xs new ≡ paste xs i ys (length ys)
-put-part xs ys new i e h l q =
-    let part = midOf i (e - i) xs in
-    let is : new ≡ take (length ys) ys =
-    q ∙ overwrite-take ys part (omega (arith, mid-len i e xs l)) ∙ sym (take-all (length ys) ys (omega arith)) in
-    ap (λ (z : List ℕ). take i xs ++ z) (ap₂ (λ (y z : List ℕ). y ++ z) is (post-is i e xs (omega arith) ∙ ap (λ (k : ℕ). drop k xs) (sym h)))
-    ∙ sym (append-assoc (take i xs) (take (length ys) ys) (drop (i + length ys) xs))
 
 -- two parts of a stretch, one behind the other
 module _ (xs ys : List ℕ) (i k m : ℕ) (fits : i + m ≤ length xs) (long : m ≤ length ys) (less : k ≤ m) where

@@ -1,5 +1,4 @@
 -- What applying a plan writes.
---   changed-part         the changed radios of a planned stretch: going up the ones after the taken, going down the taken
 --   all-marked xs ts     the row 0 of ts with the bit of each radio of xs set: a set of radios is kept as one row
 --   in-order xs          the radios of the list xs, ascending, each once
 --   counted-step up k    document 01's step, by the count of changed radios
@@ -25,9 +24,7 @@ use Rattle.lists.specs.Lists.{range, filter, member, overwrite}
 use Rattle.mesh.specs.Tables.{Tables, put-bit, put-link}
 use Rattle.calls.specs.declared.Reply.{Reply}
 use Rattle.tables.specs.Steps.{all-stepped}
-
-unfoldable pub changed-part : (up : Bool) → (taken size : ℕ) → (stretch : List ℕ) → List ℕ
-changed-part up k m xs = cond up (drop k (take m xs)) (take k xs)
+use Rattle.link_parts.specs.Planned.{changed-part}
 
 unfoldable pub all-marked : (radios : List ℕ) → (row : List ℕ) → List ℕ
 all-marked vs ts = folded (λ v now. put-bit true 0 v now) vs ts

@@ -1,2 +1,4 @@
 -- What applying a plan writes.
 pub mod Changes
+-- the changed radios of a plan
+pub mod Planned

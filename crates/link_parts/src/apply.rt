@@ -6,30 +6,14 @@ ghost use lib.ListN.{length, take, drop};
 ghost use lib.Seq.{paste};
 ghost use Rattle.lists.specs.Lists.{overwrite};
 ghost use Rattle.mesh.specs.Lent.{lent};
-ghost use Rattle.link_parts.specs.Changes.{changed-part, all-marked, in-order, counted-step, plan-fits};
+ghost use Rattle.link_parts.specs.Planned.{changed-part};
+ghost use Rattle.link_parts.specs.Changes.{all-marked, in-order, counted-step, plan-fits};
 ghost use Rattle.link_parts.specs.Changes.{Reported, Plan-put, Write-contract, Apply-contract};
+use super::planned::Plan;
 use calls::Reply;
 use mesh::Site;
 use tables::fill;
 use tables::steps;
-
-// What a plan comes back with: where the stretch stands, how long it is, and how many of its radios the peel took.
-pub struct Plan {
-    pub start: usize,
-    pub size: usize,
-    pub taken: usize,
-}
-
-// A plan that moves nothing.
-pub fn unmoved(start: usize) -> Plan
-    ensures { λ r. ⌜ (r .start ≡ start) × (r .size ≡ 0) × (r .taken ≡ 0) ⌝ }
-{
-    Plan {
-        start,
-        size: 0,
-        taken: 0,
-    }
-}
 
 // Whether the taken are no more than the stretch has, and the lent stretch and the order, of these lengths, have room for it.
 fn fits(plan: Plan, stretch: usize, order: usize) -> bool

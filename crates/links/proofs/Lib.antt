@@ -28,6 +28,7 @@ pub mod FallPlan
 pub mod Applied
 -- a call refused and accepted
 pub mod CallLaws
+pub mod LinkCalls
 -- the walk of a link going up: its loops, what its turns write, the turns
 pub mod WalkLoops
 pub mod WalkReleased

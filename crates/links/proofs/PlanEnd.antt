@@ -20,7 +20,7 @@ use Rattle.mesh.proofs.Links.LevelCut.{mids, highs}
 use Rattle.mesh.specs.Peel.{bound, Takes, none, Peels}
 use Rattle.mesh.proofs.Links.Peel.{Peeling, takes-permutation, takes-taken-in, takes-now-in}
 use Rattle.links.specs.Plans.{Ready, Planned}
-use Rattle.link_parts.specs.Changes.{changed-part}
+use Rattle.link_parts.specs.Planned.{changed-part}
 use Rattle.walk_parts.specs.Places.{level-start, level-size}
 use Rattle.links.specs.Peels.{stretch, above, Peel-done}
 use Rattle.links.proofs.StretchLoops.{length-stretch}

@@ -22,7 +22,7 @@ use Rattle.lists.proofs.Member.{in-getD}
 use Rattle.lists.proofs.Parts.{length-cond}
 use Rattle.lists.proofs.Loops.{Counted-from, counted-turn, counted-end, length-folded}
 use Rattle.mesh.proofs.Tables.Laws.{length-put-bit}
-use Rattle.link_parts.proofs.ChangeLaws.{put-part}
+use Rattle.link_parts.proofs.Pasted.{put-part}
 use Rattle.links.specs.Walks.{is-later, place-touched, places-touched, Known}
 use Rattle.links.proofs.TurnLaws.{marked-put}
 

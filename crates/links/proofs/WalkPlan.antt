@@ -31,7 +31,7 @@ use Rattle.mesh.proofs.Links.LevelCut.{mids, highs}
 use Rattle.mesh.proofs.Links.Peel.{takes-permutation}
 use Rattle.walks.specs.Walk.{Few-front}
 use Rattle.walks.proofs.Beginning as beginning
-use Rattle.link_parts.specs.Changes.{changed-part}
+use Rattle.link_parts.specs.Planned.{changed-part}
 use Rattle.links.specs.Plans.{Ready, Planned}
 use Rattle.walk_parts.specs.Places.{level-start, level-size, beginning-end}
 use Rattle.links.specs.Peels.{linked-after, Level}

@@ -18,7 +18,7 @@ use Rattle.mesh.specs.Levels.{changed, lower-level, stretch-start, stretch-leng
 use Rattle.mesh.specs.Tables.{Tables, graph-in}
 use Rattle.mesh.specs.Sound.{sound}
 use Rattle.mesh.specs.Valid.{Valid}
-use Rattle.link_parts.specs.Changes.{changed-part}
+use Rattle.link_parts.specs.Planned.{changed-part}
 
 -- places and highs have where each radio of the lower end's level stands, and how many neighbours it has that are not below it; of
 -- other radios they hold anything. The soundness check finds them for all radios.

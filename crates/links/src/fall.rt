@@ -7,7 +7,7 @@ ghost use Rattle.mesh.specs.Tables.{tables, graph-in};
 ghost use Rattle.links.specs.Plans.{Ready, Planned};
 use super::peel;
 use super::turn;
-use link_parts::apply::Plan;
+use link_parts::planned::Plan;
 use mesh::Site;
 use walk_parts::ends;
 use walk_parts::stretch;

@@ -12,7 +12,7 @@ ghost use Rattle.links.specs.Peels.{Peel-ready, Peel-done};
 ghost use Rattle.links.specs.Plans.{Ready, Planned};
 use super::turn;
 use super::turn::Call;
-use link_parts::apply::Plan;
+use link_parts::planned::Plan;
 use mesh::Site;
 use walk_parts::ends;
 use walk_parts::stretch;

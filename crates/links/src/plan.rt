@@ -15,7 +15,7 @@ ghost use Rattle.links.specs.Plans.{Ready, Planned};
 ghost use Rattle.links.specs.Asked.{Plan-contract};
 use super::questions;
 use super::turn::Call;
-use link_parts::apply::Plan;
+use link_parts::planned::Plan;
 use mesh::Site;
 use tables::fill;
 use walk_parts::ends;

@@ -15,8 +15,8 @@ use super::walk;
 use super::walk::Part;
 use super::walk::Rise;
 use super::words;
-use link_parts::apply;
-use link_parts::apply::Plan;
+use link_parts::planned;
+use link_parts::planned::Plan;
 use mesh::Site;
 use walk_parts::ends;
 use walk_parts::stretch;
@@ -47,7 +47,7 @@ fn plan_on(
 {
     let tail = &order[first..];
     if walk::settled(rise, first, links, numbers, tail, places) {
-        return apply::unmoved(first);
+        return planned::unmoved(first);
     }
     let at = stretch::stretch_of(numbers, rise.most);
     if at.size <= SMALL {

@@ -17,7 +17,7 @@ ghost use Rattle.links.specs.Walks.{is-left, place-touched, places-touch
 ghost use Rattle.links.specs.Walks.{Walk-site, Walk-state, Walk-done};
 use super::turn;
 use super::turn::Call;
-use link_parts::apply::Plan;
+use link_parts::planned::Plan;
 use mesh::Site;
 use tables::fill;
 use walk_parts::places;

@@ -16,7 +16,7 @@ ghost use Rattle.links.specs.Words.{work, Words-state};
 use super::walk::Part;
 use super::walk::Reached;
 use super::walk::Rise;
-use link_parts::apply::Plan;
+use link_parts::planned::Plan;
 use mesh::Site;
 use walk_parts::places;
 use walk_parts::places::STOP;

@@ -27,12 +27,13 @@ use Rattle.calls.proofs.QuestionLaws.{ask-yes, ask-no}
 use Rattle.calls.proofs.ContractLaws.{by-accepted, by-refused}
 use Rattle.calls.proofs.Proposals.{commit-numbered, proposal-iff, same-step-eq, same-step-refl}
 use Rattle.tables.specs.Steps.{all-stepped}
-use Rattle.link_parts.specs.Changes.{changed-part, in-order, counted-step, Reported, Plan-put, Write-contract, Applied}
+use Rattle.link_parts.specs.Planned.{changed-part}
+use Rattle.link_parts.specs.Changes.{in-order, counted-step, Reported, Plan-put, Write-contract, Applied}
 use Rattle.link_parts.proofs.ChangeLaws.{counted-step-length, counted-step-held, length-in-order}
 use Rattle.links.specs.Asked.{Plan-contract}
 use Rattle.links.proofs.Asking.{asked-applicable}
 use Rattle.links.proofs.Applied.{in-order-planned, fits-answer}
-use Rattle.links.proofs.CallLaws.{number-decided, fits-decided, link-applied}
+use Rattle.links.proofs.LinkCalls.{number-decided, fits-decided, link-applied}
 use Rattle.proposals.specs.Proposed.{plan-proposes}
 
 -- ---- a plan in a stretch for as many radios as a site may have; w is the answer table

@@ -8,7 +8,8 @@ use lib.IntN.{ℤ}
 use lib.ListN.{length}
 use Rattle.lists.specs.Lists.{same}
 use Rattle.calls.specs.Questions.{same-step}
-use Rattle.link_parts.specs.Changes.{changed-part, in-order, counted-step}
+use Rattle.link_parts.specs.Planned.{changed-part}
+use Rattle.link_parts.specs.Changes.{in-order, counted-step}
 
 unfoldable pub plan-proposes : (up : Bool) → (size taken : ℕ) → (stretch : List ℕ) → (step : ℤ) → (list : List ℕ) → Bool
 plan-proposes up size taken stretch z xs =

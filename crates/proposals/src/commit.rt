@@ -7,7 +7,7 @@ ghost use Rattle.proposals.specs.Proposed.{plan-proposes};
 use calls::Refusal;
 use calls::Reply;
 use link_parts::apply;
-use link_parts::apply::Plan;
+use link_parts::planned::Plan;
 use links::plan;
 use mesh::Site;
 use tables::fill;

@@ -1,7 +1,7 @@
 -- `apply::put_before` meets its contract: the part of the order that is lent is as long as what is copied over it.
 use native.Mathlib.Omega.{arith}
 use borrow.Author.Needs.{needs}
-use Rattle.link_parts.proofs.ChangeLaws.{put-part}
+use Rattle.link_parts.proofs.Pasted.{put-part}
 use Rattle.link_parts.proofs.apply.put_before.Statement.{statement}
 use Rattle.link_parts.proofs.apply.put_before.Tie as tie
 

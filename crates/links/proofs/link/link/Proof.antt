@@ -3,7 +3,7 @@ use mathlib.Core.Path.{refl, sym}
 use native.Mathlib.Omega.{arith}
 use borrow.Author.Needs.{needs}
 use Rattle.mesh.specs.Tables.{tables}
-use Rattle.links.proofs.CallLaws.{link-refused, link-accepted}
+use Rattle.links.proofs.LinkCalls.{link-refused, link-accepted}
 use Rattle.links.proofs.link.link.Statement.{statement}
 use Rattle.links.proofs.link.link.Tie as tie
 
