@@ -1,2 +1,2 @@
-// The block reader: an image and the number of its next block. No public function has a `requires`.
+// The block reader: an image and the number of its next block.
 pub mod blocks;

@@ -22,9 +22,9 @@ use Rattle.lists.proofs.Tests.{bool-cases, iff-eq}
 use Rattle.lists.proofs.Member.{member-in}
 use Rattle.mesh.proofs.Trees.Reach.{reachable-below, core-of-iff}
 use Rattle.rows.specs.Rows.{row-listed}
-use Rattle.sets.specs.Sets.{in-set}
+use Rattle.rows.specs.Sets.{in-set}
 use Rattle.rows.proofs.RowListLaws.{in-neighbours-of, member-neighbours-of}
-use Rattle.sets.proofs.SetLaws.{in-set-past}
+use Rattle.rows.proofs.SetLaws.{in-set-past}
 use Rattle.floods.specs.Floods.{of-level, Level-set, Spread, Flood-done}
 use Rattle.soundness.proofs.SoundSite.{Sound-site, linked-marked, row-listed-neighbours, number-entry}
 

@@ -19,8 +19,8 @@ use Rattle.lists.proofs.Range.{in-range, length-range, distinct-range}
 use Rattle.lists.proofs.Filter.{in-filter, filter-in, distinct-filter}
 use Rattle.lists.proofs.Distinct.{distinct-one, length-sub}
 use Rattle.rows.specs.Rows.{row-listed}
-use Rattle.sets.specs.Sets.{in-set, take-out, common}
-use Rattle.sets.proofs.SetLaws.{in-set-radio, length-take-out, in-take-out}
+use Rattle.rows.specs.Sets.{in-set, take-out, common}
+use Rattle.rows.proofs.SetLaws.{in-set-radio, length-take-out, in-take-out}
 use Rattle.floods.specs.Floods.{Spread, start, onward, Flood, flood-at, came-in, Marked-by, Layer-taken, Floodable, Flood-done}
 
 distinct-both : (xs ys : List ℕ) → Distinct xs → Distinct ys → ((w : ℕ) → In w xs → In w ys → ⊥) → Distinct (xs ++ ys)

@@ -13,9 +13,9 @@ use Rattle.lists.specs.Lists.{member}
 use Rattle.lists.proofs.Overwrite.{sets-front}
 use Rattle.lists.proofs.Tests.{bool-cases, never, or-cases, or-left, or-right}
 use Rattle.rows.specs.Rows.{row-listed}
-use Rattle.sets.specs.Sets.{in-set, Row-joined, common, Common-taken}
+use Rattle.rows.specs.Sets.{in-set, Row-joined, common, Common-taken}
 use Rattle.rows.proofs.Listing.{put-rest}
-use Rattle.sets.proofs.SetLaws.{in-set-zeros}
+use Rattle.rows.proofs.SetLaws.{in-set-zeros}
 use Rattle.floods.specs.Floods.{flood-at, Marked-by, Rows-joined, Layer-taken}
 
 -- ---- rows joined, one by one

@@ -16,7 +16,7 @@ use Rattle.mesh.specs.Limits.{max-radios}
 use Rattle.mesh.specs.Tables.{digit, put-digit}
 use Rattle.lists.proofs.Tests.{bool-cases, iff-eq}
 use Rattle.mesh.proofs.Tables.Digits.{digit-nothing, digit-put-digit}
-use Rattle.sets.specs.Sets.{in-set}
+use Rattle.rows.specs.Sets.{in-set}
 use Rattle.rows.proofs.MaskLaws.{put-digit-true}
 use Rattle.floods.specs.Floods.{of-level, Level-word, Level-set}
 

@@ -21,7 +21,7 @@ use Rattle.mesh.specs.Limits.{max-radios}
 use Rattle.lists.specs.Lists.{count, member}
 use Rattle.mesh.specs.Tables.{digit}
 use Rattle.rows.specs.Rows.{row-listed}
-use Rattle.sets.specs.Sets.{in-set, common}
+use Rattle.rows.specs.Sets.{in-set, common}
 
 -- ---- the radios of a level
 

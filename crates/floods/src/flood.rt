@@ -6,6 +6,7 @@ ghost use lib.ListN.{length};
 ghost use Rattle.mesh.specs.Limits.{max-radios};
 ghost use Rattle.floods.specs.Floods.{flood-at, Rows-joined, Layer-taken, Floodable, Flood-done};
 use mesh::Site;
+use rows::sets;
 
 // Puts the neighbours of the radios that stand in the list from place `from` on and before place `to` into the set.
 fn join_rows<'a>(links: &'a [u8], list: &'a [u16], from: usize, to: usize, set: &mut [u64])

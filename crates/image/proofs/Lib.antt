@@ -5,3 +5,5 @@ pub mod LayoutLaws
 pub mod CheckLaws
 -- the check by columns
 pub mod ColumnLaws
+-- Laws of the form of an image.
+pub mod FormLaws

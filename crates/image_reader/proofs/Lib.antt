@@ -7,3 +7,18 @@ pub mod SiteLaws
 pub mod SourceLaws
 -- the reader's outcomes
 pub mod ReadLaws
+-- Laws of the links and of the order that an image lists.
+-- the links, whether they are listed well; entries of the order
+pub mod ListedLaws
+-- blocks of links
+pub mod BlockLaws
+-- counts over the links
+pub mod TallyLaws
+-- the two halves of a block side by side
+pub mod HalvesLaws
+-- running maxima along an order
+pub mod MaximaLaws
+-- what the counts decide
+pub mod KOrderLaws
+-- the parts together
+pub mod SoundLaws

@@ -28,10 +28,10 @@ use Rattle.tables.specs.Widths.{values}
 use Rattle.tables.proofs.WidthLaws.{length-values, values-below}
 use Rattle.lists.proofs.Overwrite.{overwrite-take}
 use Rattle.image.specs.Header.{Header-of}
-use Rattle.image_form.specs.Form.{blocks-formed, is-formed}
-use Rattle.image_form.proofs.FormLaws.{is-image-formed}
-use Rattle.image_site.specs.Site.{links-up-to, few-ends, Tally-room, Site-room, Site-decided}
-use Rattle.image_site.proofs.KOrderLaws.{few-degrees}
+use Rattle.image.specs.Form.{blocks-formed, is-formed}
+use Rattle.image.proofs.FormLaws.{is-image-formed}
+use Rattle.image_reader.specs.Site.{links-up-to, few-ends, Tally-room, Site-room, Site-decided}
+use Rattle.image_reader.proofs.KOrderLaws.{few-degrees}
 use Rattle.image_reader.specs.Reading.{Image-decided}
 
 -- ---- question 11, part by part

@@ -16,8 +16,8 @@ use Rattle.mesh.proofs.Tables.AscendingLinks.{link-eq}
 use Rattle.mesh.proofs.Tables.Laws.{table-eq, length-put-link, bytes-put-link, marked-put-link, length-links-table, bytes-links-table, marked-links-table}
 use Rattle.mesh.proofs.Tables.Laws.{links-table-cleared}
 use Rattle.rows.proofs.MaskLaws.{put-bit-true}
-use Rattle.image_site.specs.Site.{Link-at, links-up-to}
-use Rattle.image_site.proofs.TallyLaws.{links-one-more, proper-pair}
+use Rattle.image_reader.specs.Site.{Link-at, links-up-to}
+use Rattle.image_reader.proofs.TallyLaws.{links-one-more, proper-pair}
 
 -- ---- one link more, at the end of the list
 

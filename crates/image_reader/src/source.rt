@@ -2,12 +2,12 @@
 ghost use mathlib.Core.Path.{_≡_};
 ghost use lib.ListN.{length};
 ghost use Rattle.image_reader.specs.Reading.{Opened-as, Image-room, Image-decided, Source-room, Source-decided};
+use super::site;
 use calls::Refusal;
 use image::checks;
+use image::form;
 use image::header;
 use image::header::Header;
-use image_form::form;
-use image_site::site;
 use mesh::Site;
 
 // What an image says after questions 9 and 10: where the number is 0, the header.

@@ -8,10 +8,10 @@ ghost use Rattle.mesh.specs.Limits.{max-radios, row-bytes};
 ghost use Rattle.mesh.specs.Graph.{graph};
 ghost use Rattle.mesh.specs.Tables.{put-bit, put-link, links-table};
 ghost use Rattle.mesh.specs.Image.{block-links};
-ghost use Rattle.image_site.specs.Site.{links-up-to, passed, Tally-room};
+ghost use Rattle.image_reader.specs.Site.{links-up-to, passed, Tally-room};
+use super::blocks;
 use image::bytes;
 use image::layout;
-use image_site::blocks;
 use mesh::Site;
 
 // Sets bit b of row a of a table that has the row.

@@ -20,7 +20,7 @@ use Rattle.lists.proofs.Parts.{length-flatMap}
 use Rattle.lists.proofs.Map.{flatMap-append}
 use Rattle.lists.proofs.Range.{range-append}
 use Rattle.mesh.proofs.Images.Blocks.{length-link-bytes}
-use Rattle.link_list.specs.Links.{links-from}
+use Rattle.rows.specs.Links.{links-from}
 use Rattle.image_writer.specs.Filler.{sealed}
 use Rattle.image_writer.specs.Blocks.{Links-put, links-left, Next-link, Links-filled, links-block, All-links-filled, front-block}
 use Rattle.image_writer.proofs.LinksPut.{left-some}

@@ -13,8 +13,8 @@ use Rattle.mesh.specs.Graph.{Link, link-of}
 use Rattle.rows.specs.Rows.{row-from, set-bits, row-word, word-of}
 use Rattle.rows.proofs.RowWords.{row-from-word, row-from-end, word-of-whole, row-word-part}
 use Rattle.rows.proofs.WordLaws.{set-bits-lowest, set-bits-nothing}
-use Rattle.link_list.specs.Links.{links-to, links-above, links-from}
-use Rattle.link_list.proofs.LinksFrom.{links-from-row, links-from-end}
+use Rattle.rows.specs.Links.{links-to, links-above, links-from}
+use Rattle.rows.proofs.LinksFrom.{links-from-row, links-from-end}
 use Rattle.rows.proofs.AboveWords.{above-words}
 use Rattle.lists.proofs.Map.{map-append, flatMap-append}
 use Rattle.mesh.specs.Limits.{max-radios, row-bytes}

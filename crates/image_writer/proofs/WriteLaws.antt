@@ -23,8 +23,8 @@ use Rattle.calls.proofs.ContractLaws.{listing-refused, listing-answered}
 use Rattle.calls.proofs.QuestionLaws.{ask-no}
 use Rattle.calls.proofs.ChainLaws.{Site-good, site-zero, site-yes, write-yes, site-stops}
 use Rattle.soundness.proofs.SoundSite.{Sound-site, sound-site}
-use Rattle.link_list.specs.Links.{links-from, Rows-listed}
-use Rattle.link_list.proofs.GraphLinks.{rows-listed-few, links-graph-in}
+use Rattle.rows.specs.Links.{links-from, Rows-listed}
+use Rattle.rows.proofs.GraphLinks.{rows-listed-few, links-graph-in}
 use Rattle.image_writer.specs.Blocks.{marked-graph, Links-fit, All-links-filled, front-block}
 use Rattle.image_writer.proofs.BlockFilling.{image-filled}
 

@@ -22,7 +22,7 @@ use Rattle.mesh.specs.Limits.{max-radios, row-bytes}
 use Rattle.mesh.specs.Graph.{Link, Graph, graph}
 use Rattle.mesh.specs.Image.{block-bytes, block-links, word, link-bytes, block, blocks-for, order-payload, links-payload}
 use Rattle.rows.specs.Rows.{row-from, set-bits}
-use Rattle.link_list.specs.Links.{links-to, links-from}
+use Rattle.rows.specs.Links.{links-to, links-from}
 
 abbrev pub marked-graph : (n : ℕ) → (links : List ℕ) → Graph
 marked-graph n ts = graph n (links-from n ts 0 0)

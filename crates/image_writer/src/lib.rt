@@ -1,2 +1,2 @@
-// Writes the image of sound tables. No public function has a `requires`.
+// Writes the image of sound tables.
 pub mod writer;

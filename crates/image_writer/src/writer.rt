@@ -13,7 +13,7 @@ ghost use Rattle.mesh.specs.Limits.{max-radios, max-neighbours, row-bytes};
 ghost use Rattle.mesh.specs.Lent.{lent};
 ghost use Rattle.calls.specs.Contracts.{Write-contract};
 ghost use Rattle.rows.specs.Rows.{row-from, row-word, set-bits};
-ghost use Rattle.link_list.specs.Links.{links-to, links-above, links-from, Rows-listed};
+ghost use Rattle.rows.specs.Links.{links-to, links-above, links-from, Rows-listed};
 ghost use Rattle.image_writer.specs.Filler.{opened, sealed};
 ghost use Rattle.image_writer.specs.Blocks.{Place, Links-put, Stopped, Row-stopped, Row-there, Rows-there, row-left, links-left, Going, Next-link};
 ghost use Rattle.image_writer.specs.Blocks.{Links-filled, Links-fit, All-links-filled, front-block};
@@ -22,6 +22,7 @@ use calls::Value;
 use image::checks;
 use image::layout;
 use mesh::Site;
+use rows::link_list;
 
 // The figures that count places.
 const ENTRIES: usize = layout::ENTRIES as usize;

@@ -7,3 +7,5 @@ mod TrySteps
 mod OrderLaws
 mod SearchLaws
 mod SearchSteps
+-- Laws of the tests, case by case.
+pub mod CounterLaws

@@ -28,8 +28,8 @@ use Rattle.mesh.proofs.Cores.Certificate.{Certificate}
 use Rattle.mesh.proofs.Cores.KOrders.{k-order-certificate}
 use Rattle.rows.specs.Rows.{neighbours-of}
 use Rattle.rows.proofs.RowListLaws.{neighbours-of-linked}
-use Rattle.row_conditions.specs.Conditions.{Placed, later-count}
-use Rattle.row_conditions.proofs.RowByRow.{place-of, count-later, few-later-at}
+use Rattle.conditions.specs.Conditions.{Placed, later-count}
+use Rattle.conditions.proofs.RowByRow.{place-of, count-later, few-later-at}
 use Rattle.soundness.proofs.SoundSite.{number-entry}
 use Rattle.lifting.specs.Tight.{later, Ordered, tight, first-end}
 use Rattle.lift.specs.Peels.{graph-of, Sound-links}

@@ -26,9 +26,9 @@ use Rattle.soundness.proofs.ExamineLaws.{examinable-room, fits-sound-lent, site
 use Rattle.soundness.proofs.RadioLaws.{radio-no, radio-four, radio-none}
 use Rattle.soundness.proofs.HighCounts.{examined-high}
 use Rattle.soundness.proofs.SoundSite.{fits-sound-site}
-use Rattle.row_conditions.specs.Conditions.{Placed}
+use Rattle.conditions.specs.Conditions.{Placed}
 use Rattle.lifting.specs.Tight.{first-end}
-use Rattle.lift_parts.specs.Counters.{room-left}
+use Rattle.lift.specs.Counters.{room-left}
 use Rattle.lift.specs.Peels.{graph-of}
 use Rattle.lift.specs.Tries.{Search-site}
 use Rattle.lift.specs.Search.{is-free, Search-places, place-in, may-lift, Checked}

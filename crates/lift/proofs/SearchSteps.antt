@@ -29,7 +29,7 @@ use Rattle.lifting.specs.Tight.{later, tight, first-end}
 use Rattle.lifting.proofs.Pairs.{candidate-refutes, candidate-allowed}
 use Rattle.lifting.proofs.Tight.{tight-refutes}
 use Rattle.lifting.proofs.Search.{none-next, first-found, none-found}
-use Rattle.lift_parts.specs.Counters.{room-left}
+use Rattle.lift.specs.Counters.{room-left}
 use Rattle.lift.specs.Peels.{graph-of}
 use Rattle.lift.specs.Tries.{Search-site, Trying, Settling, Settled, Tried}
 use Rattle.lift.specs.Search.{is-free, Free, Search-places, place-in, Tight, may-lift, Marked, Higher-end, Pair-found}

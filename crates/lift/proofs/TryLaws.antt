@@ -17,7 +17,7 @@ use Rattle.lists.proofs.Tests.{bool-cases, iff-eq}
 use Rattle.mesh.specs.Limits.{max-radios, row-bytes}
 use Rattle.mesh.specs.Tables.{marked, put-bit, byte-at}
 use Rattle.mesh.proofs.Tables.Laws.{marked-replicate, marked-put-bit, length-put-bit}
-use Rattle.lift_parts.proofs.CounterLaws.{rules-above, rules-left, rules-taken}
+use Rattle.lift.proofs.CounterLaws.{rules-above, rules-left, rules-taken}
 use Rattle.lift.specs.Tries.{counter-start, Started, ruled-out, Ruled-out}
 use Rattle.lists.proofs.Parts.{getD-any}
 

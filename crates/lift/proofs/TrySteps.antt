@@ -38,7 +38,7 @@ use Rattle.lifting.proofs.Pairs.{candidate-allowed, radio-refutes, few-refutes,
 use Rattle.lifting.proofs.Search.{untried-next}
 use Rattle.rows.specs.Rows.{row-listed}
 use Rattle.lift.specs.Peels.{graph-of, Sound-links, gone-of, Peel-begin, Peel-end}
-use Rattle.lift_parts.specs.Counters.{rules-out}
+use Rattle.lift.specs.Counters.{rules-out}
 use Rattle.lift.specs.Tries.{Search-site, Started, ruled-out, Ruled-out, Trying, Settling, Settled-at, Settled, Tried}
 use Rattle.lift.proofs.PeelSteps.{links-site, links-valid, first-due, none-before, inside-left}
 use Rattle.lift.proofs.TryLaws.{start-past, start-other, start-own, held-at}

@@ -2,3 +2,5 @@
 pub mod Peels
 pub mod Tries
 pub mod Search
+-- The tests of the search for a link that lifts a radio.
+pub mod Counters

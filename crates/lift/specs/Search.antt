@@ -23,10 +23,10 @@ use Rattle.mesh.specs.Sound.{sound}
 use Rattle.calls.specs.Questions.{lengths-of, site-refusal}
 use Rattle.calls.specs.Lift.{lifts, lifting, first-pair, is-lifted}
 use Rattle.rows.specs.Rows.{neighbours-of, row-count}
-use Rattle.row_conditions.specs.Conditions.{Placed, later-count}
+use Rattle.conditions.specs.Conditions.{Placed, later-count}
 use Rattle.soundness.specs.Checks.{fits-sound}
 use Rattle.lifting.specs.Tight.{first-end}
-use Rattle.lift_parts.specs.Counters.{room-left}
+use Rattle.lift.specs.Counters.{room-left}
 use Rattle.lift.specs.Peels.{graph-of}
 use Rattle.lift.specs.Tries.{Search-site}
 

@@ -27,7 +27,7 @@ use Rattle.soundness.specs.Checks.{fits-sound}
 use Rattle.lifting.specs.Peeling.{stays}
 use Rattle.lifting.specs.Search.{candidate, Untried}
 use Rattle.rows.specs.Rows.{row-listed}
-use Rattle.lift_parts.specs.Counters.{rules-out}
+use Rattle.lift.specs.Counters.{rules-out}
 use Rattle.lift.specs.Peels.{graph-of, Kept, Base}
 
 -- the order is the one of the tables

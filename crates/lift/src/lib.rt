@@ -1,7 +1,7 @@
 // One link that lifts a radio: the first pair, by lower radio and then higher, whose link is down, would be taken up now, and would raise
 // the radio's core number. Only pairs can whose lower number is the radio's own, K, and whose first end in the order has exactly K later
 // neighbours and stands no later than the radio. A peel of level K that shows that a pair does not lift the radio rules others out too.
-// Refused: 1 to 4, and 20 where there is no such pair. Tables are only read. No public function has a `requires`.
+// Refused: 1 to 4, and 20 where there is no such pair. Tables are only read.
 ghost use mathlib.Core.Path.{_≡_};
 ghost use lib.ListN.{length};
 ghost use Rattle.mesh.specs.Limits.{max-radios};

@@ -7,7 +7,7 @@ ghost use Rattle.lists.specs.Lists.{Entries-below};
 ghost use Rattle.mesh.specs.Limits.{max-radios, max-neighbours, row-bytes};
 ghost use Rattle.mesh.specs.Tables.{marked};
 ghost use Rattle.rows.specs.Rows.{neighbours-of};
-ghost use Rattle.row_conditions.specs.Conditions.{later-count};
+ghost use Rattle.conditions.specs.Conditions.{later-count};
 ghost use Rattle.lifting.specs.Tight.{first-end};
 ghost use Rattle.lift.specs.Peels.{Sound-links};
 ghost use Rattle.lift.specs.Tries.{Search-site};

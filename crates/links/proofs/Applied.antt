@@ -34,10 +34,10 @@ use Rattle.calls.specs.Outcomes.{reply, linked-with}
 use Rattle.calls.specs.declared.Reply.{Reply}
 use Rattle.tables.specs.Steps.{stepped, all-stepped}
 use Rattle.tables.proofs.StepLaws.{length-all-stepped, getD-all-stepped-other, getD-all-stepped-listed}
-use Rattle.links.specs.Plans.{Planned, Applicable}
-use Rattle.link_parts.specs.Planned.{changed-part}
-use Rattle.link_parts.specs.Changes.{in-order, counted-step, plan-fits, Applied}
-use Rattle.link_parts.proofs.ChangeLaws.{counted-step-length}
+use Rattle.plan.specs.Plans.{Planned, Applicable}
+use Rattle.plan.specs.Planned.{changed-part}
+use Rattle.links.specs.Changes.{in-order, counted-step, plan-fits, Applied}
+use Rattle.links.proofs.ChangeLaws.{counted-step-length}
 
 -- ---- a bound on numbers
 

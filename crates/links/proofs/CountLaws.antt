@@ -27,9 +27,9 @@ use Rattle.rows.specs.Rows.{neighbours-of, row-listed, row-count, set-bits}
 use Rattle.rows.proofs.RowListLaws.{row-listed-fits}
 use Rattle.rows.proofs.RowWords.{row-listed-whole, words-from, words-end}
 use Rattle.rows.proofs.WordLaws.{set-bits-nothing, set-bits-lowest}
-use Rattle.row_conditions.specs.Conditions.{high-count}
-use Rattle.sets.specs.Sets.{in-set, put-in, Row-joined}
-use Rattle.sets.proofs.SetLaws.{in-set-zeros, in-put-in, length-put-in}
+use Rattle.conditions.specs.Conditions.{high-count}
+use Rattle.rows.specs.Sets.{in-set, put-in, Row-joined}
+use Rattle.rows.proofs.SetLaws.{in-set-zeros, in-put-in, length-put-in}
 use Rattle.links.specs.Steps.{around, all-around, Joined, set-radios, touched, recounted, Rows-known}
 
 -- ---- a counted list

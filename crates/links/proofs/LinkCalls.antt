@@ -18,9 +18,9 @@ use Rattle.calls.specs.Contracts.{Link-contract}
 use Rattle.calls.specs.declared.Reply.{Reply}
 use Rattle.calls.proofs.ContractLaws.{by-accepted, by-refused}
 use Rattle.calls.proofs.ChainLaws.{site-zero}
-use Rattle.link_parts.specs.Changes.{plan-fits, Applied, Apply-contract}
-use Rattle.links.specs.Asked.{Plan-contract}
-use Rattle.links.proofs.Asking.{link-room, asked-applicable}
+use Rattle.links.specs.Changes.{plan-fits, Applied, Apply-contract}
+use Rattle.plan.specs.Asked.{Plan-contract}
+use Rattle.plan.proofs.Asking.{link-room, asked-applicable}
 use Rattle.links.proofs.Applied.{planned-fits, applied-accepted}
 
 module _ (up : Bool) (n a b : ℕ) (t : Tables) (w lent : List ℕ) (q start size taken : ℕ) (stretch : List ℕ)

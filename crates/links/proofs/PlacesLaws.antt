@@ -16,7 +16,7 @@ use Rattle.lists.proofs.Member.{member-in, in-member}
 use Rattle.lists.proofs.Range.{in-range, range-in}
 use Rattle.lists.proofs.Distinct.{distinct-twice}
 use Rattle.lists.proofs.Loops.{length-folded}
-use Rattle.row_conditions.specs.Conditions.{Placed}
+use Rattle.conditions.specs.Conditions.{Placed}
 use Rattle.links.specs.Steps.{places-put}
 
 -- ---- a list pasted into another keeps what stands outside

@@ -35,15 +35,15 @@ use Rattle.calls.specs.Outcomes.{Linked}
 use Rattle.calls.proofs.SoundSwitches.{Good, good-valid, switched-good}
 use Rattle.rows.specs.Rows.{neighbours-of}
 use Rattle.rows.proofs.RowListLaws.{in-neighbours-of, member-neighbours-of, length-neighbours-of}
-use Rattle.row_conditions.specs.Conditions.{Placed, Highs, high-count}
+use Rattle.conditions.specs.Conditions.{Placed, Highs, high-count}
 use Rattle.soundness.specs.Checks.{fits-sound}
 use Rattle.soundness.proofs.HighCounts.{high-count-neighbours-in}
 use Rattle.soundness.proofs.SoundSite.{Sound-site, fits-sound-site, site-good-fits, site-good-sound, number-entry}
-use Rattle.link_parts.specs.Changes.{Apply-contract}
-use Rattle.links.specs.Plans.{Ready, Planned, Applicable}
+use Rattle.links.specs.Changes.{Apply-contract}
+use Rattle.plan.specs.Plans.{Ready, Planned, Applicable}
 use Rattle.links.specs.Steps.{Prepared, Step-ready, Changed-by, Carried, Stepped, places-put, around, touched, recounted, Rows-known}
-use Rattle.links.proofs.Asking.{right-of, high-numbers}
-use Rattle.links.proofs.NearLaws.{neighbours-of-other}
+use Rattle.plan.proofs.Asking.{right-of, high-numbers}
+use Rattle.plan.proofs.NearLaws.{neighbours-of-other}
 use Rattle.links.proofs.Applied.{planned-fits, applied-accepted}
 use Rattle.links.proofs.PlacesLaws.{getD-paste-outside, length-places-put, placed-again}
 use Rattle.links.proofs.CountLaws.{touched-ends, touched-around, getD-recounted, length-recounted}

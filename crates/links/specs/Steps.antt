@@ -28,9 +28,9 @@ use Rattle.mesh.specs.Tables.{Tables, graph-in}
 use Rattle.calls.specs.Questions.{ends-refusal}
 use Rattle.calls.specs.Switches.{switch, switched}
 use Rattle.rows.specs.Rows.{neighbours-of}
-use Rattle.row_conditions.specs.Conditions.{Placed, Highs, high-count}
+use Rattle.conditions.specs.Conditions.{Placed, Highs, high-count}
 use Rattle.soundness.specs.Checks.{fits-sound}
-use Rattle.sets.specs.Sets.{in-set}
+use Rattle.rows.specs.Sets.{in-set}
 
 -- ---- one link
 

@@ -7,9 +7,10 @@ ghost use lib.ListN.{length, getD, take};
 ghost use Rattle.lists.specs.Lists.{count, In};
 ghost use Rattle.mesh.specs.Limits.{max-radios, max-neighbours, row-bytes};
 ghost use Rattle.rows.specs.Rows.{neighbours-of, set-bits};
-ghost use Rattle.row_conditions.specs.Conditions.{high-count};
+ghost use Rattle.conditions.specs.Conditions.{high-count};
 ghost use Rattle.links.specs.Steps.{around, all-around, Joined, set-radios, touched, recounted, Rows-known};
 use mesh::Site;
+use rows::sets;
 
 // How many of the first k listed radios have a number that is not below `number`.
 fn count_high(near: &[u16], k: usize, number: u8, numbers: &[u8]) -> u8

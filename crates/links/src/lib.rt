@@ -1,18 +1,10 @@
-// Link up and link down, one by one and in a batch. A call asks its questions, plans what becomes of the lower end's stretch of the order, and applies the
-// plan: nothing is written before the plan is whole. Refusals leave every table as it was. The plan alone is to be had too, with the
-// questions asked: it is what asking lists and what committing compares.
-// A hearing brings the site to the links that both ends hear.
+// Link up and link down, one by one, in two steps and in a batch: asked and planned by crate `plan`, and the plan applied. Nothing is
+// written before the plan is whole, and a refusal leaves every table as it was. Asking lists what a plan would change; committing plans
+// anew and applies what is the same as was proposed.
+mod apply;
+pub mod ask;
 pub mod batch;
+pub mod commit;
 mod counts;
-mod fall;
-pub mod hear;
 pub mod link;
-mod peel;
-pub mod plan;
-mod questions;
-mod rise;
-mod step;
-mod stretch;
-mod turn;
-mod walk;
-mod words;
+pub mod step;

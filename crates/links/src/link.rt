@@ -1,10 +1,10 @@
 // Link up and link down: asked, planned, applied.
 ghost use Rattle.mesh.specs.Lent.{lent};
 ghost use Rattle.calls.specs.Contracts.{Link-contract};
-use super::plan;
+use super::apply;
 use calls::Reply;
-use link_parts::apply;
 use mesh::Site;
+use plan::decision;
 
 // Takes the link between a and b up, by questions 1 to 7, or down, by 1 to 6. Accepted, the reply has number 0, the step and the count of
 // changed radios; the answer table has these ascending in front, and its later entries keep their content. Refused, the reply has the
@@ -23,7 +23,7 @@ pub fn link(
         (lent (links .exit) (numbers .exit) (order .exit)) (now (answer .exit)) ⌝ }
 {
     let mut stretch = [0u16; Site::RADIOS as usize];
-    let decided = plan::plan(
+    let decided = decision::plan(
         up,
         n,
         a,

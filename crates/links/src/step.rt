@@ -7,10 +7,11 @@ ghost use Rattle.lists.specs.Lists.{range};
 ghost use Rattle.mesh.specs.Limits.{max-radios};
 ghost use Rattle.mesh.specs.Lent.{lent};
 ghost use Rattle.links.specs.Steps.{Prepared, Step-ready, Changed-by, Carried, Stepped, places-put};
+use super::apply;
 use super::counts;
-use super::plan;
-use link_parts::apply;
 use mesh::Site;
+use plan::decision;
+use plan::end_questions;
 
 // What a link changed: so many numbers, and of the order at most `size` entries from `start` on.
 struct Outcome {
@@ -39,7 +40,7 @@ fn change(
 {
     let mut counters = *highs;
     let mut stretch = [0u16; Site::RADIOS as usize];
-    let plan = plan::plan_link(
+    let plan = decision::plan_link(
         up,
         a,
         b,
@@ -74,7 +75,7 @@ fn put_places(order: &[u16], start: usize, size: usize, places: &mut [u16; Site:
 
 // Takes the link a-b up, by questions 4 to 7, or down, by 4 to 6, and comes back with their number. Places and not-lower counts are the later
 // tables' then. Refused, every table keeps its content.
-pub(crate) fn step(
+pub fn step(
     up: bool,
     n: u32,
     a: u32,

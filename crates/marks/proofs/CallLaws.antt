@@ -38,7 +38,7 @@ use Rattle.calls.proofs.QuestionLaws.{ask-yes, ask-no, ask-zero}
 use Rattle.calls.proofs.ChainLaws.{site-zero, site-yes, write-yes}
 use Rattle.calls.proofs.ContractLaws.{by-accepted, by-refused, by-zero}
 use Rattle.calls.proofs.MarkCalls.{Mark-asked, mark-zero, mark-is-image, mark-read}
-use Rattle.mark_store.specs.Store.{Located}
+use Rattle.marks.specs.Store.{Located}
 use Rattle.marks.specs.Placing.{Markable, mark-place, put-place}
 
 -- ---- 1, 2, 3 or 17 got no

@@ -2,3 +2,8 @@
 pub mod Moving
 pub mod Placed
 pub mod CallLaws
+-- What is left of a list decides as the whole does.
+pub mod Left
+-- A place tested part by part; loops over the store.
+pub mod MarkTests
+pub mod StoreLoops

@@ -1,4 +1,5 @@
-// Named marks: set, removed, come back to. Places are moved within the lent store, and nothing of one is copied to the stack.
+// Named marks: set, removed, come back to. `store` puts question 17 to the lent store and says where a name stands. Places are moved within
+// the store, and nothing of one is copied to the stack.
 ghost use mathlib.Core.Path.{_≡_};
 ghost use Prim.Native.Nat.{_<_, _+_};
 ghost use lib.ListN.{length};
@@ -9,14 +10,18 @@ ghost use Rattle.marks.specs.Placing.{Markable, mark-place, put-place};
 use calls::Refusal;
 use image_reader::reader;
 use image_writer::writer;
-use mark_store::places;
-use mark_store::places::NAME;
-use mark_store::places::PLACE;
-use mark_store::store;
-use mark_store::store::PLACES;
+use places;
+use places::NAME;
+use places::PLACE;
+use store;
+use store::PLACES;
 use tables::fill;
 
+mod names;
+mod places;
 mod shift;
+mod store;
+mod zeros;
 
 // The place is the mark of the name and the tables after.
 fn put_mark(n: u32, links: &[u8], numbers: &[u8], order: &[u16], name: &[u8], place: &mut [u8])

@@ -4,7 +4,7 @@ ghost use Prim.Native.Nat.{_≤_, _+_};
 ghost use lib.ListN.{length};
 ghost use Rattle.mesh.specs.Marks.{place-bytes};
 ghost use Rattle.mesh.specs.MarkPlaces.{moved-up, moved-down};
-use mark_store::places::PLACE;
+use super::places::PLACE;
 
 // The bytes from `from` on, to before `to`, stand one place higher after; it begins with the last.
 pub(crate) fn move_up(kept: &mut [u8], from: usize, to: usize)

@@ -15,3 +15,5 @@ pub mod Texts
 pub mod DecidedLaws
 mod StatusLaws
 mod WordLaws
+-- Laws of the definitions in specs/: what a read found, and reads one after another.
+pub mod ReadLaws

@@ -24,8 +24,8 @@ use Rattle.calls.specs.Contracts.{Clear-contract}
 use Rattle.calls.proofs.ChainLaws.{lent-yes}
 use Rattle.calls.proofs.ContractLaws.{by-zero}
 use Rattle.text.specs.Print.{Buffer, buffer-at, put, Puts, max-place}
-use Rattle.reads.specs.Reads.{goes-on, at-end, Found, Read, input-of, Going, Unbroken, To-end}
-use Rattle.reads.proofs.ReadLaws.{none-found, take-none}
+use Rattle.player.specs.Reads.{goes-on, at-end, Found, Read, input-of, Going, Unbroken, To-end}
+use Rattle.player.proofs.ReadLaws.{none-found, take-none}
 use Rattle.text.proofs.PrintLaws.{put-fits}
 use Rattle.player.specs.Lines.{Prints}
 use Rattle.player.specs.Machine.{Spot, spot, Marked, Takes, Takes-all, full, line-room, closing, ending}

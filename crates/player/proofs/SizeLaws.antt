@@ -26,7 +26,7 @@ use Rattle.script.specs.Lines.{line-of}
 use Rattle.text.specs.Print.{max-place}
 use Rattle.script.specs.declared.lines.Line.{Line}
 use Rattle.script.specs.declared.lines.Line.the-variants.{Radios, Up, Down, Bad}
-use Rattle.printing.proofs.LengthLaws.{length-line-le, length-link-line-le}
+use Rattle.script.proofs.LengthLaws.{length-line-le, length-link-line-le}
 use Rattle.player.specs.Lines.{Called, Played}
 use Rattle.player.specs.Machine.{Spot, Line-ends, Step, Takes, Takes-all, longest, closing-longest, closing}
 

@@ -15,7 +15,7 @@ use Rattle.script.specs.Lines.{line-of, max-value}
 use Rattle.script.specs.Texts.{text-of, Values}
 use Rattle.script.specs.declared.lines.Line.{Line}
 use Rattle.script.specs.declared.lines.Line.the-variants.{Radios, Up, Down, Bad}
-use Rattle.printing.proofs.LengthLaws.{length-line-le}
+use Rattle.script.proofs.LengthLaws.{length-line-le}
 use Rattle.script.proofs.Texts.{text-parse}
 use Rattle.player.specs.Lines.{is-call}
 use Rattle.player.specs.Machine.{line-room}

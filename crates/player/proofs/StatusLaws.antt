@@ -9,9 +9,9 @@ use lib.ListN.{take}
 use lib.Signed.{ltZ, nonNeg}
 use borrow.Author.Tests.{ltb-true}
 use Rattle.text.specs.Print.{Buffer}
-use Rattle.reads.specs.Reads.{goes-on, at-end, Found, Read, input-of, Going, Unbroken, To-end}
-use Rattle.reads.specs.declared.Brought.{Brought}
-use Rattle.reads.proofs.ReadLaws.{none-found, take-none}
+use Rattle.player.specs.Reads.{goes-on, at-end, Found, Read, input-of, Going, Unbroken, To-end}
+use Rattle.player.specs.declared.input.Brought.{Brought}
+use Rattle.player.proofs.ReadLaws.{none-found, take-none}
 use Rattle.player.specs.Play.{radios-of}
 use Rattle.player.specs.Reading.{Reads-all, Reads-first, Concluded, Played-to-end, Lines-status, Run-to-end, Run-status, Copies-once, Copied}
 use Rattle.player.specs.declared.first.First.{First}

@@ -9,3 +9,5 @@ pub mod Reading
 pub mod RunText
 pub mod Texts
 pub mod Words
+-- The reads of a run.
+pub mod Reads

@@ -28,7 +28,7 @@ use lib.ListN.{length, take, replicate}
 use Rattle.mesh.specs.Limits.{max-radios, row-bytes}
 use Rattle.mesh.specs.Tables.{Tables}
 use Rattle.text.specs.Print.{Buffer, buffer-at, max-place}
-use Rattle.reads.specs.Reads.{goes-on, at-end, Read, input-of, Going, Unbroken, To-end}
+use Rattle.player.specs.Reads.{goes-on, at-end, Read, input-of, Going, Unbroken, To-end}
 use Rattle.player.specs.Play.{radios-of}
 use Rattle.player.specs.declared.first.First.{First}
 use Rattle.player.specs.Machine.{Spot, Takes-all, ending, full}

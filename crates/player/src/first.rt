@@ -4,6 +4,7 @@ ghost use Prim.Native.Nat.{_≤_};
 ghost use Rattle.mesh.specs.Limits.{max-radios};
 ghost use Rattle.player.specs.Play.{radios-of};
 ghost use Rattle.player.specs.Reading.{Reads-first};
+use super::input;
 use mesh::Site;
 use script::lines::Line;
 
@@ -39,7 +40,7 @@ pub fn read_first(fd: i32) -> First
     ensures read { λ r. ⌜ Reads-first r ⌝ }
 {
     let mut line = [0u8; FIRST_BYTES];
-    let got = reads::fill(fd, 1, true, &mut line);
+    let got = input::fill(fd, 1, true, &mut line);
     let count = got.count;
     First {
         n: radios_of(&line[..count]),

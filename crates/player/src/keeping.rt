@@ -3,6 +3,7 @@ ghost use mathlib.Core.Path.{_≡_};
 ghost use mathlib.Core.Bool.{true};
 ghost use lib.Signed.{nonNeg};
 ghost use Rattle.player.specs.Reading.{Copies-once, Copied};
+use super::input;
 
 // The largest descriptor of a program's own input, output and errors.
 const OWN: i32 = 2;
@@ -27,10 +28,10 @@ fn copy_on(keep: i32, output: i32) -> u32
     ensures { λ r. ⌜ Copies-once r ⌝ }
 {
     let mut chunk = io::large_buffer();
-    let got = reads::read(keep, usize::MAX, &mut chunk);
+    let got = input::read(keep, usize::MAX, &mut chunk);
     let count = got.count;
     if !io::write_all(output, &chunk[..count]) {
-        return reads::UNREAD;
+        return input::UNREAD;
     }
     got.state
 }
@@ -45,12 +46,12 @@ pub fn copy(keep: i32, output: i32) -> bool
     if libc::lseek(keep, 0, libc::SEEK_SET) != 0 {
         return false;
     }
-    let mut left = reads::most();
+    let mut left = input::most();
     while left > 0 {
         left -= 1;
         let state = copy_on(keep, output);
-        if state != reads::GOES_ON {
-            return state == reads::END;
+        if state != input::GOES_ON {
+            return state == input::END;
         }
     }
     false

@@ -6,7 +6,9 @@ ghost use Rattle.mesh.specs.Limits.{max-radios};
 ghost use Rattle.mesh.specs.Tables.{tables};
 ghost use Rattle.player.specs.Reading.{Site-lent, Lines-status, Run-status};
 
+pub mod faults;
 mod first;
+pub mod input;
 mod keeping;
 mod machine;
 mod play;
@@ -14,8 +16,8 @@ mod reading;
 mod words;
 
 pub use first::radios_of;
+use input::Ends;
 use mesh::Site;
-use reads::Ends;
 pub use words::Start;
 pub use words::run_words;
 pub use words::started;
@@ -83,7 +85,7 @@ pub fn run(ends: Ends, most: usize) -> u32
     ensures { λ r. ⌜ Run-status r ⌝ }
 {
     let first = first::read_first(ends.input);
-    if reads::END < first.state {
+    if input::END < first.state {
         return reading::unread(ends, first.state);
     }
     if first.n == 0 {

@@ -11,6 +11,7 @@ ghost use Rattle.player.specs.Lines.{Prints};
 ghost use Rattle.player.specs.Machine.{spot, Stop-put, Marked, Takes, closing};
 ghost use Rattle.player.specs.Reading.{Writes, Ready, Site-sized};
 use super::play;
+use script::printing;
 
 // How many bytes may wait in the printing buffer before it is written.
 pub const FULL: usize = 4096;

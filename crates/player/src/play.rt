@@ -5,6 +5,7 @@ ghost use Rattle.mesh.specs.Lent.{lent};
 ghost use Rattle.text.specs.Print.{buffer-at};
 ghost use Rattle.player.specs.Lines.{is-call, Called, Played, Prints};
 use script::lines::Line;
+use script::printing;
 
 // Whether the line was a link call, and the place after what it printed.
 pub struct Done {

@@ -11,10 +11,13 @@ ghost use Rattle.text.specs.Print.{buffer-at};
 ghost use Rattle.player.specs.Machine.{spot, line-room, full, Marked};
 ghost use Rattle.player.specs.Reading.{chunk-room, out-room, Room-made, broken-off, Ready, Site-cleared, Site-sized};
 ghost use Rattle.player.specs.Reading.{Takes-chunk, Found-by, Takes-read, Reads-once, Reads-all, Concluded, Lines-status};
+use super::faults;
+use super::input;
+use super::input::Ends;
 use super::keeping;
 use super::machine;
 use super::machine::Progress;
-use reads::Ends;
+use script::printing;
 
 // The program, as its error lines name it.
 const PROGRAM: [u8; 6] = *b"replay";
@@ -27,7 +30,7 @@ const OUT_BYTES: usize = 16384;
 
 // Writes what waits in the printing buffer: whether all of it was taken.
 fn flush(fd: i32, out: &[u8], at: usize) -> bool {
-    let count = reads::within(at, out);
+    let count = input::within(at, out);
     io::write_all(fd, &out[..count])
 }
 
@@ -130,10 +133,10 @@ fn take_read(
         (spot (lent (links .exit) (numbers .exit) (order .exit)) (now (answer .exit)) (now (line .exit)) r)
         (buffer-at (now (out .exit)) (r .at)) ⌝ }
 {
-    if state == reads::END {
+    if state == input::END {
         return machine::end(s, line, numbers, order, out);
     }
-    if state != reads::GOES_ON {
+    if state != input::GOES_ON {
         return broken(s, state);
     }
     take_chunk(keep, s, chunk, n, line, links, numbers, order, answer, out)
@@ -164,7 +167,7 @@ fn turn(
         (buffer-at (now (out .exit)) (r .at)) ⌝ }
 {
     let mut chunk = io::buffer();
-    let got = reads::read(fd, most, &mut chunk);
+    let got = input::read(fd, most, &mut chunk);
     let count = got.count;
     take_read(
         keep,
@@ -207,7 +210,7 @@ fn read_turns(
         live: true,
         fault: 0,
     };
-    let mut left = reads::most();
+    let mut left = input::most();
     while left > 0 {
         if !s.live {
             break;
@@ -254,7 +257,7 @@ fn print(ends: Ends, keep: i32, out: &[u8], s: Progress) -> u32
 fn wrong(ends: Ends, words: &[u8]) -> u32
     ensures { λ r. ⌜ r ≡ 1 ⌝ }
 {
-    reads::faults::say(ends.errors, &PROGRAM, words);
+    faults::say(ends.errors, &PROGRAM, words);
     1
 }
 
@@ -262,7 +265,7 @@ fn wrong(ends: Ends, words: &[u8]) -> u32
 pub(crate) fn unread(ends: Ends, state: u32) -> u32
     ensures { λ r. ⌜ r ≡ 1 ⌝ }
 {
-    reads::faults::say_unread(ends.errors, &PROGRAM, state);
+    faults::say_unread(ends.errors, &PROGRAM, state);
     1
 }
 
@@ -319,7 +322,7 @@ pub(crate) fn print_bad(ends: Ends) -> u32
 {
     let mut out = [0u8; 32];
     let at = printing::put_bad_line(&mut out, 0, 1);
-    let count = reads::within(at, &out);
-    reads::faults::print(ends, &PROGRAM, &out[..count]);
+    let count = input::within(at, &out);
+    faults::print(ends, &PROGRAM, &out[..count]);
     1
 }

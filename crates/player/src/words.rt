@@ -4,7 +4,9 @@ ghost use mathlib.Core.Path.{_≡_};
 ghost use Prim.Native.Nat.{_≤_};
 ghost use Rattle.player.specs.Reading.{Run-status};
 ghost use Rattle.player.specs.Words.{descriptor-of, start-of};
-use reads::Ends;
+use super::faults;
+use super::input;
+use super::input::Ends;
 
 // The longest word that is read; a longer one counts as empty, which no word of a program is.
 const WORD_BYTES: usize = 32;
@@ -65,7 +67,7 @@ pub fn tell(told: i32, status: u32) {
 fn help(ends: Ends) -> u32
     ensures { λ r. ⌜ r ≤ 1 ⌝ }
 {
-    reads::faults::print(
+    faults::print(
         ends,
         b"replay",
         b"replay <FILE: plays a script of link calls on a cleared site
@@ -91,9 +93,9 @@ pub fn run_words(ends: Ends, count: usize, word: &[u8]) -> u32
         return help(ends);
     }
     if tables::fill::same8(word, b"--version") {
-        return reads::faults::print(ends, b"replay", &reads::VERSION);
+        return faults::print(ends, b"replay", &input::VERSION);
     }
-    reads::faults::say(
+    faults::say(
         ends.errors,
         b"replay",
         b"no word is taken, and the script is standard input: replay <FILE",

@@ -26,7 +26,7 @@ use Rattle.calls.specs.Questions.{lengths-of, core-refusal}
 use Rattle.calls.specs.Contracts.{Core-contract}
 use Rattle.calls.proofs.ChainLaws.{core-zero}
 use Rattle.calls.proofs.QuestionLaws.{answer-length-true}
-use Rattle.sets.specs.Sets.{in-set, Set-taken, members, Listed}
+use Rattle.rows.specs.Sets.{in-set, Set-taken, members, Listed}
 use Rattle.floods.specs.Floods.{Level-set, Flood-done}
 use Rattle.soundness.proofs.SoundSite.{Sound-site, number-entry}
 use Rattle.floods.proofs.FloodCore.{level-radios, left-flood}

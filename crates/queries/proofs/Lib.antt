@@ -3,3 +3,5 @@
 pub mod RefusalLaws
 pub mod AnswerLaws
 pub mod CoreLaws
+-- Laws of the backbone's code: the parts of a site, one after the other.
+pub mod PartLaws

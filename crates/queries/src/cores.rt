@@ -8,6 +8,7 @@ ghost use Rattle.calls.specs.Contracts.{Core-contract};
 use calls::Refusal;
 use calls::Value;
 use mesh::Site;
+use rows::sets;
 
 // Questions 1 to 4 and 8, where `answer` is the length of the answer table.
 fn core_refusal<'a>(

@@ -1,5 +1,5 @@
 // The replay program: plays standard input.
-use reads::Ends;
+use player::input::Ends;
 
 // The longest word that is read; a longer one counts as empty, which no word of the program is.
 const WORD_BYTES: usize = 32;

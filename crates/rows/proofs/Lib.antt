@@ -11,3 +11,12 @@ pub mod RowWords
 pub mod AboveWords
 -- the neighbours that a row marks, as a list: for callers
 pub mod RowListLaws
+-- Laws of sets of eight words, for their functions and callers.
+pub mod SetLaws
+-- Laws of the list of links, for its functions and their callers.
+-- the neighbours above a radio
+pub mod AboveLaws
+-- the links from a row on
+pub mod LinksFrom
+-- the links of the graph that the table marks
+pub mod GraphLinks

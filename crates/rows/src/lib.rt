@@ -1,6 +1,6 @@
-// Rows of the links table: one bit tested, set or cleared, a row's neighbours listed, all or the ones above its own radio, and counted
-// in a byte, the lowest of them; the words of a row; the radios of a set, or of a word of one, listed.
-// The bits of a row are walked here, and by the count of its ends in the soundness check.
+// Rows of the links table: one bit tested, set or cleared, a row's neighbours listed, all or the ones above its own radio, and counted in a
+// byte; the words of a row. `sets` has sets of radios, eight words each, `link_list` the links that a table marks. The bits of a row are
+// walked here, and where a loop over a whole row is the work itself.
 ghost use mathlib.Core.Path.{_≡_};
 ghost use Prim.Native.Nat.{suc, _≤_, _+_, _-_, min};
 ghost use lib.ListN.{length, take};
@@ -9,6 +9,9 @@ ghost use Rattle.mesh.specs.Limits.{max-radios, max-neighbours};
 ghost use Rattle.lists.specs.Lists.{head-or, overwrite};
 ghost use Rattle.mesh.specs.Tables.{marked, put-bit, put-link};
 ghost use Rattle.rows.specs.Rows.{row-listed, neighbours-above, row-from, row-count, set-bits, word-radios, row-word, word-of, Words-room};
+
+pub mod link_list;
+pub mod sets;
 
 // The bits of a word.
 pub const WORD_BITS: u32 = 64;

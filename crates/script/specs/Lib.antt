@@ -2,3 +2,6 @@
 pub mod Cases
 pub mod Lines
 pub mod Texts
+-- How long a script can be, and worked scripts.
+pub mod Longest
+pub mod Scripts

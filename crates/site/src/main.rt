@@ -1,5 +1,5 @@
 // The program `site`: its words are handed to the library.
-use reads::Ends;
+use player::input::Ends;
 
 // The longest word that is read; a longer one counts as empty, which no verb and no number is.
 const WORD_BYTES: usize = 32;

@@ -2,3 +2,13 @@
 pub mod GivenLaws
 pub mod BlockLaws
 pub mod RoomLaws
+-- Laws of the definitions in specs/: each way through the code is one thing that a byte, a line or a read does.
+pub mod CourseLaws
+mod FirstLaws
+-- `TextLaws`: texts put or refused; `LineLaws`: lines of links and nodes, one after another; `TreeLaws`: the shell tree's text;
+-- `SaidLaws`: for `answer`; `NameLaws`: for the words of the verbs.
+pub mod TextLaws
+pub mod LineLaws
+pub mod TreeLaws
+pub mod SaidLaws
+pub mod NameLaws

@@ -22,11 +22,11 @@ use Rattle.calls.specs.Script.{script-length}
 use Rattle.calls.proofs.QuestionLaws.{ask-yes, ask-later}
 use Rattle.calls.proofs.ChainLaws.{Lent-good, lent-later}
 use Rattle.calls.proofs.ScriptLaws.{script-most}
-use Rattle.verbs.specs.declared.Text.{Text}
-use Rattle.verbs.specs.declared.names.Verb.{Verb}
-use Rattle.verbs.specs.declared.names.Verb.the-variants.{Help, Check, Numbers, Sheet, Script, Image, Backbone, Staircase, Tree, Core, Lift, Unknown}
-use Rattle.verbs.specs.Texts.{Text-accepted, Text-refused, Text-by}
-use Rattle.verbs.specs.Said.{value-of, Backbone-said, Core-said, Lift-said, Staircase-said, Tree-said, Said}
+use Rattle.site_program.specs.declared.verbs.Text.{Text}
+use Rattle.site_program.specs.declared.names.Verb.{Verb}
+use Rattle.site_program.specs.declared.names.Verb.the-variants.{Help, Check, Numbers, Sheet, Script, Image, Backbone, Staircase, Tree, Core, Lift, Unknown}
+use Rattle.site_program.specs.Texts.{Text-accepted, Text-refused, Text-by}
+use Rattle.site_program.specs.Said.{value-of, Backbone-said, Core-said, Lift-said, Staircase-said, Tree-said, Said}
 use Rattle.site_program.specs.Room.{text-room, Held}
 
 -- ---- numbers that are none of the three

@@ -2,3 +2,14 @@
 pub mod Given
 pub mod Blocks
 pub mod Room
+-- Refusals in words.
+pub mod Words
+-- The inputs of the program `site` and the statuses of its runs; what it says where something goes wrong.
+pub mod Inputs
+pub mod Errors
+-- A script played by the program `site`: what a line does, bytes in turn, reads, the end of the input.
+pub mod Course
+-- What the program `site` prints: the words of its verbs, the texts, and the contract of each verb.
+pub mod Names
+pub mod Texts
+pub mod Said

@@ -4,7 +4,7 @@
 -- Definitions only.
 use mathlib.Core.Path.{_≡_}
 use Prim.Native.Nat.{ℕ}
-use Rattle.script_writer.specs.Longest.{longest-script}
+use Rattle.script.specs.Longest.{longest-script}
 
 abbrev pub text-room : ℕ
 text-room = longest-script

@@ -2,14 +2,15 @@
 ghost use mathlib.Core.Path.{_≡_};
 ghost use Prim.Native.Nat.{_≤_};
 ghost use Rattle.mesh.specs.Limits.{max-radios};
-ghost use Rattle.site_parts.specs.Inputs.{wrong};
+ghost use Rattle.site_program.specs.Inputs.{wrong};
 ghost use Rattle.site_program.specs.Blocks.{First-bad};
+use super::refusals;
 use crate::sizes;
 use calls::Refusal;
+use image::form;
 use image::header;
 use image::layout;
 use mesh::Site;
-use site_parts::refusals;
 
 // How many radios the image says; 1 where that is no size, and then no question but 1 gets another answer.
 pub(crate) fn radios(image: &[u8]) -> u32
@@ -52,7 +53,7 @@ fn is_formed(image: &[u8], n: u32) -> bool {
     if header.radios != n {
         return false;
     }
-    image_form::form::is_formed(image, header)
+    form::is_formed(image, header)
 }
 
 // Where the image got "no": its length, a block, its form or its content.

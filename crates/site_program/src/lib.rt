@@ -4,21 +4,31 @@ ghost use mathlib.Core.Path.{_≡_};
 ghost use Prim.Native.Nat.{_≤_};
 ghost use lib.ListN.{length};
 ghost use Rattle.mesh.specs.Limits.{max-radios};
-ghost use Rattle.site_parts.specs.Inputs.{wrong};
+ghost use Rattle.site_program.specs.Inputs.{wrong};
 ghost use Rattle.site_program.specs.Given.{is-name};
 ghost use Rattle.site_program.specs.Room.{text-room, Held};
 
+mod answers;
 mod arguments;
+mod course;
 mod help;
 mod images;
+mod kinds;
+mod listing;
+mod names;
+mod refusals;
 mod sizes;
 mod source;
+mod trees;
+mod verbs;
+pub mod words;
 
 use arguments::Numbers;
 use mesh::Site;
-use reads::Ends;
-use reads::faults;
-use site_parts::refusals;
+use player::faults;
+use player::input;
+use player::input::Ends;
+use refusals;
 use verbs::Text;
 use verbs::Verb;
 
@@ -55,7 +65,7 @@ fn print<'a>(
     if text.number != 0 {
         return refusals::say_call(ends.errors, text.number);
     }
-    let length = reads::within(text.length, &out);
+    let length = input::within(text.length, &out);
     faults::print(ends, b"site", &out[..length])
 }
 
@@ -128,7 +138,7 @@ fn run_front(
 ) -> u32
     ensures { λ r. ⌜ r ≤ 1 ⌝ }
 {
-    if reads::END < state {
+    if input::END < state {
         return refusals::say_unread(ends.errors, state);
     }
     if front.len() == 0 {
@@ -136,7 +146,7 @@ fn run_front(
     }
     let n = source::radios(front);
     if n == 0 {
-        return refusals::say_line(ends.errors, 1, site_script::first_fault(front));
+        return refusals::say_line(ends.errors, 1, course::first_fault(front));
     }
     run_site(ends, most, shown, verb, given, n, front, state)
 }
@@ -146,7 +156,7 @@ fn run_input(ends: Ends, most: usize, shown: bool, verb: Verb, given: Numbers) -
     ensures { λ r. ⌜ r ≤ 1 ⌝ }
 {
     let mut front = [0u8; sizes::FRONT_BYTES];
-    let got = reads::fill(ends.input, most, false, &mut front);
+    let got = input::fill(ends.input, most, false, &mut front);
     let count = got.count;
     run_front(ends, most, shown, verb, given, &front[..count], got.state)
 }
@@ -220,7 +230,7 @@ pub fn run(
         return faults::print(ends, b"site", &help::PAGE);
     }
     if tables::fill::same8(word, b"--version") {
-        return faults::print(ends, b"site", &reads::VERSION);
+        return faults::print(ends, b"site", &input::VERSION);
     }
     run_verb(ends, most, shown, word, count, v, k)
 }

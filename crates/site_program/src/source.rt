@@ -1,18 +1,20 @@
 // The input: an image or a script, told apart by its first bytes.
 ghost use Prim.Native.Nat.{_≤_};
 ghost use Rattle.mesh.specs.Limits.{max-radios};
+use super::course;
+use super::course::Turned;
+use super::kinds::is_script;
+use super::refusals;
 use crate::images;
-use reads::Ends;
-use site_parts::refusals;
-use site_parts::source::is_script;
-use site_script::Turned;
+use player::input;
+use player::input::Ends;
 
 // How many radios the site has; 0 where a script has no first line.
 pub(crate) fn radios(front: &[u8]) -> u32
     ensures { λ r. ⌜ r ≤ max-radios ⌝ }
 {
     if is_script(front) {
-        return site_script::radios(front);
+        return course::radios(front);
     }
     images::radios(front)
 }
@@ -24,7 +26,7 @@ fn played(ends: Ends, end: Turned) -> u32
     if end.course.number != 0 {
         return refusals::say_line(ends.errors, end.course.line, end.course.number);
     }
-    if end.state != reads::END {
+    if end.state != input::END {
         return refusals::say_unread(ends.errors, end.state);
     }
     0
@@ -45,7 +47,7 @@ pub(crate) fn read(
     ensures { λ r. ⌜ r ≤ 1 ⌝ }
 {
     if is_script(front) {
-        let end = site_script::play(ends, most, shown, n, front, state, links, numbers, order);
+        let end = course::play(ends, most, shown, n, front, state, links, numbers, order);
         return played(ends, end);
     }
     images::read(ends.errors, n, front, links, numbers, order)

@@ -12,7 +12,7 @@ use Rattle.mesh.specs.Limits.{max-neighbours}
 use Rattle.lists.specs.Lists.{range, all}
 use Rattle.lists.proofs.Tests.{never, trichotomy}
 use Rattle.rows.specs.Rows.{neighbours-of}
-use Rattle.row_conditions.specs.Conditions.{high-count, row-good}
+use Rattle.conditions.specs.Conditions.{high-count, row-good}
 use Rattle.soundness.specs.Checks.{Row-checked, Rows-checked}
 
 -- the rows below a are good, and their high counts are written

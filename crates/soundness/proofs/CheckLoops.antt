@@ -17,8 +17,8 @@ use Rattle.lists.proofs.Tests.{bool-cases, never, trichotomy}
 use Rattle.lists.specs.Facts.{Each-once}
 use Rattle.lists.proofs.Range.{once-of, once-below, once-distinct}
 use Rattle.mesh.proofs.Cores.Orders.{each-once-of, of-each-once}
-use Rattle.row_conditions.specs.Conditions.{rising-from}
-use Rattle.row_conditions.proofs.RowByRow.{rising-from-zero}
+use Rattle.conditions.specs.Conditions.{rising-from}
+use Rattle.conditions.proofs.RowByRow.{rising-from-zero}
 use Rattle.soundness.specs.Checks.{Placing, Places-found, nowhere}
 use Rattle.lists.proofs.Member.{in-getD, getD-of-in}
 use Rattle.lists.proofs.Distinct.{distinct-at, distinct-twice}

@@ -24,10 +24,10 @@ use Rattle.calls.proofs.ContractLaws.{value-refused, value-answered}
 use Rattle.calls.proofs.ChainLaws.{Lent-good, lent-zero, lent-yes, site-zero}
 use Rattle.calls.proofs.QuestionLaws.{true-size-good, true-site-lengths, true-answer-length, size-good-true, Site-lengths, site-lengths-true}
 use Rattle.calls.proofs.QuestionLaws.{answer-length-true}
-use Rattle.row_conditions.specs.Conditions.{Placed, row-good}
+use Rattle.conditions.specs.Conditions.{Placed, row-good}
 use Rattle.soundness.specs.Checks.{Placing, Rows-room, Rows-checked, Sizes, Held, Asked, examinable, Examined, fits-sound}
 use Rattle.lists.proofs.Member.{in-getD}
-use Rattle.row_conditions.proofs.RowByRow.{sound-rows}
+use Rattle.conditions.proofs.RowByRow.{sound-rows}
 
 -- ---- the conditions together
 

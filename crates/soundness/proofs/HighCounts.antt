@@ -18,7 +18,7 @@ use Rattle.lists.proofs.Tests.{and-left, and-right}
 use Rattle.lists.proofs.Filter.{count-filter}
 use Rattle.calls.specs.Questions.{lengths-of}
 use Rattle.rows.specs.Rows.{neighbours-of}
-use Rattle.row_conditions.specs.Conditions.{high-count}
+use Rattle.conditions.specs.Conditions.{high-count}
 use Rattle.soundness.specs.Checks.{Sizes, examinable, Examined}
 use Rattle.rows.proofs.RowListLaws.{neighbours-of-linked}
 use Rattle.soundness.proofs.ExamineLaws.{examinable-true}

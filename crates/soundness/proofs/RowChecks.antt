@@ -19,7 +19,7 @@ use Rattle.lists.proofs.Range.{in-range}
 use Rattle.rows.specs.Rows.{neighbours-of}
 use Rattle.rows.proofs.MaskLaws.{marked-past}
 use Rattle.rows.proofs.RowListLaws.{in-neighbours-of}
-use Rattle.row_conditions.specs.Conditions.{first-key, later-count, high-count, ends-good, row-good}
+use Rattle.conditions.specs.Conditions.{first-key, later-count, high-count, ends-good, row-good}
 use Rattle.soundness.specs.Checks.{ends-mark, Tally, tally, Tallied}
 use Rattle.soundness.specs.Checks.{Highest-words, Ends-room, Ends-counted, Rows-room, Row-checked}
 use Rattle.soundness.proofs.Tallies.{first-key-most}

@@ -23,8 +23,8 @@ use Rattle.rows.specs.Rows.{neighbours-of, row-from, set-bits, row-word}
 use Rattle.rows.proofs.WordLaws.{set-bits-nothing, set-bits-lowest, length-set-bits-le}
 use Rattle.rows.proofs.RowWords.{row-from-zero, row-from-word, row-from-end}
 use Rattle.rows.proofs.MaskLaws.{marked-past}
-use Rattle.row_conditions.specs.Conditions.{sooner-key, first-key, later-count, high-count, highest-word}
-use Rattle.row_conditions.proofs.HighestWord.{highest-word-below, highest-word-above}
+use Rattle.conditions.specs.Conditions.{sooner-key, first-key, later-count, high-count, highest-word}
+use Rattle.conditions.proofs.HighestWord.{highest-word-below, highest-word-above}
 use Rattle.soundness.specs.Checks.{ends-mark, Highest-words, Tally, tally, Tallied, Walked, Walk-room}
 
 pub count-fits : (x : ℕ) (t : Bool) → x < 255 → Fits w8 (x + boolByte t)

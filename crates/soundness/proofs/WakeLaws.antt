@@ -24,9 +24,9 @@ use Rattle.calls.specs.Contracts.{Later-contract}
 use Rattle.calls.proofs.ChainLaws.{radio-zero}
 use Rattle.calls.proofs.ContractLaws.{by-accepted, by-refused}
 use Rattle.rows.specs.Rows.{neighbours-of}
-use Rattle.row_conditions.specs.Conditions.{Placed, later-count, high-count, ends-good, row-good}
-use Rattle.row_conditions.proofs.RowByRow.{sound-rows}
-use Rattle.row_conditions.proofs.FirstLater.{later-count-rest, first-key-rest}
+use Rattle.conditions.specs.Conditions.{Placed, later-count, high-count, ends-good, row-good}
+use Rattle.conditions.proofs.RowByRow.{sound-rows}
+use Rattle.conditions.proofs.FirstLater.{later-count-rest, first-key-rest}
 use Rattle.soundness.specs.Checks.{Placing, fits-sound, Sound-radio, Ends-room, Ends-counted, Later-counted}
 use Rattle.soundness.proofs.SoundSite.{Sound-site, fits-sound-site, site-good-fits}
 use Rattle.soundness.proofs.HighCounts.{proper-rows}

@@ -25,7 +25,7 @@ use Rattle.mesh.specs.Cores.{numbers}
 use Rattle.mesh.specs.Sound.{symmetric, irreflexive, within, few, sound}
 use Rattle.calls.specs.Questions.{Lengths, lengths-of, size-good, site-lengths, answer-length, site-refusal}
 use Rattle.rows.specs.Rows.{neighbours-of}
-use Rattle.row_conditions.specs.Conditions.{Placed, Highs, later-count, first-key, high-count, ends-good, row-good, highest-word}
+use Rattle.conditions.specs.Conditions.{Placed, Highs, later-count, first-key, high-count, ends-good, row-good, highest-word}
 
 unfoldable pub ends-mark : (links : List ℕ) → (a : ℕ) → (radios : List ℕ) → Bool
 ends-mark ts a xs = all (λ b. marked ts b a) xs

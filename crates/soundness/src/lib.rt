@@ -14,7 +14,7 @@ ghost use Rattle.calls.specs.Contracts.{Check-contract};
 ghost use Rattle.tables.specs.Sizes.{lengths};
 ghost use Rattle.lists.specs.Lists.{Entries-below};
 ghost use Rattle.rows.specs.Rows.{set-bits};
-ghost use Rattle.row_conditions.specs.Conditions.{sooner-key, highest-word};
+ghost use Rattle.conditions.specs.Conditions.{sooner-key, highest-word};
 ghost use Rattle.soundness.specs.Checks.{Placing, Places-found, Highest-words, tally, Walk-room, Walked, Ends-room, Ends-counted};
 ghost use Rattle.soundness.specs.Checks.{Rows-room, Row-checked, Rows-checked};
 ghost use Rattle.soundness.specs.Checks.{Sizes, Held, Asked, examinable, Examined};

@@ -13,7 +13,7 @@ use Rattle.mesh.specs.Tables.{Tables}
 use Rattle.mesh.specs.Sound.{sound}
 use Rattle.calls.specs.Questions.{lengths-of, site-refusal, staircase-length, staircase-refusal}
 use Rattle.calls.specs.Contracts.{Staircase-contract}
-use Rattle.link_list.specs.Links.{links-from, Rows-listed}
+use Rattle.rows.specs.Links.{links-from, Rows-listed}
 use Rattle.mesh.proofs.Tables.Rows.{symmetric-of}
 use Rattle.mesh.proofs.Trees.Listed.{greatest-le}
 use Rattle.calls.proofs.SheetLaws.{numbers-two-digits}
@@ -21,7 +21,7 @@ use Rattle.calls.proofs.ChainLaws.{Site-good, site-zero}
 use Rattle.calls.specs.Outcomes.{value, staircase-outcome}
 use Rattle.calls.proofs.ContractLaws.{listing-refused, listing-answered}
 use Rattle.soundness.proofs.SoundSite.{Sound-site, site-good-sound}
-use Rattle.link_list.proofs.GraphLinks.{rows-listed-few}
+use Rattle.rows.proofs.GraphLinks.{rows-listed-few}
 use Rattle.forests.specs.Growing.{growing, grown-all, table-weight, levels-falling}
 use Rattle.staircase.specs.Rows.{Mutual}
 use Rattle.staircase.proofs.LevelLaws.{staircase-count, staircase-table}

@@ -13,13 +13,13 @@ use Rattle.mesh.specs.Cores.{number, numbers}
 use Rattle.mesh.specs.Connected.{greatest}
 use Rattle.mesh.specs.Tables.{Tables, graph-in}
 use Rattle.mesh.specs.Staircase.{weight, falling, staircase, link-entries}
-use Rattle.link_list.specs.Links.{links-from}
+use Rattle.rows.specs.Links.{links-from}
 use Rattle.lists.proofs.Overwrite.{sets-front}
 use Rattle.mesh.proofs.GraphLaws.{linked-sym}
 use Rattle.mesh.proofs.Links.Call.{linked-positive}
 use Rattle.mesh.proofs.Tables.ReadBack.{Marks, in-graph-in, proper-graph-in}
 use Rattle.soundness.proofs.SoundSite.{Sound-site, linked-marked, number-entry}
-use Rattle.link_list.proofs.GraphLinks.{links-graph-in}
+use Rattle.rows.proofs.GraphLinks.{links-graph-in}
 use Rattle.forests.proofs.JoinedLaws.{Inside}
 use Rattle.forests.proofs.Keeping.{in-falling}
 use Rattle.forests.proofs.Heaviest.{links-inside, staircase-fewer}

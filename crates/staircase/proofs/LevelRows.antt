@@ -30,9 +30,9 @@ use Rattle.mesh.proofs.Trees.Listed.{getD-le-greatest}
 use Rattle.rows.specs.Rows.{row-listed, neighbours-above}
 use Rattle.rows.proofs.RowListLaws.{in-neighbours-of, member-neighbours-of}
 use Rattle.rows.proofs.RowWords.{row-listed-whole, row-listed-short}
-use Rattle.sets.specs.Sets.{in-set, put-in, Row-joined, common, Common-taken, Set-taken, members, Listed}
-use Rattle.sets.proofs.SetLaws.{in-set-zeros, in-set-radio, in-put-in, length-put-in}
-use Rattle.link_list.specs.Links.{links-to, links-above, links-from}
+use Rattle.rows.specs.Sets.{in-set, put-in, Row-joined, common, Common-taken, Set-taken, members, Listed}
+use Rattle.rows.proofs.SetLaws.{in-set-zeros, in-set-radio, in-put-in, length-put-in}
+use Rattle.rows.specs.Links.{links-to, links-above, links-from}
 use Rattle.floods.specs.Floods.{of-level, Level-set}
 use Rattle.forests.proofs.Forests.{filter-links-append}
 use Rattle.forests.specs.Growing.{table-weight}

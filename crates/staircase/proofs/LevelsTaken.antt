@@ -20,7 +20,7 @@ use Rattle.lists.proofs.Map.{length-map}
 use Rattle.mesh.proofs.Tables.AscendingLinks.{in-links-cases}
 use Rattle.tables.proofs.WidthLaws.{values-index}
 use Rattle.rows.specs.Rows.{neighbours-above}
-use Rattle.link_list.specs.Links.{links-above, links-from, Rows-listed}
+use Rattle.rows.specs.Links.{links-above, links-from, Rows-listed}
 use Rattle.forests.proofs.Keeping.{in-of-weight}
 use Rattle.forests.specs.Growing.{Growing, growing, grown-all, table-weight, levels-falling}
 use Rattle.staircase.specs.Taking.{greatest-below, Takeable}

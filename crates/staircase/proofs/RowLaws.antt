@@ -32,8 +32,8 @@ use Rattle.rows.specs.Rows.{row-from, set-bits, word-of}
 use Rattle.rows.proofs.WordLaws.{set-bits-lowest, word-at-less}
 use Rattle.rows.proofs.RowWords.{row-from-word, row-from-end, word-of-row}
 use Rattle.rows.proofs.AboveWords.{above-words}
-use Rattle.sets.specs.Sets.{in-set}
-use Rattle.link_list.specs.Links.{links-to}
+use Rattle.rows.specs.Sets.{in-set}
+use Rattle.rows.specs.Links.{links-to}
 use Rattle.staircase.specs.Taking.{Takeable}
 use Rattle.staircase.specs.Rows.{row-among, level-row}
 

@@ -18,8 +18,8 @@ use Rattle.lists.specs.Lists.{range, filter, member}
 use Rattle.mesh.specs.Graph.{Link}
 use Rattle.mesh.specs.Tables.{marked}
 use Rattle.rows.specs.Rows.{row-listed, neighbours-above}
-use Rattle.sets.specs.Sets.{in-set}
-use Rattle.link_list.specs.Links.{links-to}
+use Rattle.rows.specs.Sets.{in-set}
+use Rattle.rows.specs.Links.{links-to}
 use Rattle.floods.specs.Floods.{of-level}
 
 unfoldable pub row-among : (links set : List ℕ) → (a : ℕ) → List Link

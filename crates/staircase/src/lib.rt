@@ -13,14 +13,15 @@ ghost use Rattle.mesh.specs.Connected.{greatest};
 ghost use Rattle.mesh.specs.Staircase.{of-weight};
 ghost use Rattle.calls.specs.Contracts.{Staircase-contract};
 ghost use Rattle.rows.specs.Rows.{row-from, set-bits};
-ghost use Rattle.sets.specs.Sets.{in-set};
-ghost use Rattle.link_list.specs.Links.{links-to, links-from, Rows-listed};
+ghost use Rattle.rows.specs.Sets.{in-set};
+ghost use Rattle.rows.specs.Links.{links-to, links-from, Rows-listed};
 ghost use Rattle.forests.specs.Growing.{growing, table-weight, grown-all, levels-falling};
 ghost use Rattle.staircase.specs.Taking.{Takeable};
 ghost use Rattle.staircase.specs.Parts.{Parents, roots, Rooted, Taken};
 ghost use Rattle.staircase.specs.Rows.{row-among, level-row, Rows-whole, Radios-put, Neighbours-put, Level-sets, Level-rows, Mutual};
 use calls::Value;
 use mesh::Site;
+use rows::sets;
 use tables::numbers;
 
 mod levels;

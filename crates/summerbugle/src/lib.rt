@@ -13,8 +13,13 @@ use calls::Later;
 use calls::Pair;
 use calls::Reply;
 use calls::Value;
+use hearing::hear;
+use links::ask;
+use links::commit;
 use mesh::Node;
 use mesh::Site;
+use queries::backbone;
+use script::writer;
 
 mod nodes;
 
@@ -121,7 +126,7 @@ pub extern "C" fn sb_hear(
     ensures { λ r. ⌜ Hear-contract n (now (heard .entry)) (lent (links .entry) (numbers .entry) (order .entry)) (now (further .entry)) r
         (lent (links .exit) (numbers .exit) (order .exit)) (now (further .exit)) ⌝ }
 {
-    links::hear::hear(n, links, numbers, order, heard, further)
+    hear::hear(n, links, numbers, order, heard, further)
 }
 
 // What taking the link between a and b up would change: the step and count that `sb_link_up` would answer now, and the changed radios
@@ -140,7 +145,7 @@ pub extern "C" fn sb_ask_up<'a>(
     ensures { λ r. ⌜ Ask-contract true n a b (lent (links .entry) (numbers .entry) (order .entry)) (now (answer .entry)) r
         (now (answer .exit)) ⌝ }
 {
-    proposals::ask::ask(true, n, a, b, links, numbers, order, answer)
+    ask::ask(true, n, a, b, links, numbers, order, answer)
 }
 
 // What taking the link between a and b down would change: as `sb_ask_up`. Refused by 1 to 6.
@@ -157,7 +162,7 @@ pub extern "C" fn sb_ask_down<'a>(
     ensures { λ r. ⌜ Ask-contract false n a b (lent (links .entry) (numbers .entry) (order .entry)) (now (answer .entry)) r
         (now (answer .exit)) ⌝ }
 {
-    proposals::ask::ask(false, n, a, b, links, numbers, order, answer)
+    ask::ask(false, n, a, b, links, numbers, order, answer)
 }
 
 // Takes the link between a and b up where `step` and `changed` are exactly what `sb_ask_up` would give now. Accepted: step and count as
@@ -176,7 +181,7 @@ pub extern "C" fn sb_commit_up(
     ensures { λ r. ⌜ Commit-contract true n a b step (now (changed .entry)) (lent (links .entry) (numbers .entry) (order .entry)) r
         (lent (links .exit) (numbers .exit) (order .exit)) ⌝ }
 {
-    proposals::commit::commit(true, n, a, b, step, links, numbers, order, changed)
+    commit::commit(true, n, a, b, step, links, numbers, order, changed)
 }
 
 // Takes the link between a and b down: as `sb_commit_up`, with what `sb_ask_down` would give now. Refused by 1 to 6 and 16.
@@ -194,7 +199,7 @@ pub extern "C" fn sb_commit_down(
     ensures { λ r. ⌜ Commit-contract false n a b step (now (changed .entry)) (lent (links .entry) (numbers .entry) (order .entry)) r
         (lent (links .exit) (numbers .exit) (order .exit)) ⌝ }
 {
-    proposals::commit::commit(false, n, a, b, step, links, numbers, order, changed)
+    commit::commit(false, n, a, b, step, links, numbers, order, changed)
 }
 
 // The number of radio v. Refused by 1 to 4: then the value is 0.
@@ -401,7 +406,7 @@ pub extern "C" fn sb_sheet(
 pub extern "C" fn sb_script_length(n: u32, links: &[u8], numbers: &[u8], order: &[u16]) -> Value
     ensures { λ r. ⌜ Script-length-contract n (lent (links .entry) (numbers .entry) (order .entry)) r ⌝ }
 {
-    script_writer::length(n, links, numbers, order)
+    writer::length(n, links, numbers, order)
 }
 
 // Writes the script that rebuilds the site in front of the text buffer: the value is its length in bytes, and bytes past it keep their
@@ -416,7 +421,7 @@ pub extern "C" fn sb_script_write(
 ) -> Value
     ensures { λ r. ⌜ Script-contract n (lent (links .entry) (numbers .entry) (order .entry)) (now (text .entry)) r (now (text .exit)) ⌝ }
 {
-    script_writer::write(n, links, numbers, order, text)
+    writer::write(n, links, numbers, order, text)
 }
 
 // Reads an image of n radios into the tables: links and order as the image lists them, the numbers worked out. Refused by 1, 2,

@@ -5,6 +5,7 @@ use crate::compare;
 use crate::compare::KEPT;
 use crate::compare::Tally;
 use mesh::Site;
+use queries::backbone;
 use test_parts::words;
 
 // Two places more than the largest tree needs.

@@ -4,6 +4,7 @@ ghost use Rattle.mesh.specs.Limits.{max-radios};
 use crate::compare::KEPT;
 use calls::Value;
 use mesh::Site;
+use queries::backbone;
 use test_parts::digest;
 use test_parts::words;
 

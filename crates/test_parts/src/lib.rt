@@ -1,5 +1,4 @@
-// Parts that several test programs have: a digest of tables, files and their words, lines that are printed, and pseudo-random numbers. No
-// public function has a `requires`.
+// Parts that several test programs have: a digest of tables, files and their words, lines that are printed, and pseudo-random numbers.
 pub mod digest;
 pub mod files;
 pub mod random;

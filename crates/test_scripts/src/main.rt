@@ -9,7 +9,7 @@ mod site;
 mod writing;
 
 use libc::STDOUT_FILENO;
-use reads::Ends;
+use player::input::Ends;
 use test_parts::files;
 use test_parts::say;
 

@@ -1,7 +1,7 @@
 // A site's script, written into buffers of several lengths, printed, and played.
 use crate::back;
 use calls::Value;
-use reads::Ends;
+use player::input::Ends;
 use test_parts::files;
 use test_parts::say;
 

@@ -1,5 +1,8 @@
 // The program `site` on inputs good and bad: for each case its words, what is printed, also on the error output, and the status.
 // Files of data/ and the expected output are made by oracle/site.py; long inputs are made here, in a file without a name.
+use player::input;
+use site_program::words;
+
 mod cases;
 mod long;
 mod run;
@@ -66,8 +69,8 @@ fn refusals() {
 // The words of a number.
 fn refusal(number: u32) {
     let mut out = [0u8; 128];
-    let end = refusal_words::put_refused(&mut out, 0, number);
-    let count = reads::within(end, &out);
+    let end = words::put_refused(&mut out, 0, number);
+    let count = input::within(end, &out);
     run::word(&out[..count], b"\n");
 }
 

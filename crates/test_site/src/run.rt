@@ -1,6 +1,6 @@
 // One run of the library, printed: what it prints, then its errors, then the status.
 use libc::STDOUT_FILENO;
-use reads::Ends;
+use player::input::Ends;
 use test_parts::digest;
 
 // As many bytes as the longest text, and more.

@@ -23,7 +23,7 @@ use Rattle.lists.proofs.Overwrite.{set-overwrite, getD-front}
 use Rattle.lists.proofs.Map.{length-map, map-append, map-range-ext}
 use Rattle.mesh.proofs.Trees.Reach.{core-of-iff}
 use Rattle.mesh.proofs.Trees.CoreLevels.{in-core-below, in-core-level}
-use Rattle.sets.specs.Sets.{in-set}
+use Rattle.rows.specs.Sets.{in-set}
 use Rattle.floods.specs.Floods.{Level-set, Flood-done}
 use Rattle.floods.proofs.FloodCore.{level-radios, member-flood, left-flood}
 use Rattle.soundness.proofs.SoundSite.{Sound-site, number-entry}

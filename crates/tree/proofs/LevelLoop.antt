@@ -13,7 +13,7 @@ use Rattle.lists.proofs.Tests.{bool-cases}
 use Rattle.soundness.specs.Checks.{fits-sound}
 use Rattle.soundness.proofs.SoundSite.{fits-sound-site}
 use Rattle.lists.specs.Lists.{head-or}
-use Rattle.sets.specs.Sets.{common}
+use Rattle.rows.specs.Sets.{common}
 use Rattle.tree.specs.Trees.{Lists, Room, Node-taken, Shell-set, Growing, Marks, Levelled}
 use Rattle.floods.specs.Floods.{Level-set}
 use Rattle.tree.proofs.GrowLaws.{visited-next, marks-start, growing-end}

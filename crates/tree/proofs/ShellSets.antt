@@ -22,8 +22,8 @@ use Rattle.lists.proofs.Filter.{in-filter, filter-in}
 use Rattle.lists.proofs.Range.{in-range, once-in, once-below}
 use Rattle.lists.proofs.Ascending.{head-or-lowest, ascending-filter, ascending-range}
 use Rattle.calls.specs.Questions.{lengths-of, size-good, site-lengths}
-use Rattle.sets.specs.Sets.{in-set, put-in, common, Set-taken}
-use Rattle.sets.proofs.SetLaws.{in-set-zeros, in-set-radio, in-put-in, length-put-in}
+use Rattle.rows.specs.Sets.{in-set, put-in, common, Set-taken}
+use Rattle.rows.proofs.SetLaws.{in-set-zeros, in-set-radio, in-put-in, length-put-in}
 use Rattle.floods.specs.Floods.{of-level, Level-set, start}
 use Rattle.soundness.specs.Checks.{fits-sound, Sound-site}
 use Rattle.soundness.proofs.SoundSite.{fits-sound-site}

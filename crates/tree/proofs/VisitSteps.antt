@@ -8,7 +8,7 @@ use Prim.Native.Nat.{ℕ}
 use lib.Dec.{eqb}
 use lib.ListN.{getD}
 use Rattle.lists.proofs.Tests.{never}
-use Rattle.sets.specs.Sets.{in-set}
+use Rattle.rows.specs.Sets.{in-set}
 use Rattle.tree.specs.Trees.{Lists, Node-taken}
 
 unfoldable pub takes-node : (numbers : List ℕ) → (level : ℕ) → (set : List ℕ) → (v : ℕ) → Bool

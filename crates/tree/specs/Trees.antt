@@ -36,7 +36,7 @@ use Rattle.mesh.specs.declared.Node.{Node}
 use Rattle.calls.specs.Questions.{lengths-of, tree-refusal}
 use Rattle.calls.specs.Outcomes.{by-number, value}
 use Rattle.calls.specs.declared.Value.{Value}
-use Rattle.sets.specs.Sets.{in-set}
+use Rattle.rows.specs.Sets.{in-set}
 use Rattle.soundness.specs.Checks.{fits-sound}
 use Rattle.floods.specs.Floods.{Level-set, Flood-done}
 

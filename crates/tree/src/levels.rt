@@ -12,6 +12,7 @@ ghost use Rattle.tree.specs.Trees.{lists, Room, Node-taken, Shell-set, L
 ghost use Rattle.tree.specs.Trees.{Tree-written, Tables-contract};
 use calls::Value;
 use mesh::Site;
+use rows::sets;
 
 // The root's name, and its parent.
 const ROOT: u16 = 65535;

@@ -3,7 +3,7 @@ use native.Mathlib.Omega.{arith}
 use Prim.Native.Nat.{_-_}
 use lib.Pow.{pow-pos}
 use borrow.Author.Needs.{needs}
-use Rattle.row_conditions.proofs.HighestWord.{highest-word-none, highest-word-whole, bit-after, highest-word-part}
+use Rattle.conditions.proofs.HighestWord.{highest-word-none, highest-word-whole, bit-after, highest-word-part}
 use Rattle.soundness.proofs.highest_word.Statement.{statement}
 use Rattle.soundness.proofs.highest_word.Tie as tie
 

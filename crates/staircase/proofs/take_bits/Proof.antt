@@ -10,7 +10,7 @@ use borrow.Author.Needs.{needs}
 use Rattle.mesh.specs.Graph.{link-of}
 use Rattle.rows.specs.Rows.{set-bits}
 use Rattle.rows.proofs.WordLaws.{set-bits-nothing}
-use Rattle.link_list.specs.Links.{links-to}
+use Rattle.rows.specs.Links.{links-to}
 use Rattle.staircase.proofs.TakingLaws.{Taking, taking-none, taking-front, taking-part, taking-end}
 use Rattle.staircase.proofs.RowLaws.{bits-lowest}
 use Rattle.staircase.proofs.take_bits.Statement.{statement}

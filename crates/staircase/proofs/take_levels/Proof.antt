@@ -7,7 +7,7 @@ use lib.ListN.{length}
 use borrow.Author.Needs.{needs}
 use Rattle.mesh.specs.Limits.{max-radios, max-neighbours}
 use Rattle.mesh.specs.Staircase.{of-weight}
-use Rattle.link_list.specs.Links.{links-from}
+use Rattle.rows.specs.Links.{links-from}
 use Rattle.forests.specs.Growing.{table-weight, levels-falling}
 use Rattle.staircase.specs.Taking.{greatest-below}
 use Rattle.staircase.proofs.SkipLaws.{greatest-below-lt}

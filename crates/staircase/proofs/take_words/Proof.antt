@@ -8,8 +8,8 @@ use borrow.Author.Needs.{needs}
 use Rattle.mesh.specs.Limits.{row-bytes}
 use Rattle.lists.specs.Lists.{filter}
 use Rattle.rows.specs.Rows.{row-from, set-bits}
-use Rattle.sets.specs.Sets.{in-set}
-use Rattle.link_list.specs.Links.{links-to}
+use Rattle.rows.specs.Sets.{in-set}
+use Rattle.rows.specs.Links.{links-to}
 use Rattle.staircase.proofs.TakingLaws.{Taking, taking-none, taking-front, taking-part, taking-end}
 use Rattle.staircase.proofs.RowLaws.{words-among, words-past}
 use Rattle.staircase.proofs.take_words.Statement.{statement}

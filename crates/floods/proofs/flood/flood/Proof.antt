@@ -7,7 +7,7 @@ use native.Mathlib.Omega.{arith}
 use lib.ListN.{length, length-set}
 use borrow.Author.Needs.{needs}
 use Rattle.mesh.specs.Limits.{max-radios}
-use Rattle.sets.proofs.SetLaws.{length-take-out}
+use Rattle.rows.proofs.SetLaws.{length-take-out}
 use Rattle.floods.specs.Floods.{flood-at}
 use Rattle.floods.proofs.FloodLaws.{Walking, walking-turn, walking-end, flood-starts}
 use Rattle.floods.proofs.flood.flood.Statement.{statement}

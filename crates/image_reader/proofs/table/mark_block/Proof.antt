@@ -5,8 +5,8 @@ use native.Mathlib.Omega.{arith}
 use lib.ListN.{length}
 use borrow.Author.Needs.{needs}
 use Rattle.mesh.specs.Image.{block-links}
-use Rattle.image_site.proofs.BlockLaws.{link-in, link-inside, link-index, block-passed}
-use Rattle.image_site.proofs.TallyLaws.{proper-pair}
+use Rattle.image_reader.proofs.BlockLaws.{link-in, link-inside, link-index, block-passed}
+use Rattle.image_reader.proofs.TallyLaws.{proper-pair}
 use Rattle.image_reader.proofs.TableWritten.{Linking, linking-at, linking-turn, rows-there}
 use Rattle.image_reader.proofs.table.mark_block.Statement.{statement}
 use Rattle.image_reader.proofs.table.mark_block.Tie as tie

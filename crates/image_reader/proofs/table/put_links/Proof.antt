@@ -3,8 +3,8 @@ use mathlib.Core.Path.{_≡_, refl, sym, _∙_}
 use Prim.Native.Nat.{_-_}
 use lib.ListN.{length}
 use borrow.Author.Needs.{needs}
-use Rattle.image_site.specs.Site.{passed}
-use Rattle.image_site.proofs.BlockLaws.{block-there, passed-none, passed-all}
+use Rattle.image_reader.specs.Site.{passed}
+use Rattle.image_reader.proofs.BlockLaws.{block-there, passed-none, passed-all}
 use Rattle.image_reader.proofs.TableWritten.{Linking, linking-none, linking-at}
 use Rattle.image_reader.proofs.table.put_links.Statement.{statement}
 use Rattle.image_reader.proofs.table.put_links.Tie as tie

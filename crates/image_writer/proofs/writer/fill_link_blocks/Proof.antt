@@ -8,7 +8,7 @@ use lib.Seq.{length-take-le}
 use borrow.Author.Needs.{needs}
 use borrow.Rule.Slice.PartMut.{putMid}
 use Rattle.mesh.specs.Image.{blocks-for}
-use Rattle.link_list.specs.Links.{links-from}
+use Rattle.rows.specs.Links.{links-from}
 use Rattle.image_writer.proofs.LinksPut.{full-same, full-left}
 use Rattle.image_writer.proofs.BlockFilling.{Linking, first-same, linking-none, linking-more, linking-room, linking-count, linking-turn, linking-end}
 use Rattle.image_writer.proofs.writer.fill_link_blocks.Statement.{statement}

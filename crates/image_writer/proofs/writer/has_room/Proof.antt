@@ -7,7 +7,7 @@ use lib.Dec.{leb}
 use lib.ListN.{length}
 use borrow.Author.Needs.{needs}
 use borrow.Author.Tests.{le-leb}
-use Rattle.link_list.specs.Links.{links-from}
+use Rattle.rows.specs.Links.{links-from}
 use Rattle.mesh.specs.Image.{block-count, order-blocks, blocks-for}
 use Rattle.image_writer.proofs.writer.has_room.Statement.{statement}
 use Rattle.image_writer.proofs.writer.has_room.Tie as tie

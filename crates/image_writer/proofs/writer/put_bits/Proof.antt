@@ -11,7 +11,7 @@ use lib.Seq.{length-sets}
 use borrow.Author.Needs.{needs}
 use Rattle.mesh.specs.Image.{block-bytes}
 use Rattle.rows.specs.Rows.{set-bits}
-use Rattle.link_list.specs.Links.{links-to}
+use Rattle.rows.specs.Links.{links-to}
 use Rattle.image_writer.specs.Blocks.{Links-put}
 use Rattle.image_writer.proofs.LinksPut.{put-none, bits-turn}
 use Rattle.image_writer.proofs.writer.put_bits.Statement.{statement}

@@ -5,7 +5,7 @@ use Prim.Native.Nat.{_-_, _%_, _≤_}
 use native.Mathlib.Omega.{arith}
 use lib.ListN.{length}
 use borrow.Author.Needs.{needs}
-use Rattle.link_list.specs.Links.{links-from}
+use Rattle.rows.specs.Links.{links-from}
 use Rattle.image_writer.specs.Blocks.{Links-put}
 use Rattle.image_writer.proofs.LinksPut.{put-none, rows-stop-as, rows-turn-as, rows-end, links-left-end, row-none, row-full}
 use Rattle.image_writer.proofs.writer.put_rows.Statement.{statement}

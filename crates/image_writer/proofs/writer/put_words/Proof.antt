@@ -6,7 +6,7 @@ use native.Mathlib.Omega.{arith}
 use lib.ListN.{length}
 use borrow.Author.Needs.{needs}
 use Rattle.rows.specs.Rows.{row-from}
-use Rattle.link_list.specs.Links.{links-to}
+use Rattle.rows.specs.Links.{links-to}
 use Rattle.image_writer.specs.Blocks.{Links-put}
 use Rattle.image_writer.proofs.LinksPut.{put-none, words-stop, words-turn, words-end, row-left-none, full-of}
 use Rattle.image_writer.proofs.writer.put_words.Statement.{statement}

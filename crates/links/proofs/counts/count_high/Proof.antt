@@ -8,7 +8,7 @@ use lib.ListN.{length, getD, take}
 use lib.Seq.{length-take-le}
 use borrow.Author.Needs.{needs}
 use Rattle.lists.proofs.Loops.{Counted-from, counted-end}
-use Rattle.walk_parts.proofs.LevelCounts.{counted-byte}
+use Rattle.plan.proofs.LevelCounts.{counted-byte}
 use Rattle.links.proofs.CountLaws.{counted-front}
 use Rattle.links.proofs.counts.count_high.Statement.{statement}
 use Rattle.links.proofs.counts.count_high.Tie as tie

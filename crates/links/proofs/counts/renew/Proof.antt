@@ -7,7 +7,7 @@ use lib.ListN.{length, take, length-take}
 use lib.Seq.{getD-take}
 use borrow.Author.Needs.{needs}
 use Rattle.lists.specs.Lists.{In}
-use Rattle.sets.proofs.SetLaws.{length-put-in}
+use Rattle.rows.proofs.SetLaws.{length-put-in}
 use Rattle.links.specs.Steps.{recounted}
 use Rattle.links.proofs.CountLaws.{around-asked, touched-listed, touched-radio}
 use Rattle.links.proofs.counts.renew.Statement.{statement}

@@ -2,7 +2,7 @@
 use mathlib.Core.Path.{sym, ap, _∙_}
 use native.Mathlib.Omega.{arith}
 use lib.Seq.{length-take-le}
-use Rattle.reads.proofs.ReadLaws.{fills-front}
+use Rattle.player.proofs.ReadLaws.{fills-front}
 use Rattle.player.specs.Play.{radios-of}
 use Rattle.player.proofs.PlayLaws.{radios-of-le}
 use borrow.Author.Needs.{needs}

@@ -5,7 +5,7 @@ use native.Mathlib.Omega.{arith}
 use borrow.Author.Needs.{needs}
 use Rattle.mesh.specs.Limits.{max-radios}
 use Rattle.player.proofs.PlayLaws.{radios-of-le}
-use Rattle.site_script.specs.Course.{named-radios}
+use Rattle.site_program.specs.Course.{named-radios}
 use Rattle.site_program.proofs.source.radios.Statement.{statement}
 use Rattle.site_program.proofs.source.radios.Tie as tie
 

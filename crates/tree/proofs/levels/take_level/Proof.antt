@@ -7,7 +7,7 @@ use lib.ListN.{length}
 use borrow.Author.Needs.{needs}
 use Rattle.mesh.specs.Limits.{max-radios}
 use Rattle.lists.specs.Lists.{head-or}
-use Rattle.sets.specs.Sets.{common}
+use Rattle.rows.specs.Sets.{common}
 use Rattle.tree.specs.Trees.{lists}
 use Rattle.tree.proofs.ShellSets.{takes-none}
 use Rattle.tree.proofs.LevelLoop.{Levelling, levelling-none, levelling-to, levelling-later, levelling-next, levelling-end}

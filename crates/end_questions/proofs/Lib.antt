@@ -1,2 +1,0 @@
--- Laws of questions 4 to 7.
-pub mod EndsLaws

@@ -1,2 +1,0 @@
--- What the functions on a heard table come back with.
-pub mod Hearing

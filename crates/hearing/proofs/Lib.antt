@@ -1,0 +1,3 @@
+-- a hearing
+pub mod HearLoops
+pub mod HearCall

@@ -1,0 +1,2 @@
+-- the rows of a hearing, and its questions
+pub mod Hearings

@@ -1,0 +1,193 @@
+// A hearing: the site brought to the links that both ends hear, as if by single calls. The tables are checked once.
+ghost use mathlib.Core.Path.{_≡_};
+ghost use Prim.Native.Nat.{_≤_};
+ghost use lib.ListN.{length};
+ghost use Rattle.mesh.specs.Limits.{max-radios};
+ghost use Rattle.mesh.specs.Lent.{lent};
+ghost use Rattle.calls.specs.Contracts.{Hear-contract};
+ghost use Rattle.links.specs.Steps.{Prepared};
+ghost use Rattle.hearing.specs.Hearings.{Marked-hearing, Row-switched, Rows-switched, Brought, Hear-asked};
+use super::one_sided;
+use super::questions;
+use super::wanted;
+use calls::Refusal;
+use calls::Value;
+use links::step;
+use mesh::Site;
+use tables::sizes;
+
+// Takes the links of a to the listed radios up or down, one by one. Places and not-lower counts are the tables', before and after.
+fn switch_row(
+    up: bool,
+    n: u32,
+    a: u32,
+    list: &[u16],
+    links: &mut [u8],
+    numbers: &mut [u8],
+    order: &mut [u16],
+    places: &mut [u16; Site::RADIOS as usize],
+    highs: &mut [u8; Site::RADIOS as usize],
+)
+    requires { ⌜ Prepared n (lent links numbers order) (now places) (now highs) × (length (now list) ≤ max-radios) ⌝ }
+    ensures { λ _. ⌜ Row-switched up n a (now (list .entry)) (lent (links .entry) (numbers .entry) (order .entry))
+        (lent (links .exit) (numbers .exit) (order .exit)) (now (places .exit)) (now (highs .exit)) ⌝ }
+{
+    let mut i: usize = 0;
+    while i < list.len() {
+        step::step(
+            up,
+            n,
+            a,
+            list[i] as u32,
+            links,
+            numbers,
+            order,
+            places,
+            highs,
+        );
+        i += 1;
+    }
+}
+
+// Takes the links that are wanted up, or down, row by row; the ones of a row, at most as many as a radio may have neighbours, are listed
+// before the first of them. `further` has the one-sided pairs.
+fn switch_rows<'a>(
+    up: bool,
+    n: u32,
+    heard: &'a [u8],
+    further: &'a [u8],
+    links: &mut [u8],
+    numbers: &mut [u8],
+    order: &mut [u16],
+    places: &mut [u16; Site::RADIOS as usize],
+    highs: &mut [u8; Site::RADIOS as usize],
+)
+    requires { ⌜ Prepared n (lent links numbers order) (now places) (now highs) × Marked-hearing n (now heard) (now further) ⌝ }
+    ensures { λ _. ⌜ Rows-switched up n (now (heard .entry)) (lent (links .entry) (numbers .entry) (order .entry))
+        (lent (links .exit) (numbers .exit) (order .exit)) (now (places .exit)) (now (highs .exit)) ⌝ }
+{
+    let mut list = [0u16; Site::NEIGHBOURS as usize + 1];
+    let mut a: u32 = 0;
+    while a < n {
+        let k = wanted::list(up, heard, further, links, a, &mut list);
+        switch_row(up, n, a, &list[..k], links, numbers, order, places, highs);
+        a += 1;
+    }
+}
+
+// Links to go down, then links to come up.
+fn bring<'a>(
+    n: u32,
+    heard: &'a [u8],
+    further: &'a [u8],
+    links: &mut [u8],
+    numbers: &mut [u8],
+    order: &mut [u16],
+    places: &mut [u16; Site::RADIOS as usize],
+    highs: &mut [u8; Site::RADIOS as usize],
+)
+    requires { ⌜ Prepared n (lent links numbers order) (now places) (now highs) × Marked-hearing n (now heard) (now further) ⌝ }
+    ensures { λ _. ⌜ Brought n (now (heard .entry)) (lent (links .entry) (numbers .entry) (order .entry))
+        (lent (links .exit) (numbers .exit) (order .exit)) ⌝ }
+{
+    switch_rows(
+        false,
+        n,
+        heard,
+        further,
+        links,
+        numbers,
+        order,
+        places,
+        highs,
+    );
+    switch_rows(
+        true,
+        n,
+        heard,
+        further,
+        links,
+        numbers,
+        order,
+        places,
+        highs,
+    );
+}
+
+// Questions 1 to 3, 14 and 7 of a hearing whose further table has so many bytes. At 0, `places` and `highs` hold the place and the not-lower
+// count of each radio; else anything.
+fn refusal(
+    n: u32,
+    heard: &[u8],
+    further: usize,
+    links: &[u8],
+    numbers: &[u8],
+    order: &[u16],
+    places: &mut [u16; Site::RADIOS as usize],
+    highs: &mut [u8; Site::RADIOS as usize],
+) -> u32
+    requires { ⌜ (length (now places) ≡ max-radios) × (length (now highs) ≡ max-radios) ⌝ }
+    ensures { λ r. ⌜ Hear-asked n (now (heard .entry)) further (lent (links .entry) (numbers .entry) (order .entry)) (now (places .exit))
+        (now (highs .exit)) r ⌝ }
+{
+    let number = sizes::of_tables(Site { radios: n }, links.len(), numbers.len(), order.len());
+    if number != 0 {
+        return number;
+    }
+    if heard.len() != links.len() {
+        return Refusal::LENGTH;
+    }
+    if further != links.len() {
+        return Refusal::LENGTH;
+    }
+    if !soundness::examine(n, links, numbers, order, places, highs) {
+        return Refusal::UNSOUND;
+    }
+    questions::refusal(n, heard)
+}
+
+// Marks the one-sided pairs of the heard table in the further table, all its other bits zero, and brings the site to the agreed links: links
+// to go down, by lower radio and then higher, then links to come up, likewise. The value is the count of one-sided pairs. Refused by 1 to
+// 3, 14 or 7, the value is 0 and every table keeps its content.
+pub fn hear(
+    n: u32,
+    links: &mut [u8],
+    numbers: &mut [u8],
+    order: &mut [u16],
+    heard: &[u8],
+    further: &mut [u8],
+) -> Value
+    ensures { λ r. ⌜ Hear-contract n (now (heard .entry)) (lent (links .entry) (numbers .entry) (order .entry)) (now (further .entry)) r
+        (lent (links .exit) (numbers .exit) (order .exit)) (now (further .exit)) ⌝ }
+{
+    let mut places = [0u16; Site::RADIOS as usize];
+    let mut highs = [0u8; Site::RADIOS as usize];
+    let number = refusal(
+        n,
+        heard,
+        further.len(),
+        links,
+        numbers,
+        order,
+        &mut places,
+        &mut highs,
+    );
+    if number != 0 {
+        return Value { number, value: 0 };
+    }
+    let count = one_sided::mark(n, heard, further);
+    bring(
+        n,
+        heard,
+        further,
+        links,
+        numbers,
+        order,
+        &mut places,
+        &mut highs,
+    );
+    Value {
+        number: 0,
+        value: count,
+    }
+}

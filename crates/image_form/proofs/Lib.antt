@@ -1,2 +1,0 @@
--- Laws of the form of an image.
-pub mod FormLaws

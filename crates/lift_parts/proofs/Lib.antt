@@ -1,2 +1,0 @@
--- Laws of the tests, case by case.
-pub mod CounterLaws

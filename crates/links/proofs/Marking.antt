@@ -1,0 +1,76 @@
+-- A set of radios kept as one row: a list of radios marked in it, one after the other, and the set listed ascending.
+-- In order: all-marked, in-order.
+use mathlib.Core.Path.{_≡_, refl, ap, _∙_}
+use mathlib.Core.Logic.{_⊎_, inl, inr}
+use mathlib.Core.Bool.{Bool, true, false, _||_, cond}
+use mathlib.Core.List.{List, [], _∷_}
+use Prim.Native.Nat.{ℕ, _+_, _*_, _≤_, _<_, _/_}
+use native.Mathlib.Omega.{arith}
+use lib.Dec.{ltb, eqb}
+use lib.ListN.{length, replicate, length-replicate}
+use lib.Seq.{set-out}
+use borrow.Author.Tests.{eq-eqb, ne-eqb, ltb-true, ltb-false}
+use Rattle.mesh.specs.Limits.{max-radios, row-bytes}
+use Rattle.lists.proofs.Loops.{length-folded}
+use Rattle.lists.specs.Facts.{folded}
+use Rattle.lists.specs.Lists.{range, member}
+use Rattle.mesh.specs.Tables.{byte-at, marked, put-bit}
+use Rattle.lists.proofs.Tests.{bool-cases}
+use Rattle.lists.proofs.Range.{range-in}
+use Rattle.lists.proofs.Filter.{filter-ext}
+use Rattle.mesh.proofs.Tables.Laws.{length-put-bit, marked-put-bit, marked-replicate, byte-at-less}
+use Rattle.rows.specs.Rows.{neighbours-of, row-listed}
+use Rattle.rows.proofs.RowWords.{row-listed-whole}
+use Rattle.links.specs.Changes.{all-marked, in-order}
+
+-- ---- all-marked
+
+pub length-all-marked : (vs ts : List ℕ) → length (all-marked vs ts) ≡ length ts
+unfolding all-marked
+length-all-marked vs ts = length-folded (λ v now. put-bit true 0 v now) (λ v now. length-put-bit true 0 v now) vs ts
+
+put-bit-past : (on : Bool) (v : ℕ) (ts : List ℕ) → length ts ≡ row-bytes → max-radios ≤ v → put-bit on 0 v ts ≡ ts
+unfolding put-bit byte-at
+put-bit-past on v ts len h = set-out ts (row-bytes * 0 + v / 8) _ (omega arith)
+
+-- a radio past the row marks nothing, and is none of w's either
+pub marked-all-marked : (vs ts : List ℕ) (w : ℕ) → length ts ≡ row-bytes → w < max-radios
+    → marked (all-marked vs ts) 0 w ≡ (member w vs || marked ts 0 w)
+unfolding all-marked folded member
+marked-all-marked [] ts w len l = refl
+marked-all-marked (v ∷ vs) ts w len l =
+    marked-all-marked vs (put-bit true 0 v ts) w (length-put-bit true 0 v ts ∙ len) l
+    ∙ ap (λ (x : Bool). member w vs || x) (one (bool-cases (ltb v max-radios)))
+    ∙ either (member w vs) (eqb v w) (marked ts 0 w)
+  where
+    either : (x y z : Bool) → (x || cond y true z) ≡ ((y || x) || z)
+    either true true z = refl
+    either true false z = refl
+    either false true z = refl
+    either false false z = refl
+
+    one : (ltb v max-radios ≡ true) ⊎ (ltb v max-radios ≡ false) → marked (put-bit true 0 v ts) 0 w ≡ cond (eqb v w) true (marked ts 0 w)
+    one (inl e) =
+        let b = ltb-true v max-radios e in
+        marked-put-bit true 0 v ts 0 w b l (omega (arith, byte-at-less 1 0 v (omega arith) b)) ∙ rw (eq-eqb 0 0 refl)
+    one (inr e) =
+        let b = ltb-false v max-radios e in
+        rw (ne-eqb v w (λ same. omega arith)) (ap (λ (z : List ℕ). marked z 0 w) (put-bit-past true v ts len b))
+
+-- ---- in-order
+
+-- the set listed, once the list is marked in an empty row
+pub row-listed-all-marked : (vs ts : List ℕ) → ts ≡ replicate row-bytes 0 → row-listed (all-marked vs ts) 0 ≡ in-order vs
+unfolding in-order neighbours-of
+row-listed-all-marked vs ts e =
+    let len : length ts ≡ row-bytes = ap length e ∙ length-replicate {A = ℕ} row-bytes 0 in
+    row-listed-whole (all-marked vs ts) 0 (omega (arith, length-all-marked vs ts))
+    ∙ filter-ext (λ b. marked (all-marked vs ts) 0 b) (λ b. member b vs) (range 0 max-radios)
+    (λ w m. let l : w < max-radios = omega (arith, range-in 0 max-radios w m) in
+    marked-all-marked vs ts w len l
+    ∙ ap (λ (x : Bool). member w vs || x) (ap (λ (z : List ℕ). marked z 0 w) e ∙ marked-replicate row-bytes 0 w (byte-at-less 1 0 w (omega arith) l))
+    ∙ either (member w vs))
+  where
+    either : (x : Bool) → (x || false) ≡ x
+    either true = refl
+    either false = refl

@@ -1,0 +1,28 @@
+-- `apply::put_plan` meets its contract: each table is written by one call.
+use borrow.Author.Needs.{needs}
+use Rattle.links.proofs.ChangeLaws.{fits-true, stepped-fits}
+use Rattle.links.proofs.apply.put_plan.Statement.{statement}
+use Rattle.links.proofs.apply.put_plan.Tie as tie
+
+put-stretch-requires : tie.Need-put-stretch-requires
+put-stretch-requires c κs =
+    let s = c .before .before .before .before .before .before .before .before .before .before .before .before .before .before in
+    let fit = fits-true _ _ _ _ _ (s .pre) in
+    (fit .2, fit .1, fit .0)
+
+returns : tie.Need-returns
+returns c =
+    let stretched = c .before .before in
+    let numbered = stretched .before .before .before .before in
+    let linked = numbered .before .before .before .before in
+    let s = linked .before .before .before .before .before .before .before in
+    record {
+      links = linked .put-link .ensures;
+      numbers = stepped-fits _ _ _ _ (s .fits .step) (numbered .step-numbers .ensures);
+      order = stretched .put-stretch .ensures;
+    }
+
+pub put-plan-spec : {M : Type 1} → statement M
+put-plan-spec =
+    tie.close (
+    tie.spec (λ c κs. search needs) (λ c κs. search needs) put-stretch-requires (λ c. search needs) (λ c. search needs) (λ c. search needs) returns)

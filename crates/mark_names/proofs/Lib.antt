@@ -1,2 +1,0 @@
--- What is left of a list decides as the whole does.
-pub mod Left

@@ -1,2 +1,0 @@
--- The store as loops pass over it; what the calls promise is in mesh and calls.
-pub mod Store

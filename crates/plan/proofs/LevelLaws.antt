@@ -1,0 +1,91 @@
+-- The stretch of a level: which radios stand in it, and in which order their places are.
+-- In order: laws of lists, the radios of the stretch, places along what is left of it.
+use mathlib.Core.Path.{_≡_, refl, sym, ap, _∙_}
+use mathlib.Core.Logic.{_⊎_, inl, inr}
+use mathlib.Core.Bool.{Bool, true, false}
+use mathlib.Core.List.{List, [], _∷_}
+use Prim.Native.Nat.{ℕ, suc, _+_, _-_, _≤_, _<_}
+use native.Mathlib.Omega.{arith}
+use lib.ListN.{length, getD}
+use Rattle.mesh.specs.Limits.{max-radios}
+use Rattle.lists.specs.Lists.{member, head-or, In}
+use Rattle.lists.specs.Facts.{Distinct, Rising}
+use Rattle.mesh.specs.Tables.{marked}
+use Rattle.lists.proofs.Tests.{bool-cases}
+use Rattle.lists.proofs.Member.{member-in, in-getD, getD-of-in, head-or-below}
+use Rattle.rows.specs.Rows.{neighbours-of}
+use Rattle.rows.proofs.RowListLaws.{ascending-neighbours-of, in-neighbours-of, member-neighbours-of}
+use Rattle.plan.specs.Peels.{stretch, Level}
+use Rattle.plan.proofs.StretchLoops.{length-stretch, getD-stretch}
+use Rattle.lists.proofs.Ascending.{head-or-lowest, rising-index}
+
+-- ---- the lowest marked place
+
+module _ (fs : List ℕ) (p : ℕ) (first : p ≡ head-or max-radios (neighbours-of fs 0)) where
+  pub first-marked-in : p < max-radios → marked fs 0 p ≡ true
+  first-marked-in l =
+      rw first (in-neighbours-of fs 0 (head-or max-radios (neighbours-of fs 0)) (head-or-below max-radios (neighbours-of fs 0) (omega arith)) .1)
+
+  pub first-marked-least : (q : ℕ) → q < p → q < max-radios → marked fs 0 q ≡ false
+  first-marked-least q l lq = go (bool-cases (member q (neighbours-of fs 0)))
+    where
+      go : (member q (neighbours-of fs 0) ≡ true) ⊎ (member q (neighbours-of fs 0) ≡ false) → marked fs 0 q ≡ false
+      go (inl e) = absurd (omega (arith, head-or-lowest max-radios q (neighbours-of fs 0) (ascending-neighbours-of fs 0) (member-in q (neighbours-of fs 0) e)))
+      go (inr e) = sym (member-neighbours-of fs 0 q lq) ∙ e
+
+-- ---- the radios of the stretch
+
+module _ {f : ℕ → ℕ → Bool} {ns os ps : List ℕ} {k start size : ℕ} (lv : Level f ns os ps k start size) where
+  -- what stands at a place of the stretch
+  pub place-level : (p : ℕ) → start ≤ p → p < start + size → In (getD os p 0) (stretch os start size)
+  place-level p low high =
+      let i : start + (p - start) ≡ p = omega arith in
+      let at : getD (stretch os start size) (p - start) 0 ≡ getD os p 0 = getD-stretch os start size (p - start) (omega arith) ∙ ap (λ (x : ℕ). getD os x 0) i in
+      rw (← at) (in-getD (stretch os start size) (p - start) (omega (arith, length-stretch os start size (lv .fits))))
+
+  pub level-stretch : (v : ℕ) → v < length os → getD ns v 0 ≡ k → In v (stretch os start size)
+  level-stretch v l e = let r = lv .stands v l e in rw (r .2) at (place-level (getD ps v 0) (r .0) (r .1))
+
+  pub record Stands (v : ℕ) : Type 0 where
+    pub below : v < length os
+    pub level : getD ns v 0 ≡ k
+    pub low : start ≤ getD ps v 0
+    pub high : getD ps v 0 < start + size
+    pub entry : getD os (getD ps v 0) 0 ≡ v
+
+  stands-at : (v i : ℕ) → i < size → getD (stretch os start size) i 0 ≡ v → Stands v
+  stands-at v i l e =
+      let is : getD os (start + i) 0 ≡ v = sym (getD-stretch os start size i l) ∙ e in
+      let b : v < length os = rw is at (lv .radios (start + i) (omega (arith, lv .fits))) in
+      let at-level : getD ns v 0 ≡ k = rw is at (lv .numbered (start + i) (omega arith) (omega arith)) in
+      let r = lv .stands v b at-level in
+      record { below = b; level = at-level; low = r .0; high = r .1; entry = r .2 }
+
+  pub stretch-stands : (v : ℕ) → In v (stretch os start size) → Stands v
+  stretch-stands v m =
+      let r = getD-of-in v (stretch os start size) m in stands-at v (r .0) (omega (arith, r .1, length-stretch os start size (lv .fits))) (r .2)
+
+  -- radios of the level at one place are one
+  pub place-apart : (v w : ℕ) → v < length ns → w < length ns → getD ns v 0 ≡ k → getD ns w 0 ≡ k → getD ps v 0 ≡ getD ps w 0 → v ≡ w
+  place-apart v w l m e d q =
+      sym (lv .stands v (omega (arith, lv .numbers-length)) e .2) ∙ ap (λ (x : ℕ). getD os x 0) q ∙ lv .stands w (omega (arith, lv .numbers-length)) d .2
+
+  pub place-small : (v : ℕ) → v < length ns → getD ns v 0 ≡ k → getD ps v 0 < max-radios
+  place-small v l e = omega (arith, lv .stands v (omega (arith, lv .numbers-length)) e .1, lv .fits, lv .small)
+
+  pub rising-stretch : Rising (λ v. getD ps v 0) (stretch os start size)
+  rising-stretch = rising-index (λ v. getD ps v 0) start (stretch os start size) (λ j l.
+      let h : j < size = omega (arith, length-stretch os start size (lv .fits)) in
+      ap (λ (x : ℕ). getD ps x 0) (getD-stretch os start size j h) ∙ lv .placed (start + j) (omega arith) (omega arith))
+
+  pub distinct-stretch : Distinct (stretch os start size)
+  distinct-stretch = distinct-index start (stretch os start size) (λ j l.
+      let h : j < size = omega (arith, length-stretch os start size (lv .fits)) in
+      ap (λ (x : ℕ). getD ps x 0) (getD-stretch os start size j h) ∙ lv .placed (start + j) (omega arith) (omega arith))
+    where
+      distinct-index : (i : ℕ) (xs : List ℕ) → ((j : ℕ) → j < length xs → getD ps (getD xs j 0) 0 ≡ i + j) → Distinct xs
+      distinct-index i [] h = tt
+      distinct-index i (x ∷ xs) h = (
+        λ m. (let r = getD-of-in x xs m in omega (arith, r .1, h 0 (omega arith), h (suc (r .0)) (omega (arith, r .1)), ap (λ (y : ℕ). getD ps y 0) (r .2))),
+        distinct-index (suc i) xs (λ j l. h (suc j) (omega arith) ∙ omega arith),
+      )

@@ -1,0 +1,89 @@
+-- What a turn of the walk that holds a radio writes into its tables, as the turns of crate walks ask it: its counter, and the places of its
+-- later neighbours.
+use mathlib.Core.Path.{_≡_, refl, sym, ap, _∙_}
+use mathlib.Core.Logic.{_⊎_, inl, inr}
+use mathlib.Core.Bool.{Bool, true, false, _&&_, _||_, cond}
+use mathlib.Core.List.{List, _∷_}
+use Prim.Native.Nat.{ℕ, _+_, _*_, _-_, _/_, _%_, _≤_, _<_}
+use native.Mathlib.Omega.{arith}
+use lib.Dec.{eqb}
+use lib.ListN.{length, getD, set}
+use borrow.Author.Tests.{eqb-false, ne-eqb}
+use Rattle.mesh.specs.Limits.{max-radios, row-bytes}
+use Rattle.lists.specs.Lists.{In}
+use Rattle.mesh.specs.Tables.{marked, put-bit}
+use Rattle.lists.proofs.Tests.{bool-cases, never}
+use Rattle.lists.proofs.Member.{member-in}
+use Rattle.mesh.proofs.Tables.Laws.{length-put-bit}
+use Rattle.rows.specs.Rows.{neighbours-of}
+use Rattle.rows.proofs.RowListLaws.{in-neighbours-of, member-neighbours-of}
+use Rattle.plan.proofs.TurnLaws.{marked-put, cleared-other}
+use Rattle.walks.proofs.Turns.{Held}
+use Rattle.plan.specs.Walks.{is-later, places-touched}
+use Rattle.plan.proofs.WalkLoops.{Small, length-touched, touched-keeps, touched-marks, touched-only}
+use lib.Seq.{getD-set-same, getD-set-other}
+use Rattle.plan.proofs.WalkReleased.{marked-small}
+
+module _ (f : ℕ → ℕ → Bool) (most first : ℕ) (above part ns ps : List ℕ) (x p c : ℕ) (us : List ℕ)
+    (row-is : (w : ℕ) → w < max-radios → marked us x w ≡ f x w) (within : (w : ℕ) → f x w ≡ true → w < max-radios) (cs fs : List ℕ)
+    (known : x < length cs) (long : length fs ≡ row-bytes) (lp : first + p < max-radios) (later : List ℕ)
+    (stands : (w : ℕ) → In w later → (first + p < getD ps w 0) × (is-later most (first + p) ns ps w ≡ true))
+    (back : (w : ℕ) → f x w ≡ true → is-later most (first + p) ns ps w ≡ true → In w later)
+    (low : (w : ℕ) → In w later → getD ps w 0 < max-radios) where
+  abbrev near : List ℕ
+  near = neighbours-of us x
+
+  abbrev pos : ℕ → ℕ
+  pos v = getD ps v 0 - first
+
+  abbrev fs0 : List ℕ
+  fs0 = put-bit false 0 (first + p) fs
+
+  abbrev fs1 : List ℕ
+  fs1 = places-touched most (first + p) ns ps near fs0
+
+  long0 : length fs0 ≡ row-bytes
+  long0 = length-put-bit false 0 (first + p) fs ∙ long
+
+  long1 : length fs1 ≡ row-bytes
+  long1 = length-touched most (first + p) ns ps near fs0 ∙ long0
+
+  near-joined : (w : ℕ) → In w near → f x w ≡ true
+  near-joined w m = let r = in-neighbours-of us x w m in sym (row-is w (r .0)) ∙ r .1
+
+  small : Small most (first + p) ns ps near
+  small w m t = low w (back w (near-joined w m) t)
+
+  only-at : (q : ℕ) → marked fs1 0 (first + q) ≡ true → ((q ≡ p → ⊥) × (marked fs 0 (first + q) ≡ true)) ⊎ ((w : ℕ) × In w later × (pos w ≡ q))
+  only-at q t = go (touched-only most (first + p) ns ps near fs0 small long0 (first + q) l t)
+    where
+      l : first + q < max-radios
+      l = marked-small fs1 (first + q) long1 t
+
+      go : (marked fs0 0 (first + q) ≡ true) ⊎ ((w : ℕ) × In w near × (is-later most (first + p) ns ps w ≡ true) × (getD ps w 0 ≡ first + q))
+          → ((q ≡ p → ⊥) × (marked fs 0 (first + q) ≡ true)) ⊎ ((w : ℕ) × In w later × (pos w ≡ q))
+      go (inl u) = inl (cleared-other first p q fs long lp l u)
+      go (inr (w, m, u, e)) = inr (w, back w (near-joined w m) u, omega arith)
+
+  pub held-is : Held f most above part pos x p c later (λ v. getD cs v 0) (λ v. getD (set cs x c) v 0) (λ q. marked fs 0 (first + q)) (λ q. marked fs1 0 (first + q))
+  held-is = record {
+    own = getD-set-same cs x c 0 known;
+    other = λ w ne. getD-set-other cs x w c 0 ne;
+    cleared = next-false (bool-cases (marked fs1 0 (first + p)));
+    kept = λ q ne t. (let l = marked-small fs (first + q) long t in
+        touched-keeps most (first + p) ns ps near fs0 small long0 (first + q) l
+        (marked-put false (first + p) (first + q) fs long lp l ∙ rw (ne-eqb (first + p) (first + q) (λ s. ne (omega arith))) t));
+    touches = λ w m e. (let s = stands w m in
+        let is : first + (getD ps w 0 - first) ≡ getD ps w 0 = omega (arith, s .0) in
+        rw is (touched-marks most (first + p) ns ps near fs0 small long0 w
+        (member-in w near (member-neighbours-of us x w (within w e) ∙ row-is w (within w e) ∙ e)) (s .1)));
+    only = only-at;
+  }
+    where
+      not-p : ((p ≡ p → ⊥) × (marked fs 0 (first + p) ≡ true)) ⊎ ((w : ℕ) × In w later × (pos w ≡ p)) → ⊥
+      not-p (inl q) = q .0 refl
+      not-p (inr (w, m, e)) = omega (arith, stands w m .0)
+
+      next-false : (marked fs1 0 (first + p) ≡ true) ⊎ (marked fs1 0 (first + p) ≡ false) → marked fs1 0 (first + p) ≡ false
+      next-false (inl t) = absurd (not-p (only-at p t))
+      next-false (inr t) = t

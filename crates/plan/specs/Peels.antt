@@ -1,0 +1,87 @@
+-- The peel of a level, as its loop sees it: f tells neighbours after the call.
+--   stretch order start size   the entries of the level's stretch
+--   above order start size     the entries after it
+--   linked-after               neighbours after the call
+--   Level                      what the peel is made from: numbers, order and places that fit together, and neighbours after the call
+--   Turning                    so many radios are taken, what is left, its counters and the fitting places
+--   Whole-counted              the counters of all radios of the level, taken or not: as the peel of a thin level keeps them
+--   Left-set                   a set that has all radios but the taken
+--   Peel-ready                 the same before the first turn, with rows and room for the loop
+--   Peel-done                  what the loop comes back with: the taken in front of the list, the stuck by their counters
+-- Laws are in proofs/LevelLaws.antt and proofs/PeelTurns.antt. Definitions only.
+use mathlib.Core.Path.{_≡_}
+use mathlib.Core.Bool.{Bool, true, false, not, _&&_}
+use mathlib.Core.List.{List, []}
+use Prim.Native.Nat.{ℕ, _+_, _*_, _≤_, _<_}
+use lib.Dec.{ltb, leb}
+use lib.ListN.{length, getD, take, drop}
+use Rattle.mesh.specs.Limits.{max-radios, row-bytes}
+use Rattle.lists.specs.Lists.{count, filter, member, In}
+use Rattle.mesh.specs.Graph.{linked, relinked}
+use Rattle.mesh.specs.Tables.{marked, put-link, graph-in}
+use Rattle.mesh.specs.Peel.{Takes, Peels}
+use Rattle.rows.specs.Sets.{in-set}
+use Rattle.plan.specs.Places.{level-start, level-size}
+
+abbrev pub stretch : (order : List ℕ) → (start size : ℕ) → List ℕ
+stretch os start size = take size (drop start os)
+
+abbrev pub above : (order : List ℕ) → (start size : ℕ) → List ℕ
+above os start size = drop (start + size) os
+
+abbrev pub linked-after : (up : Bool) → (a b n : ℕ) → (links : List ℕ) → (v w : ℕ) → Bool
+linked-after up a b n ts v w = linked (relinked up a b (graph-in n ts)) v w
+
+pub record Level (f : ℕ → ℕ → Bool) (numbers order places : List ℕ) (k start size : ℕ) : Type 0 where
+  pub small : length order ≤ max-radios
+  pub numbers-length : length numbers ≡ length order
+  pub places-length : length order ≤ length places
+  pub fits : start + size ≤ length order
+  pub radios : (p : ℕ) → p < length order → getD order p 0 < length order
+  pub placed : (p : ℕ) → start ≤ p → p < start + size → getD places (getD order p 0) 0 ≡ p
+  pub numbered : (p : ℕ) → start ≤ p → p < start + size → getD numbers (getD order p 0) 0 ≡ k
+  pub stands :
+      (v : ℕ) → v < length order → getD numbers v 0 ≡ k →
+      (start ≤ getD places v 0) × (getD places v 0 < start + size) × (getD order (getD places v 0) 0 ≡ v)
+  pub within : (v w : ℕ) → f v w ≡ true → w < length order
+  pub irreflexive : (v : ℕ) → f v v ≡ false
+  pub symmetric : (v w : ℕ) → f v w ≡ f w v
+
+pub record Turning (f : ℕ → ℕ → Bool) (most : ℕ) (order places : List ℕ) (start size : ℕ) (taken counters fits : List ℕ) : Type 0 where
+  pub rest : List ℕ
+  pub takes : Takes f most (above order start size) (stretch order start size) taken rest
+  pub counted :
+      (v : ℕ) → In v rest → getD counters v 0 ≡ count (f v) rest + count (f v) (above order start size)
+  pub fitting :
+      (v : ℕ) → In v (stretch order start size) → marked fits 0 (getD places v 0) ≡ (member v rest && leb (getD counters v 0) most)
+  pub standing : (p : ℕ) → p < max-radios → marked fits 0 p ≡ true → (start ≤ p) × (p < start + size)
+  pub spent : (v : ℕ) → In v taken → getD counters v 0 ≤ most
+  pub counters-long : length order ≤ length counters
+  pub fits-long : length fits ≡ row-bytes
+
+abbrev pub Whole-counted : (f : ℕ → ℕ → Bool) → (order : List ℕ) → (start size : ℕ) → (taken counters : List ℕ) → Type 0
+Whole-counted f os start size ts cs =
+    (v : ℕ) → In v (stretch os start size) →
+    getD cs v 0 + count (f v) ts ≡ count (f v) (stretch os start size) + count (f v) (above os start size)
+
+pub record Left-set (taken left : List ℕ) : Type 0 where
+  pub long : length left ≡ 8
+  pub has : (v : ℕ) → v < max-radios → in-set left v ≡ not (member v taken)
+
+pub record Peel-ready (up : Bool) (a b k most : ℕ) (links numbers order places counters fits : List ℕ) (list-room : ℕ) : Type 0 where
+  pub level : Level (linked-after up a b (length order) links) numbers order places k (level-start numbers k) (level-size numbers k)
+  pub differ : a ≡ b → ⊥
+  pub ends : (a < length order) × (b < length order)
+  pub links-length : length links ≡ row-bytes * length order
+  pub row-is :
+      (v w : ℕ) → v < length order → w < max-radios → marked (put-link up a b links) v w ≡ linked-after up a b (length order) links v w
+  pub list-long : level-size numbers k ≤ list-room
+  pub turning :
+      Turning (linked-after up a b (length order) links) most order places (level-start numbers k) (level-size numbers k) [] counters fits
+
+pub record Peel-done (up : Bool) (a b k most : ℕ) (links numbers order : List ℕ) (taken : ℕ) (counters list : List ℕ) : Type 0 where
+  pub fits : taken ≤ level-size numbers k
+  pub peels :
+      Peels (linked-after up a b (length order) links) most (above order (level-start numbers k) (level-size numbers k))
+      (stretch order (level-start numbers k) (level-size numbers k)) (take taken list)
+      (filter (λ v. ltb most (getD counters v 0)) (stretch order (level-start numbers k) (level-size numbers k)))

@@ -1,0 +1,111 @@
+// The plan of a link call: its questions, and the lower end's stretch laid out anew, by one peel up and down alike, or going up by the walk.
+// Nothing of the tables is written.
+ghost use mathlib.Core.Path.{_≡_};
+ghost use mathlib.Core.Bool.{true, false};
+ghost use Prim.Native.Nat.{_≤_, _<_, _+_, min};
+ghost use lib.ListN.{length, getD};
+ghost use Rattle.lists.specs.Lists.{range};
+ghost use Rattle.mesh.specs.Limits.{max-radios};
+ghost use Rattle.mesh.specs.Tables.{tables, graph-in};
+ghost use Rattle.mesh.specs.Lent.{lent};
+ghost use Rattle.mesh.specs.Peel.{bound};
+ghost use Rattle.plan.specs.Turns.{places-fitting, ends-counted, Begin-ready};
+ghost use Rattle.plan.specs.Peels.{Peel-ready, Peel-done};
+ghost use Rattle.plan.specs.Plans.{Ready, Planned};
+ghost use Rattle.plan.specs.Asked.{Plan-contract};
+use super::ends;
+use super::fall;
+use super::planned::Plan;
+use super::questions;
+use super::rise;
+use super::stretch;
+use super::turn::Call;
+use mesh::Site;
+use tables::fill;
+
+// Plans the link a-b going up or down: writes what stands in the order from the plan's start on after, in front of `stretch`; later
+// entries and the counters hold anything.
+pub fn plan_link(
+    up: bool,
+    a: u32,
+    b: u32,
+    links: &[u8],
+    numbers: &[u8],
+    order: &[u16],
+    places: &[u16; Site::RADIOS as usize],
+    highs: &mut [u8; Site::RADIOS as usize],
+    stretch: &mut [u16; Site::RADIOS as usize],
+) -> Plan
+    requires ready { ⌜ Ready up (length (now order)) a b (tables (now links) (now numbers) (now order)) (now places) (now highs) ⌝ }
+    requires room { ⌜ length (now stretch) ≡ max-radios ⌝ }
+    ensures { λ r. ⌜ Planned up a b (graph-in (length (now (order .entry))) (now (links .entry))) (now (order .entry)) (r .start)
+        (r .size) (r .taken) (now (stretch .exit)) ⌝ }
+{
+    if up {
+        return rise::plan_up(a, b, links, numbers, order, places, highs, stretch);
+    }
+    fall::plan_down(a, b, links, numbers, order, places, highs, stretch)
+}
+
+// A refusal number, and where it is 0 a plan.
+pub struct Decision {
+    pub number: u32,
+    pub plan: Plan,
+}
+
+// Plans the link a-b going up or down: the refusal number of its questions, 1 to 7 or 1 to 6, and at 0 the plan, with what it lays out
+// anew of the lower end's stretch in front of `stretch`, whose later entries hold anything. `answer` is the answer table's length; `stretch`
+// must be as long. A refusal leaves `stretch` as it was.
+pub fn plan(
+    up: bool,
+    n: u32,
+    a: u32,
+    b: u32,
+    links: &[u8],
+    numbers: &[u8],
+    order: &[u16],
+    answer: usize,
+    stretch: &mut [u16; Site::RADIOS as usize],
+) -> Decision
+    ensures { λ r. ⌜ Plan-contract up n a b (lent (links .entry) (numbers .entry) (order .entry)) answer (now (stretch .entry))
+        (r .number) (r .plan .start) (r .plan .size) (r .plan .taken) (now (stretch .exit)) ⌝ }
+{
+    let mut places = [0u16; Site::RADIOS as usize];
+    let mut highs = [0u8; Site::RADIOS as usize];
+    let lent: &[u16] = stretch;
+    let room = fill::least(answer, lent.len());
+    let number = questions::refusal(
+        up,
+        n,
+        a,
+        b,
+        links,
+        numbers,
+        order,
+        room,
+        &mut places,
+        &mut highs,
+    );
+    if number != 0 {
+        return Decision {
+            number,
+            plan: Plan {
+                start: 0,
+                size: 0,
+                taken: 0,
+            },
+        };
+    }
+    let plan = plan_link(
+        up,
+        a,
+        b,
+        links,
+        numbers,
+        order,
+        &places,
+        &mut highs,
+        stretch,
+    );
+    Decision { number, plan }
+}

@@ -1,1 +1,0 @@
--- What the contracts of the printer cite, for its callers too.

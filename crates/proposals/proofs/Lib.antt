@@ -1,2 +1,0 @@
--- Asking and committing meet their contracts, on plain values.
-pub mod ProposalLaws

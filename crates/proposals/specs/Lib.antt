@@ -1,2 +1,0 @@
--- What committing holds a proposal against.
-pub mod Proposed

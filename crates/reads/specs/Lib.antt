@@ -1,2 +1,0 @@
--- The reads of a run.
-pub mod Reads

@@ -1,2 +1,0 @@
--- Refusals in words.
-pub mod Words

@@ -1,6 +1,0 @@
--- Document 01's conditions row by row. `RowByRow`: tables are sound exactly when numbers rise along the order and every row is good.
--- `FirstLater`: the later neighbours of a radio, and the first of them, by its row and by the order. `HighestWord`: a word marks radios
--- of the site alone exactly when it is not above the highest such word.
-pub mod RowByRow
-pub mod FirstLater
-pub mod HighestWord

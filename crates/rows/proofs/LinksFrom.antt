@@ -1,0 +1,70 @@
+-- Laws of the links from a row on.
+-- In order: what is left, links counted.
+use mathlib.Core.Path.{_≡_, ap, _∙_}
+use mathlib.Core.List.{List, [], _++_, flatMap}
+use Prim.Native.Nat.{ℕ, suc, _+_, _*_, _-_, _≤_, _<_}
+use native.Mathlib.Omega.{arith}
+use lib.ListN.{length, drop, length-append}
+use lib.Seq.{drop-append-le, drop-nil}
+use Rattle.mesh.specs.Limits.{max-radios}
+use Rattle.lists.specs.Lists.{range}
+use Rattle.mesh.specs.Graph.{Link, link-of}
+use Rattle.lists.proofs.Map.{length-map, drop-map}
+use Rattle.rows.specs.Rows.{neighbours-above}
+use Rattle.rows.specs.Links.{links-to, links-above, links-from, Rows-listed}
+
+-- ---- what is left
+
+module _ (n : ℕ) (ts : List ℕ) where
+  rows-next : (a : ℕ) → a < n → flatMap (links-above ts) (range a (n - a)) ≡ links-above ts a ++ flatMap (links-above ts) (range (a + 1) (n - (a + 1)))
+  unfolding flatMap range
+  rows-next a h =
+      let e : n - a ≡ suc (n - (a + 1)) = omega arith in
+      let f : suc a ≡ a + 1 = omega arith in rw (e, f)
+
+  length-links-above : (a : ℕ) → length (links-above ts a) ≡ length (neighbours-above ts a)
+  unfolding links-above
+  length-links-above a = length-map (link-of a) (neighbours-above ts a)
+
+  pub links-from-row : (a p : ℕ) → a < n → p ≤ length (neighbours-above ts a)
+      → links-from n ts a p ≡ links-to a (drop p (neighbours-above ts a)) ++ links-from n ts (a + 1) 0
+  unfolding links-from links-above
+  links-from-row a p h l =
+      ap (drop p) (rows-next a h)
+      ∙ drop-append-le p (links-above ts a) (flatMap (links-above ts) (range (a + 1) (n - (a + 1)))) (omega (arith, length-links-above a))
+      ∙ ap (λ (ls : List Link). ls ++ flatMap (links-above ts) (range (a + 1) (n - (a + 1)))) (drop-map (link-of a) p (neighbours-above ts a))
+
+  pub links-from-end : (a p : ℕ) → n ≤ a → links-from n ts a p ≡ []
+  unfolding links-from flatMap range
+  links-from-end a p h = let e : n - a ≡ 0 = omega arith in rw e (drop-nil p)
+
+-- ---- links counted: the links of the rows below a
+
+pub record Counting (n : ℕ) (ts : List ℕ) (room m a : ℕ) : Type 0 where
+  pub low : a ≤ n
+  pub small : m ≤ max-radios * a
+  pub is : Rows-listed n ts room → m + length (links-from n ts a 0) ≡ length (links-from n ts 0 0)
+
+module _ (n : ℕ) (ts : List ℕ) (room : ℕ) where
+  pub counting-none : Counting n ts room 0 0
+  counting-none = record { low = omega arith; small = omega arith; is = λ rows. omega arith }
+
+  pub counting-turn : (m a k : ℕ) → Counting n ts room m a → a < n → k ≤ max-radios
+      → (Rows-listed n ts room → k ≡ length (neighbours-above ts a)) → Counting n ts room (m + k) (a + 1)
+  counting-turn m a k c h few e =
+      record {
+        low = omega arith;
+        small = omega (arith, c .small);
+        is =
+            λ rows. omega (
+              arith,
+              c .is rows,
+              e rows,
+              ap length (links-from-row n ts a 0 h (omega arith)),
+              length-append (links-to a (neighbours-above ts a)) (links-from n ts (a + 1) 0),
+              length-map (link-of a) (neighbours-above ts a),
+            );
+      }
+
+  pub counting-end : (m a : ℕ) → Counting n ts room m a → n ≤ a → Rows-listed n ts room → m ≡ length (links-from n ts 0 0)
+  counting-end m a c h rows = omega (arith, c .is rows, ap length (links-from-end n ts a 0 h))

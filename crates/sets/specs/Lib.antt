@@ -1,2 +1,0 @@
--- What the contracts of the sets cite beside the definitions of rows and mesh.
-pub mod Sets
