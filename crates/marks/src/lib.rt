@@ -10,10 +10,8 @@ ghost use Rattle.marks.specs.Placing.{Markable, mark-place, put-place};
 use calls::Refusal;
 use image_reader::reader;
 use image_writer::writer;
-use places;
 use places::NAME;
 use places::PLACE;
-use store;
 use store::PLACES;
 use tables::fill;
 

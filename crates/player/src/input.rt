@@ -174,7 +174,7 @@ pub fn fill(fd: i32, most: usize, line: bool, buffer: &mut [u8]) -> Brought
 {
     let mut chunk = io::buffer();
     let mut at: usize = 0;
-    let mut left = most();
+    let mut left = crate::input::most();
     while left > 0 {
         left -= 1;
         let got = fill_on(fd, most, at, &mut chunk, buffer);

@@ -28,7 +28,6 @@ use mesh::Site;
 use player::faults;
 use player::input;
 use player::input::Ends;
-use refusals;
 use verbs::Text;
 use verbs::Verb;
 
