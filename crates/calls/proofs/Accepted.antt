@@ -12,65 +12,29 @@
 --   read-right           the tables of an accepted image are sound, and written again they give the same bytes
 --   read-what-was-written   sound tables, written and read, are the same tables
 --   block-right          what a step of the block reader gives
-use mathlib.Core.Path.{_≡_, refl, sym, ap, subst, _∙_}
-use mathlib.Core.Logic.{_⊎_, inl, inr, _↔_}
-use mathlib.Core.Bool.{Bool, true, false, not, cond}
-use mathlib.Core.List.{List}
-use Prim.Native.Nat.{ℕ, _/_, _<_}
-use native.Mathlib.Omega.{arith}
-use lib.Dec.{ltb, eqb}
-use lib.IntN.{ℤ}
-use lib.ListN.{length, getD, take, drop, List·getD-append}
-use lib.Seq.{ext-getD}
-use borrow.Author.Tests.{ltb-true, ltb-false, eq-eqb, ne-eqb, not-true}
-use Rattle.mesh.specs.Limits.{max-neighbours}
-use Rattle.lists.specs.Lists.{range, filter, member, overwrite, In, Ascending, Entries-below}
-use Rattle.mesh.specs.Graph.{Graph, linked, radios, relinked, Allowed}
-use Rattle.mesh.specs.Cores.{Core, number, numbers}
-use Rattle.mesh.specs.Orders.{is-k-order, nobody}
-use Rattle.mesh.specs.Levels.{changed}
-use Rattle.mesh.specs.Tables.{Tables, graph-in, tables-of, Tables-of-size}
-use Rattle.mesh.specs.Sound.{sound}
-use Rattle.mesh.specs.Connected.{core-of, backbone}
-use Rattle.mesh.specs.Tree.{tree, node-name, node-names}
-use Rattle.mesh.specs.Image.{block-bytes, image-of, image-graph, image-order, is-image, payload-at}
-use Rattle.mesh.specs.declared.Node.{Node}
-use Rattle.lists.proofs.Tests.{never}
-use Rattle.lists.proofs.Map.{length-map, getD-map-range}
-use Rattle.lists.proofs.Filter.{member-filter}
-use Rattle.lists.proofs.Range.{length-range, in-range, once-below}
-use Rattle.lists.proofs.Overwrite.{take-overwrite, drop-overwrite}
-use Rattle.mesh.proofs.Cores.Peeling.{number-core, number-unique, length-numbers, getD-numbers}
-use Rattle.mesh.proofs.Cores.KOrders.{k-order-certificate}
-use Rattle.mesh.proofs.Cores.Later.{first-is-first, nobody-none}
-use Rattle.mesh.proofs.Tables.ReadBack.{graph-in-links-table}
-use Rattle.mesh.proofs.Tables.Soundness.{sound-iff, valid-sound}
-use Rattle.mesh.proofs.Tables.Sites.{image-valid}
-use Rattle.mesh.proofs.Trees.Reach.{core-of-iff}
-use Rattle.mesh.proofs.Trees.Unique.{tree-iff, node-name-iff}
-use Rattle.mesh.proofs.Trees.Listed.{changed-ascending, core-ascending, backbone-ascending, backbone-iff}
-use Rattle.mesh.proofs.Links.Tables.{graph-in-put-link, rows-put-link}
-use Rattle.mesh.proofs.Links.Laws.{link-valid}
-use Rattle.mesh.proofs.Images.Of.{length-image-of, whole-blocks-image-of, checks-good-image-of}
-use Rattle.mesh.proofs.Images.Sites.{written-read}
-use Rattle.mesh.proofs.Images.Tables.{valid-graph-in, is-image-sound, is-image-tables, tables-read-written}
-use Rattle.mesh.specs.Valid.{Valid}
-use Rattle.calls.specs.Questions.{lengths-of, image-length, tables-refusal, link-refusal}
-use Rattle.calls.specs.Questions.{radio-refusal, core-refusal, backbone-refusal, write-refusal, read-refusal}
-use Rattle.calls.specs.Questions.{sheet-refusal}
-use Rattle.calls.specs.Sheet.{sheet, sheet-length}
-use Rattle.calls.specs.Switches.{switch, switched}
-use Rattle.calls.specs.Outcomes.{Numbered, numbered, Linked, Asked, Committed, Listing, listing, Treed, value, link-outcome, ask-outcome, commit-outcome, read-outcome}
-use Rattle.calls.specs.Outcomes.{value-outcome, check-outcome, number-outcome, later-outcome, listing-outcome, core-outcome, backbone-outcome, tree-outcome, sheet-outcome}
-use Rattle.calls.specs.Outcomes.{write-outcome, no-block, block-or-end, block-outcome}
-use Rattle.calls.specs.Results.{Numbers-right, Site-right, Listed, Link-right, Core-listed, Backbone-listed, Tree-listed, Written-right, Read-right}
-use Rattle.calls.specs.Results.{Ask-right, Commit-right, Block-part, Block-end, Later-right, Sheet-right}
-use Rattle.calls.specs.declared.Value.{Value}
-use Rattle.calls.specs.declared.Later.{Later}
-use Rattle.calls.specs.declared.Block.{Block}
-use Rattle.calls.proofs.ContractLaws.{accepted-is, by-zero}
-use Rattle.calls.proofs.ChainLaws.{lent-zero, Site-good, link-zero, commit-zero, radio-zero, core-zero, write-zero, read-zero, read-yes, sheet-zero}
-use Rattle.calls.proofs.SheetLaws.{sheet-fits, length-sheet, columns-front, columns-by}
+use Rattle.lists.{specs.Kit.{_≡_, refl, sym, ap, subst, _∙_, _⊎_, inl, inr, _↔_, Bool, true, false, not, cond, List, ℕ, _/_, _<_, arith, ltb, eqb, ℤ, length}}
+use Rattle.lists.{specs.Kit.{getD, take, drop, List·getD-append, ext-getD, ltb-true, ltb-false, eq-eqb, ne-eqb, not-true}, specs.Lists.{range, filter, member}}
+use Rattle.lists.{specs.Lists.{overwrite, In, Ascending, Entries-below}, proofs.Tests.{never}, proofs.Map.{length-map, getD-map-range}}
+use Rattle.lists.{proofs.Filter.{member-filter}, proofs.Range.{length-range, in-range, once-below}, proofs.Overwrite.{take-overwrite, drop-overwrite}}
+use Rattle.mesh.{specs.Limits.{max-neighbours}, specs.Graph.{Graph, linked, radios, relinked, Allowed}, specs.Cores.{Core, number, numbers}}
+use Rattle.mesh.{specs.Orders.{is-k-order, nobody}, specs.Levels.{changed}, specs.Tables.{Tables, graph-in, tables-of, Tables-of-size}, specs.Sound.{sound}}
+use Rattle.mesh.{specs.Connected.{core-of, backbone}, specs.Tree.{tree, node-name, node-names}, specs.Image.{block-bytes, image-of, image-graph, image-order}}
+use Rattle.mesh.{specs.Image.{is-image, payload-at}, specs.declared.Node.{Node}, proofs.Cores.Peeling.{number-core, number-unique, length-numbers}}
+use Rattle.mesh.{proofs.Cores.Peeling.{getD-numbers}, proofs.Cores.KOrders.{k-order-certificate}, proofs.Cores.Later.{first-is-first, nobody-none}}
+use Rattle.mesh.{proofs.Tables.ReadBack.{graph-in-links-table}, proofs.Tables.Soundness.{sound-iff, valid-sound}, proofs.Tables.Sites.{image-valid}}
+use Rattle.mesh.{proofs.Trees.Reach.{core-of-iff}, proofs.Trees.Unique.{tree-iff, node-name-iff}, proofs.Trees.Listed.{changed-ascending, core-ascending}}
+use Rattle.mesh.{proofs.Trees.Listed.{backbone-ascending, backbone-iff}, proofs.Links.Tables.{graph-in-put-link, rows-put-link}, proofs.Links.Laws.{link-valid}}
+use Rattle.mesh.{proofs.Images.Of.{length-image-of, whole-blocks-image-of, checks-good-image-of}, proofs.Images.Sites.{written-read}}
+use Rattle.mesh.{proofs.Images.Tables.{valid-graph-in, is-image-sound, is-image-tables, tables-read-written}, specs.Valid.{Valid}}
+use Rattle.calls.specs.{Questions.{lengths-of, image-length, tables-refusal, link-refusal, radio-refusal, core-refusal, backbone-refusal, write-refusal}}
+use Rattle.calls.specs.{Questions.{read-refusal, sheet-refusal}, Sheet.{sheet, sheet-length}, Switches.{switch, switched}, Outcomes.{Numbered, numbered}}
+use Rattle.calls.specs.{Outcomes.{Linked, Asked, Committed, Listing, listing, Treed, value, link-outcome, ask-outcome, commit-outcome, read-outcome}}
+use Rattle.calls.specs.{Outcomes.{value-outcome, check-outcome, number-outcome, later-outcome, listing-outcome, core-outcome, backbone-outcome}}
+use Rattle.calls.specs.{Outcomes.{tree-outcome, sheet-outcome, write-outcome, no-block, block-or-end, block-outcome}, Results.{Numbers-right, Site-right}}
+use Rattle.calls.specs.{Results.{Listed, Link-right, Core-listed, Backbone-listed, Tree-listed, Written-right, Read-right, Ask-right, Commit-right}}
+use Rattle.calls.specs.{Results.{Block-part, Block-end, Later-right, Sheet-right}, declared.Value.{Value}, declared.Later.{Later}, declared.Block.{Block}}
+use Rattle.calls.proofs.{ContractLaws.{accepted-is, by-zero}, ChainLaws.{lent-zero, Site-good, link-zero, commit-zero, radio-zero, core-zero}}
+use Rattle.calls.proofs.{ChainLaws.{write-zero, read-zero, read-yes, sheet-zero}, SheetLaws.{sheet-fits, length-sheet, columns-front, columns-by}}
 
 -- ---- a list in front of a lent list
 

@@ -1,13 +1,8 @@
 -- Worked batches, computed from the definitions, on four radios without links.
-use mathlib.Core.Path.{_≡_, refl}
-use mathlib.Core.Bool.{true, false}
-use mathlib.Core.List.{List, [], _∷_}
-use Prim.Native.Nat.{ℕ}
-use Rattle.lists.specs.Lists.{range, count, member}
-use Rattle.mesh.specs.Graph.{Link, radios, other-ends, linked, neighbours-among, degree, link, link-before, with-link, new-links}
-use Rattle.calls.specs.Questions.{ask, is-radio, are-radios, ends-differ, can-switch, has-room, ends-refusal}
-use Rattle.calls.specs.Switches.{switch}
-use Rattle.calls.specs.Batches.{list-length, unless, then, batch-switches, batch-stop}
+use Rattle.lists.specs.{Kit.{_≡_, refl, true, false, List, [], _∷_, ℕ}, Lists.{range, count, member}}
+use Rattle.mesh.specs.Graph.{radios, other-ends, linked, neighbours-among, degree, link, link-before, with-link, new-links}
+use Rattle.calls.specs.{Questions.{ask, is-radio, are-radios, ends-differ, can-switch, has-room, ends-refusal}, Switches.{switch}, Batches.{list-length}}
+use Rattle.calls.specs.{Batches.{unless, then, batch-switches, batch-stop}}
 
 -- the third link has the same ends: 5 beside two links, and the fourth is not taken
 abbrev stopping : List ℕ

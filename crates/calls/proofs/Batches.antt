@@ -6,28 +6,16 @@
 --   batch-all         a batch that does not stop takes every link up
 --   batch-single      a batch of one link is the single call
 --   batch-right       numbers are core numbers and the order is a k-order of what the links done make of the site
-use mathlib.Core.Path.{_≡_, refl, sym, ap, subst, _∙_}
-use mathlib.Core.Logic.{_⊎_, inl, inr}
-use mathlib.Core.Bool.{Bool, true, false, cond}
-use mathlib.Core.List.{List, [], _∷_}
-use Prim.Native.Nat.{ℕ, zero, suc, _+_, _*_, _≤_, _<_, _%_}
-use native.Mathlib.Omega.{arith}
-use lib.ListN.{length, getD, take}
-use borrow.Author.Tests.{eqb-true, ne-eqb}
-use Rattle.mesh.specs.Limits.{max-neighbours}
-use Rattle.mesh.specs.Graph.{Link, Graph, graph, link-before, with-link, relinked, new-links, Allowed}
-use Rattle.mesh.specs.Tables.{Tables, graph-in}
-use Rattle.mesh.specs.Sound.{sound}
-use Rattle.mesh.proofs.Tables.DegreeSum.{links-most}
-use Rattle.calls.specs.Questions.{lengths-of, site-refusal, ends-refusal, link-refusal}
-use Rattle.calls.specs.Switches.{Switch, switch, pairs-after, switched, tables-after, All-allowed}
-use Rattle.calls.specs.Batches.{list-length, batch-refusal, up-refusal, unless, then, batch-switches, batch-stop, ups}
-use Rattle.calls.specs.Outcomes.{by-number, Batched, batched, value, link-outcome, links-taken, batch-outcome}
-use Rattle.calls.specs.Results.{Batch-stopped, Batch-single, Batch-right}
-use Rattle.calls.proofs.QuestionLaws.{true-answer-length}
-use Rattle.calls.proofs.ChainLaws.{site-zero, site-yes, site-stops, ends-zero}
-use Rattle.calls.proofs.ContractLaws.{by-zero, by-cases}
-use Rattle.calls.proofs.SoundSwitches.{Good, good-valid, good-right, switched-graph, all-good}
+use Rattle.lists.specs.Kit.{_≡_, refl, sym, ap, subst, _∙_, _⊎_, inl, inr, Bool, true, false, cond, List, [], _∷_, ℕ, zero, suc, _+_, _*_, _≤_, _<_, _%_, arith}
+use Rattle.lists.specs.Kit.{length, getD, take, eqb-true, ne-eqb}
+use Rattle.mesh.{specs.Limits.{max-neighbours}, specs.Graph.{Link, Graph, graph, link-before, with-link, relinked, new-links}, specs.Tables.{Tables, graph-in}}
+use Rattle.mesh.{specs.Sound.{sound}, proofs.Tables.DegreeSum.{links-most}}
+use Rattle.calls.specs.{Questions.{lengths-of, site-refusal, ends-refusal, link-refusal}, Switches.{Switch, switch, pairs-after, switched, tables-after}}
+use Rattle.calls.specs.{Switches.{All-allowed}, Batches.{list-length, batch-refusal, up-refusal, unless, then, batch-switches, batch-stop, ups}}
+use Rattle.calls.specs.{Outcomes.{by-number, Batched, batched, value, link-outcome, links-taken, batch-outcome}, Results.{Batch-stopped, Batch-single}}
+use Rattle.calls.specs.{Results.{Batch-right}}
+use Rattle.calls.proofs.{QuestionLaws.{true-answer-length}, ChainLaws.{site-zero, site-yes, site-stops, ends-zero}, ContractLaws.{by-zero, by-cases}}
+use Rattle.calls.proofs.{SoundSwitches.{Good, good-valid, good-right, switched-graph, all-good}}
 
 -- ---- every link taken up is allowed
 

@@ -1,30 +1,16 @@
 -- Outcomes on tables that hold the book's pairs: questions 1 to 3 get yes, and the rest is what the graph of the pairs gives.
 --   link-asked                       what the questions of a link call come to
 --   core-by-pairs .. tree-by-pairs   the outcome of each other call that a worked case makes
-use mathlib.Core.Path.{_≡_, refl, ap, _∙_}
-use mathlib.Core.Bool.{Bool, true, _&&_}
-use mathlib.Core.List.{List}
-use Prim.Native.Nat.{ℕ, _+_, _*_, _≤_}
-use lib.ListN.{length}
-use Rattle.mesh.specs.Limits.{max-neighbours, row-bytes}
-use Rattle.lists.specs.Lists.{overwrite}
-use Rattle.mesh.specs.Graph.{Link, Graph, graph}
-use Rattle.mesh.specs.Tables.{Tables, graph-in, tables-of}
-use Rattle.mesh.specs.Sound.{sound}
-use Rattle.mesh.specs.Connected.{core-of, backbone}
-use Rattle.mesh.specs.Tree.{tree, node-names}
-use Rattle.mesh.specs.Image.{image-of}
-use Rattle.mesh.specs.Staircase.{staircase, link-entries}
-use Rattle.mesh.specs.declared.Node.{Node}
-use Rattle.mesh.proofs.Cores.Peeling.{length-numbers}
-use Rattle.mesh.proofs.Tables.Laws.{length-links-table}
-use Rattle.mesh.proofs.Images.Sites.{length-order}
-use Rattle.calls.specs.Questions.{lengths-of, answer-length, nodes-length, image-length, holds-image, ask, ends-refusal, level-refusal, site-refusal}
-use Rattle.calls.specs.Questions.{link-refusal, core-refusal, backbone-refusal, tree-refusal, write-refusal, staircase-length, staircase-refusal}
-use Rattle.calls.specs.Outcomes.{by-number, listing, treed, value, listing-outcome, core-outcome, backbone-outcome, write-outcome, tree-outcome, staircase-outcome}
-use Rattle.calls.proofs.QuestionLaws.{Site-lengths, ask-yes, true-answer-length, true-nodes-length, true-holds-image}
-use Rattle.calls.proofs.ChainLaws.{site-yes}
-use Rattle.calls.proofs.Holds.{Holds, read-back, is-sound}
+use Rattle.lists.specs.{Kit.{_≡_, refl, ap, _∙_, Bool, true, _&&_, List, ℕ, _+_, _*_, _≤_, length}, Lists.{overwrite}}
+use Rattle.mesh.{specs.Limits.{max-neighbours, row-bytes}, specs.Graph.{Link, Graph, graph}, specs.Tables.{Tables, graph-in, tables-of}, specs.Sound.{sound}}
+use Rattle.mesh.{specs.Connected.{core-of, backbone}, specs.Tree.{tree, node-names}, specs.Image.{image-of}, specs.Staircase.{staircase, link-entries}}
+use Rattle.mesh.{specs.declared.Node.{Node}, proofs.Cores.Peeling.{length-numbers}, proofs.Tables.Laws.{length-links-table}, proofs.Images.Sites.{length-order}}
+use Rattle.calls.specs.{Questions.{lengths-of, answer-length, nodes-length, image-length, holds-image, ask, ends-refusal, level-refusal, site-refusal}}
+use Rattle.calls.specs.{Questions.{link-refusal, core-refusal, backbone-refusal, tree-refusal, write-refusal, staircase-length, staircase-refusal}}
+use Rattle.calls.specs.{Outcomes.{by-number, listing, treed, value, listing-outcome, core-outcome, backbone-outcome, write-outcome, tree-outcome}}
+use Rattle.calls.specs.{Outcomes.{staircase-outcome}}
+use Rattle.calls.proofs.{QuestionLaws.{Site-lengths, ask-yes, true-answer-length, true-nodes-length, true-holds-image}, ChainLaws.{site-yes}}
+use Rattle.calls.proofs.{Holds.{Holds, read-back, is-sound}}
 
 module _ (n : ℕ) (ps : List Link) (t : Tables) (k : Holds n ps t) (least : 1 ≤ n) where
   abbrev g : Graph

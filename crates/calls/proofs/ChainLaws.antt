@@ -5,28 +5,17 @@
 --   ..-zero       a chain that is 0: what was asked holds
 --   ..-yes        the way back
 -- Questions 4 to 7 are `Allowed` of mesh. In order: parts of chains, then the chain of each call.
-use mathlib.Core.Path.{_≡_, _∙_, ap, refl}
-use mathlib.Core.Bool.{Bool, true, _&&_, not, false}
-use mathlib.Core.List.{List}
-use Prim.Native.Nat.{ℕ, _≤_, _<_}
-use native.Mathlib.Omega.{arith}
-use lib.IntN.{ℤ}
-use Rattle.mesh.specs.Limits.{max-radios, max-neighbours}
-use Rattle.mesh.specs.Graph.{Graph, Allowed}
-use Rattle.mesh.specs.Cores.{number}
-use Rattle.mesh.specs.Image.{whole-blocks, checks-good, other-size, is-image}
-use Rattle.lists.proofs.Tests.{and-left, and-right}
-use Rattle.mesh.proofs.Images.OtherSize.{is-image-not-other}
-use Rattle.calls.specs.Questions.{ask, Lengths, size-good, site-lengths, answer-length, are-radios, is-radio, ends-differ, can-switch, has-room}
-use Rattle.calls.specs.Questions.{has-level, image-length, holds-image, lent-refusal, site-refusal, ends-then, ends-refusal, link-refusal, radio-refusal}
-use Rattle.calls.specs.Questions.{pair-refusal, core-refusal, level-refusal, write-refusal, blocks-refusal, source-refusal, image-refusal}
-use Rattle.calls.specs.Questions.{read-refusal, holds-sheet, sheet-refusal, is-proposal, commit-refusal}
-use Rattle.calls.specs.Sheet.{sheet-length}
+use Rattle.lists.{specs.Kit.{_≡_, _∙_, ap, refl, Bool, true, _&&_, not, false, List, ℕ, _≤_, _<_, arith, ℤ}, proofs.Tests.{and-left, and-right}}
+use Rattle.mesh.{specs.Limits.{max-radios, max-neighbours}, specs.Graph.{Graph, Allowed}, specs.Cores.{number}, specs.Image.{whole-blocks, checks-good}}
+use Rattle.mesh.{specs.Image.{other-size, is-image}, proofs.Images.OtherSize.{is-image-not-other}, specs.Sound.{sound}}
+use Rattle.calls.specs.{Questions.{ask, Lengths, size-good, site-lengths, answer-length, are-radios, is-radio, ends-differ, can-switch, has-room}}
+use Rattle.calls.specs.{Questions.{has-level, image-length, holds-image, lent-refusal, site-refusal, ends-then, ends-refusal, link-refusal}}
+use Rattle.calls.specs.{Questions.{radio-refusal, pair-refusal, core-refusal, level-refusal, write-refusal, blocks-refusal, source-refusal}}
+use Rattle.calls.specs.{Questions.{image-refusal, read-refusal, holds-sheet, sheet-refusal, is-proposal, commit-refusal}, Sheet.{sheet-length}}
 use Rattle.calls.proofs.QuestionLaws.{ask-yes, ask-zero, ask-later, size-good-true, true-size-good, Site-lengths, site-lengths-true, true-site-lengths}
 use Rattle.calls.proofs.QuestionLaws.{is-radio-true, true-is-radio, are-radios-true, true-are-radios, ends-differ-true, true-ends-differ}
 use Rattle.calls.proofs.QuestionLaws.{can-switch-true, true-can-switch, has-room-true, true-has-room, has-level-true, true-has-level, holds-image-true}
 use Rattle.calls.proofs.QuestionLaws.{true-holds-image, holds-sheet-true, true-holds-sheet}
-use Rattle.mesh.specs.Sound.{sound}
 
 -- ---- 1 and 2
 

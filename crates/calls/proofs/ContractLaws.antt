@@ -7,12 +7,7 @@
 --   accepted-is, refused-is   what it says where the result has the number 0, which is no refusal, and where it has another
 --   value-refused, value-answered       a contract that answers a value, met
 --   listing-refused, listing-answered   a contract that lists into a lent table, met
-use mathlib.Core.Path.{_≡_, refl, sym, ap, _∙_}
-use mathlib.Core.Logic.{_⊎_, inl, inr}
-use mathlib.Core.List.{List}
-use Prim.Native.Nat.{ℕ, zero, suc}
-use native.Mathlib.Omega.{arith}
-use Rattle.lists.specs.Lists.{overwrite}
+use Rattle.lists.specs.{Kit.{_≡_, refl, sym, ap, _∙_, _⊎_, inl, inr, List, ℕ, zero, suc, arith}, Lists.{overwrite}}
 use Rattle.calls.specs.Outcomes.{by-number, value, listing, value-outcome, listing-outcome}
 
 -- ---- by the number

@@ -1,25 +1,11 @@
 -- In any run, an accepted link call lists exactly the radios whose core number by the largest group differs between the book's pairs
 -- before and after. From `demand-3`; the number by peeling is not in the statement.
-use mathlib.Core.Path.{_≡_, refl, sym, subst, _∙_}
-use mathlib.Core.Logic.{_↔_, _⊎_, inl, inr}
-use mathlib.Core.Bool.{Bool, true, false}
-use mathlib.Core.List.{List, [], _∷_, _++_}
-use Prim.Native.Nat.{ℕ, _<_}
-use native.Mathlib.Omega.{arith}
-use lib.ListN.{length, take}
-use Rattle.lists.specs.Lists.{member}
-use Rattle.mesh.specs.Graph.{Link, graph}
-use Rattle.mesh.specs.Cores.{Core}
-use Rattle.mesh.specs.Tables.{Tables}
-use Rattle.mesh.specs.Sound.{number-in}
-use Rattle.lists.proofs.Tests.{bool-cases}
-use Rattle.mesh.proofs.Cores.Certificate.{core-unique}
-use Rattle.calls.specs.Book.{Call, linking, Answer, book-after}
-use Rattle.calls.specs.Outcomes.{link-outcome}
-use Rattle.calls.specs.Runs.{did, answer-of, done, Event, event, events, after, givens}
-use Rattle.calls.specs.Demand.{By-one, Link-kept, Start, beginning, Kept, Demand-3}
-use Rattle.calls.proofs.Runs.{Does, Run, ended, next, run, events-append, link-done}
-use Rattle.calls.proofs.WholeList.{run-kept}
+use Rattle.lists.{specs.Kit.{_≡_, refl, sym, subst, _∙_, _↔_, _⊎_, inl, inr, Bool, true, false, List, [], _∷_, _++_, ℕ, _<_, arith, length, take}}
+use Rattle.lists.{specs.Lists.{member}, proofs.Tests.{bool-cases}}
+use Rattle.mesh.{specs.Graph.{Link, graph}, specs.Cores.{Core}, specs.Tables.{Tables}, specs.Sound.{number-in}, proofs.Cores.Certificate.{core-unique}}
+use Rattle.calls.specs.{Book.{Call, linking, Answer, book-after}, Outcomes.{link-outcome}, Runs.{did, answer-of, done, Event, event, events, after}}
+use Rattle.calls.specs.{Runs.{givens}, Demand.{By-one, Link-kept, Start}}
+use Rattle.calls.proofs.{Runs.{Does, Run, ended, next, run, events-append, link-done}, WholeList.{run-kept}}
 
 -- a run with one call more
 run-further :

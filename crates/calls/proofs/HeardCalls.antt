@@ -5,42 +5,18 @@
 --   hear-links       afterwards the links are exactly the agreed ones
 --   hear-right       what a caller has after an accepted hearing (property 2)
 --   hear-same        a table that hears what is linked changes nothing
-use mathlib.Core.Path.{_≡_, refl, sym, ap, ap₂, _∙_}
-use mathlib.Core.Logic.{_⊎_, inl, inr}
-use mathlib.Core.Bool.{Bool, true, false, _&&_, not}
-use mathlib.Core.List.{List, [], _++_, map}
-use Prim.Native.Nat.{ℕ, suc, _*_, _-_, _≤_, _<_}
-use native.Mathlib.Omega.{arith}
-use lib.Dec.{ltb, eqb}
-use lib.ListN.{length}
-use borrow.Author.Tests.{ltb-true, ltb-false, eqb-true}
-use Rattle.mesh.specs.Limits.{max-radios, max-neighbours, row-bytes}
-use Rattle.lists.specs.Lists.{range, count, total}
-use Rattle.mesh.specs.Graph.{Graph, graph, linked}
-use Rattle.mesh.specs.Tables.{Tables, marked, graph-in}
-use Rattle.mesh.specs.Sound.{sound, symmetric, irreflexive, within, row-degree, rows-proper}
-use Rattle.lists.proofs.Tests.{bool-cases, and-left, and-right}
-use Rattle.lists.proofs.Range.{range-in, length-range}
-use Rattle.lists.proofs.Filter.{filter-none}
-use Rattle.lists.proofs.Map.{flatMap-none}
-use Rattle.lists.proofs.Count.{count-le-length}
-use Rattle.lists.proofs.Sums.{total-le, total-cong}
-use Rattle.mesh.proofs.GraphLaws.{linked-sym}
-use Rattle.mesh.proofs.Tables.Laws.{marked-bit-table}
-use Rattle.mesh.proofs.Tables.Rows.{within-of, row-degree-count}
-use Rattle.mesh.proofs.Tables.Soundness.{sound-certificate}
-use Rattle.calls.specs.Questions.{lengths-of}
-use Rattle.calls.specs.Switches.{Switch, switch, tables-after, All-allowed}
-use Rattle.calls.specs.Heard.{agreed, heard-alone, one-sided, one-sided-count, heard-lengths, heard-proper, agreed-few, hear-refusal}
-use Rattle.calls.specs.Heard.{row-switches, switches-where, goes-down, comes-up, heard-switches}
-use Rattle.calls.specs.Outcomes.{value, hear-outcome}
-use Rattle.calls.specs.Results.{Hear-right}
-use Rattle.calls.proofs.QuestionLaws.{ask-zero}
-use Rattle.calls.proofs.ChainLaws.{site-zero}
-use Rattle.calls.proofs.ContractLaws.{by-zero}
-use Rattle.calls.proofs.SoundSwitches.{Good, good-right, all-good}
-use Rattle.calls.proofs.HeardLaws.{agreed-links, agreed-linked, hear-allowed, hear-pairs}
-use Rattle.calls.proofs.HearingLaws.{good-marked, ordered-in}
+use Rattle.lists.{specs.Kit.{_≡_, refl, sym, ap, ap₂, _∙_, _⊎_, inl, inr, Bool, true, false, _&&_, not, List, [], _++_, map, ℕ, suc, _*_, _-_, _≤_, _<_, arith}}
+use Rattle.lists.{specs.Kit.{ltb, eqb, length, ltb-true, ltb-false, eqb-true}, specs.Lists.{range, count, total}, proofs.Tests.{bool-cases, and-left}}
+use Rattle.lists.{proofs.Tests.{and-right}, proofs.Range.{range-in, length-range}, proofs.Filter.{filter-none}, proofs.Map.{flatMap-none}}
+use Rattle.lists.{proofs.Count.{count-le-length}, proofs.Sums.{total-le, total-cong}}
+use Rattle.mesh.{specs.Limits.{max-radios, max-neighbours, row-bytes}, specs.Graph.{Graph, graph, linked}, specs.Tables.{Tables, marked, graph-in}}
+use Rattle.mesh.{specs.Sound.{sound, symmetric, irreflexive, within, row-degree, rows-proper}, proofs.GraphLaws.{linked-sym}}
+use Rattle.mesh.{proofs.Tables.Laws.{marked-bit-table}, proofs.Tables.Rows.{within-of, row-degree-count}, proofs.Tables.Soundness.{sound-certificate}}
+use Rattle.calls.specs.{Questions.{lengths-of}, Switches.{Switch, switch, tables-after, All-allowed}, Heard.{agreed, heard-alone, one-sided}}
+use Rattle.calls.specs.{Heard.{one-sided-count, heard-lengths, heard-proper, agreed-few, hear-refusal, row-switches, switches-where, goes-down, comes-up}}
+use Rattle.calls.specs.{Heard.{heard-switches}, Outcomes.{value, hear-outcome}, Results.{Hear-right}}
+use Rattle.calls.proofs.{QuestionLaws.{ask-zero}, ChainLaws.{site-zero}, ContractLaws.{by-zero}, SoundSwitches.{Good, good-right, all-good}}
+use Rattle.calls.proofs.{HeardLaws.{agreed-links, agreed-linked, hear-allowed, hear-pairs}, HearingLaws.{good-marked, ordered-in}}
 
 -- ---- the questions
 

@@ -4,28 +4,15 @@
 --   Past-holds         so does the link history, and the history of each mark some tables
 --   past-step          one call keeps it
 --   past-kept          so does every run
-use mathlib.Core.Path.{_≡_, refl, sym, ap, ap₂, subst, _∙_}
-use mathlib.Core.Bool.{Bool, true, false, _&&_, cond}
-use mathlib.Core.List.{List, [], _∷_, _++_}
-use mathlib.Core.Option.{Option, none, some}
-use Prim.Native.Nat.{ℕ, zero, suc, _≤_}
-use Rattle.mesh.specs.Limits.{max-radios}
-use Rattle.lists.specs.Lists.{same}
-use Rattle.lists.proofs.All.{same-refl, same-eq}
-use Rattle.lists.proofs.Tests.{and-right}
-use Rattle.mesh.specs.Graph.{Link, Graph, graph}
-use Rattle.mesh.specs.Tables.{Tables, tables-of, graph-in}
-use Rattle.mesh.specs.Image.{image-of, image-graph, image-order, is-image}
-use Rattle.mesh.proofs.Images.Sites.{read-written-graph, read-written-order}
-use Rattle.calls.specs.Questions.{Lengths, lengths-of}
-use Rattle.calls.specs.Switches.{Switch, pairs-after, tables-after}
-use Rattle.calls.specs.Book.{Beginning, from-clearing, from-image, Marking, no-mark, sets, removes, returns, Outcome, Given, given, Answer, outcome, booked, first-pairs, pairs-of}
-use Rattle.calls.specs.Book.{book-after, beginning-pairs, radios, beginning-tables, History, fresh, history-by, image-at, Marked, Past, past, is-mark, struck, replacing, recalled, marked-by, past-by, past-after}
-use Rattle.calls.specs.Runs.{Event, event, givens}
-use Rattle.calls.proofs.Runs.{Run, ended, next}
-use Rattle.calls.specs.Demand.{By-history, Call-kept}
-use Rattle.calls.proofs.Holds.{Holds, read-back, pairs-after-append, tables-after-append}
-use Rattle.calls.proofs.Steps.{Stepped, step}
+use Rattle.lists.{specs.Kit.{_≡_, refl, sym, ap, ap₂, subst, _∙_, Bool, true, false, _&&_, cond, List, [], _∷_, Option, none, some, ℕ}, specs.Lists.{same}}
+use Rattle.lists.{proofs.All.{same-eq}, proofs.Tests.{and-right}}
+use Rattle.mesh.{specs.Graph.{Link, Graph, graph}, specs.Tables.{Tables, tables-of, graph-in}, specs.Image.{image-of, image-graph, image-order}}
+use Rattle.mesh.{proofs.Images.Sites.{read-written-graph, read-written-order}}
+use Rattle.calls.specs.{Questions.{lengths-of}, Switches.{Switch, pairs-after, tables-after}, Book.{Beginning, Marking, no-mark, sets, removes, returns}}
+use Rattle.calls.specs.{Book.{Outcome, Answer, outcome, booked, first-pairs, pairs-of, book-after, beginning-pairs, beginning-tables, History}}
+use Rattle.calls.specs.{Book.{history-by, image-at, Marked, Past, is-mark, struck, replacing, recalled, marked-by, past-by, past-after}, Runs.{Event}}
+use Rattle.calls.specs.{Runs.{givens}, Demand.{By-history, Call-kept}}
+use Rattle.calls.proofs.{Runs.{Run, ended, next}, Holds.{Holds, read-back, pairs-after-append, tables-after-append}, Steps.{Stepped, step}}
 
 -- ---- a history, its pairs and its tables
 

@@ -1,39 +1,20 @@
 -- Coming back to a mark gives back the link history at the moment when it was set (W-211).
 --   history-restored   an accepted set, calls none of which sets or removes that name, an accepted coming back to the image that was
 --                      set: the history, with the clearing or read image that it began from, is the one at the setting
-use mathlib.Core.Path.{_≡_, refl, sym, ap, ap₂, subst, _∙_}
-use mathlib.Core.Logic.{_⊎_, inl, inr}
-use mathlib.Core.Bool.{Bool, true, false, _&&_, _||_, not, cond}
-use mathlib.Core.List.{List, [], _∷_, _++_}
-use mathlib.Core.Option.{Option, none, some}
-use Prim.Native.Nat.{ℕ, zero, suc, _≤_}
-use native.Mathlib.Omega.{arith}
-use Rattle.mesh.specs.Limits.{max-radios}
-use Rattle.lists.specs.Lists.{same}
-use Rattle.lists.proofs.All.{same-refl, same-eq}
-use Rattle.lists.proofs.Tests.{and-left, and-right, bool-cases, never}
-use Rattle.mesh.specs.Graph.{Link, Graph}
-use Rattle.mesh.specs.Tables.{Tables, tables-of, graph-in}
-use Rattle.mesh.specs.Image.{image-of, image-graph, image-order}
+use Rattle.lists.{specs.Kit.{_≡_, refl, sym, ap, ap₂, subst, _∙_, Bool, true, false, _&&_, _||_, not, cond, List, [], _∷_, _++_, Option, none, some, ℕ, zero}}
+use Rattle.lists.{specs.Kit.{suc, _≤_, arith}, specs.Lists.{same}, proofs.All.{same-refl, same-eq}, proofs.Tests.{and-left, and-right, never}}
+use Rattle.mesh.{specs.Limits.{max-radios}, specs.Graph.{Link, Graph}, specs.Tables.{Tables, tables-of, graph-in}, specs.Image.{image-of, image-graph}}
+use Rattle.mesh.{specs.Image.{image-order}, proofs.Tables.ReadBack.{graph-in-links-table}, proofs.Tables.Sites.{image-valid}}
+use Rattle.mesh.{proofs.Images.Sites.{written-read}}
+use Rattle.calls.specs.{Questions.{Lengths, lengths-of}, Marks.{set-refusal, named-refusal, mark-image}, Switches.{pairs-after, tables-after}}
+use Rattle.calls.specs.{Book.{Call, from-image, Marking, no-mark, sets, removes, returns, Outcome, outcome-with, unless-refused, outcome, setting}}
+use Rattle.calls.specs.{Book.{returning, Answer, plain, Given, given, booked, first-pairs, pairs-of, book-after, radios, beginning-tables, History}}
+use Rattle.calls.specs.{Book.{fresh, history-by, image-at, Marked, Past, past, image-under, is-mark, struck, replacing, recalled, marked-by, past-by}}
+use Rattle.calls.specs.{Book.{past-after, past-of, is-image, leaves, all-leave, history}, MarkOutcomes.{set-outcome, return-outcome}, Runs.{done, Event}}
+use Rattle.calls.specs.{Runs.{event, events, after, givens}, Demand.{Start, beginning}}
+use Rattle.calls.proofs.{Runs.{Run, Does, run, events-append}, Holds.{read-back}, MarkCalls.{named-zero, mark-is-image}, Steps.{step}}
+use Rattle.calls.proofs.{Histories.{Past-holds, image-is, order-is, replacing-hold, past-kept}, WholeList.{start-past}}
 use Rattle.mesh.specs.Image as images
-use Rattle.mesh.proofs.Tables.ReadBack.{graph-in-links-table}
-use Rattle.mesh.proofs.Tables.Sites.{image-valid}
-use Rattle.mesh.proofs.Images.Sites.{written-read}
-use Rattle.calls.specs.Questions.{Lengths, lengths-of}
-use Rattle.calls.specs.Marks.{set-refusal, named-refusal, mark-image}
-use Rattle.calls.specs.Switches.{pairs-after, tables-after}
-use Rattle.calls.specs.Book.{Call, from-image, Marking, no-mark, sets, removes, returns, Outcome, outcome-with, unless-refused, outcome, setting, returning, Answer, plain}
-use Rattle.calls.specs.Book.{Given, given, booked, first-pairs, pairs-of, book-after, radios, beginning-tables, History, fresh, history-by, image-at, Marked, Past, past}
-use Rattle.calls.specs.Book.{image-under, is-mark, struck, replacing, recalled, marked-by, past-by, past-after, past-of, is-image, leaves, all-leave, history}
-use Rattle.calls.specs.MarkOutcomes.{set-outcome, return-outcome}
-use Rattle.calls.specs.Runs.{done, Event, event, events, after, givens}
-use Rattle.calls.proofs.Runs.{Run, Does, run, events-append}
-use Rattle.calls.specs.Demand.{Start, beginning}
-use Rattle.calls.proofs.Holds.{read-back}
-use Rattle.calls.proofs.MarkCalls.{named-zero, mark-is-image}
-use Rattle.calls.proofs.Steps.{step}
-use Rattle.calls.proofs.Histories.{Past-holds, image-is, order-is, replacing-hold, past-kept}
-use Rattle.calls.proofs.WholeList.{start-past}
 
 -- ---- what is recalled
 

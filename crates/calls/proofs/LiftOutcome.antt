@@ -1,21 +1,12 @@
 -- The question for one link that lifts a radio: how its contract is met.
 --   lift-zero, lift-twenty         when the chain gives 0, and when 20
 --   lift-refused, lift-unanswered, lift-answered   refused by 1 to 4; by 20; the first pair
-use mathlib.Core.Path.{_≡_, refl, sym, ap, _∙_}
-use mathlib.Core.Bool.{Bool, true, false, _&&_}
-use mathlib.Core.List.{[]}
-use Prim.Native.Nat.{ℕ, _<_}
-use native.Mathlib.Omega.{arith}
-use Rattle.mesh.specs.Graph.{link-of, Graph}
-use Rattle.mesh.specs.Tables.{Tables, graph-in}
-use Rattle.mesh.specs.Sound.{sound}
-use Rattle.calls.specs.Questions.{Lengths, lengths-of, ask, is-radio, size-good, site-lengths, lent-refusal, site-refusal, radio-refusal}
-use Rattle.calls.specs.Lift.{lifting, first-pair, is-lifted, lift-refusal}
-use Rattle.calls.specs.LiftOutcome.{pair, lift-outcome}
-use Rattle.calls.specs.Contracts.{Lift-contract}
-use Rattle.calls.proofs.QuestionLaws.{ask-zero, ask-yes, ask-no, is-radio-true}
-use Rattle.calls.proofs.ContractLaws.{by-accepted, by-refused}
-use Rattle.calls.proofs.ChainLaws.{Site-good, site-zero, site-yes}
+use Rattle.lists.specs.Kit.{_≡_, refl, sym, ap, _∙_, Bool, true, false, _&&_, [], ℕ, _<_, arith}
+use Rattle.mesh.specs.{Graph.{link-of, Graph}, Tables.{Tables, graph-in}, Sound.{sound}}
+use Rattle.calls.specs.{Questions.{Lengths, lengths-of, ask, is-radio, size-good, site-lengths, lent-refusal, site-refusal, radio-refusal}}
+use Rattle.calls.specs.{Lift.{lifting, first-pair, is-lifted, lift-refusal}, LiftOutcome.{pair, lift-outcome}, Contracts.{Lift-contract}}
+use Rattle.calls.proofs.{QuestionLaws.{ask-zero, ask-yes, ask-no, is-radio-true}, ContractLaws.{by-accepted, by-refused}, ChainLaws.{Site-good}}
+use Rattle.calls.proofs.{ChainLaws.{site-zero, site-yes}}
 
 -- ---- the chain
 

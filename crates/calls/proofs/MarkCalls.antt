@@ -6,40 +6,22 @@
 --   mark-is-image, mark-read   a mark that the store has holds an image of sound tables, which reading takes
 --   return-right      after an accepted coming back: what reading the mark's image leaves
 --   return-restores   coming back to a mark restores links, numbers and order as they were when it was set
-use mathlib.Core.Path.{_≡_, refl, sym, ap, _∙_}
-use mathlib.Core.Logic.{_⊎_, inl, inr}
-use mathlib.Core.Bool.{Bool, true, false, _||_, cond}
-use mathlib.Core.List.{List, [], _∷_}
-use Prim.Native.Nat.{ℕ, zero, suc, _+_, _≤_}
-use native.Mathlib.Omega.{arith}
-use lib.Dec.{ltb}
-use lib.ListN.{length}
-use borrow.Author.Tests.{eqb-true, ltb-true}
-use Rattle.mesh.specs.Limits.{max-radios}
-use Rattle.lists.specs.Lists.{same, Entries-below}
-use Rattle.mesh.specs.Cores.{numbers}
-use Rattle.mesh.specs.Tables.{Tables, tables-of, graph-in}
-use Rattle.mesh.specs.Sound.{sound}
-use Rattle.mesh.specs.Image.{image-of, image-graph, image-order, is-image, whole-blocks, checks-good}
-use Rattle.mesh.proofs.Images.Of.{whole-blocks-image-of, checks-good-image-of}
-use Rattle.mesh.proofs.Images.Sites.{written-read}
-use Rattle.mesh.specs.Marks.{places, store-bytes, before, is-name, is-store, name-in, image-in, place-of, marks-in, store-of, has-mark, found, with-mark, without-mark}
-use Rattle.lists.proofs.Tests.{and-left, and-right, or-cases, never}
-use Rattle.mesh.specs.Tables.{Tables-of-size}
-use Rattle.mesh.proofs.Images.Tables.{is-image-sound, tables-read-written}
-use Rattle.mesh.proofs.Marks.Lists.{rising-with, has-mark-with-same, found-with-same, found-with-other, has-mark-with-other, length-with, rising-without, has-mark-without-same, found-without-other, has-mark-without-other, length-without, found-mark}
-use Rattle.mesh.proofs.Marks.Rules.{store-good-iff}
-use Rattle.mesh.proofs.Marks.Laws.{Marks, marks-store-of, length-store-of, is-store-of, Store-marks, store-marks, Place-mark, place-mark, mark-place}
-use Rattle.calls.specs.Questions.{ask, Lengths, lengths-of, read-refusal}
-use Rattle.calls.specs.Outcomes.{by-number, Numbered, read-outcome}
-use Rattle.calls.specs.MarkOutcomes.{Stored, stored, store-outcome, set-outcome, remove-outcome, return-outcome}
-use Rattle.calls.specs.Results.{Read-right}
-use Rattle.calls.specs.MarkResults.{Store-right, Set-right, Removed-right, Same-mark}
-use Rattle.calls.specs.Marks.{store-length, marks-good, is-marked, has-place, mark-refusal, set-refusal, named-refusal, set-store, removed-store, mark-image}
-use Rattle.calls.proofs.QuestionLaws.{ask-zero}
-use Rattle.calls.proofs.ChainLaws.{Site-good, site-zero, Blocks-good, read-yes}
-use Rattle.calls.proofs.ContractLaws.{accepted-is, by-zero}
-use Rattle.calls.proofs.Accepted.{read-right}
+use Rattle.lists.{specs.Kit.{_≡_, refl, sym, ap, _∙_, _⊎_, inl, inr, Bool, true, false, _||_, cond, List, [], _∷_, ℕ, zero, suc, _+_, _≤_, arith, ltb, length}}
+use Rattle.lists.{specs.Kit.{eqb-true, ltb-true}, specs.Lists.{same, Entries-below}, proofs.Tests.{and-left, and-right, or-cases, never}}
+use Rattle.mesh.{specs.Limits.{max-radios}, specs.Cores.{numbers}, specs.Tables.{Tables, tables-of, graph-in, Tables-of-size}, specs.Sound.{sound}}
+use Rattle.mesh.{specs.Image.{image-of, image-graph, image-order, is-image, whole-blocks, checks-good}, proofs.Images.Of.{whole-blocks-image-of}}
+use Rattle.mesh.{proofs.Images.Of.{checks-good-image-of}, proofs.Images.Sites.{written-read}, specs.Marks.{places, store-bytes, before, is-name, is-store}}
+use Rattle.mesh.{specs.Marks.{name-in, image-in, place-of, marks-in, store-of, has-mark, found, with-mark, without-mark}, proofs.Images.Tables.{is-image-sound}}
+use Rattle.mesh.{proofs.Images.Tables.{tables-read-written}, proofs.Marks.Lists.{rising-with, has-mark-with-same, found-with-same, found-with-other}}
+use Rattle.mesh.{proofs.Marks.Lists.{has-mark-with-other, length-with, rising-without, has-mark-without-same, found-without-other, has-mark-without-other}}
+use Rattle.mesh.{proofs.Marks.Lists.{length-without, found-mark}, proofs.Marks.Rules.{store-good-iff}, proofs.Marks.Laws.{Marks, marks-store-of}}
+use Rattle.mesh.{proofs.Marks.Laws.{length-store-of, is-store-of, Store-marks, store-marks, Place-mark, place-mark, mark-place}}
+use Rattle.calls.specs.{Questions.{ask, Lengths, lengths-of, read-refusal}, Outcomes.{by-number, Numbered, read-outcome}, MarkOutcomes.{Stored, stored}}
+use Rattle.calls.specs.{MarkOutcomes.{store-outcome, set-outcome, remove-outcome, return-outcome}, Results.{Read-right}, MarkResults.{Store-right}}
+use Rattle.calls.specs.{MarkResults.{Set-right, Removed-right, Same-mark}, Marks.{store-length, marks-good, is-marked, has-place, mark-refusal}}
+use Rattle.calls.specs.{Marks.{set-refusal, named-refusal, set-store, removed-store, mark-image}}
+use Rattle.calls.proofs.{QuestionLaws.{ask-zero}, ChainLaws.{Site-good, site-zero, Blocks-good, read-yes}, ContractLaws.{accepted-is, by-zero}}
+use Rattle.calls.proofs.{Accepted.{read-right}}
 
 -- ---- questions
 

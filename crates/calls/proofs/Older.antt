@@ -4,28 +4,17 @@
 --   older-other    an older image with another n gets 15, where it got 11
 --   older          all calls
 -- In order: a chain whose last question gets another answer, link calls, images, calls that only read.
-use mathlib.Core.Path.{_≡_, refl, sym, _∙_}
-use mathlib.Core.Bool.{Bool, true, false, not}
-use mathlib.Core.List.{List}
-use Prim.Native.Nat.{ℕ}
-use native.Mathlib.Omega.{arith}
-use lib.ListN.{length}
-use Rattle.mesh.specs.Limits.{max-neighbours, former-neighbours}
-use Rattle.mesh.specs.Graph.{Graph}
-use Rattle.mesh.specs.Tables.{Tables, graph-in}
-use Rattle.mesh.specs.Sound.{sound-within}
-use Rattle.mesh.specs.Image.{other-size, is-image-within, is-image}
-use Rattle.mesh.proofs.Tables.Older.{sound-within-more, older-image}
-use Rattle.mesh.proofs.Images.Tables.{valid-graph-in, is-image-within-sound, is-image-tables}
-use Rattle.mesh.proofs.Images.OtherSize.{other-size-iff, is-image-not-other}
-use Rattle.calls.specs.Questions.{ask, Lengths, lengths-of, size-good, are-radios, has-room, lent-refusal, site-refusal, ends-refusal}
-use Rattle.calls.specs.Questions.{link-refusal-within, blocks-refusal, source-refusal, image-refusal, read-refusal}
-use Rattle.calls.specs.Outcomes.{by-number, Numbered, numbered, Linked, read-outcome, link-outcome-within, link-outcome, check-outcome, number-outcome, neighbours-outcome}
-use Rattle.calls.specs.Outcomes.{linked-outcome, first-outcome, core-outcome, backbone-outcome, write-outcome, tree-outcome, later-outcome, sheet-outcome, staircase-outcome}
-use Rattle.calls.specs.Outcomes.{script-length-outcome, script-outcome}
-use Rattle.calls.specs.Older.{Was-sound, Reads-as-then, former-read-refusal, former-read-outcome, Older}
-use Rattle.calls.proofs.ContractLaws.{number-by}
-use Rattle.calls.proofs.QuestionLaws.{size-good-true, are-radios-true, has-room-true, true-has-room}
+use Rattle.lists.specs.Kit.{_≡_, refl, sym, _∙_, Bool, true, false, not, List, ℕ, arith, length}
+use Rattle.mesh.{specs.Limits.{max-neighbours, former-neighbours}, specs.Graph.{Graph}, specs.Tables.{Tables, graph-in}, specs.Sound.{sound-within}}
+use Rattle.mesh.{specs.Image.{other-size, is-image-within, is-image}, proofs.Tables.Older.{sound-within-more, older-image}}
+use Rattle.mesh.{proofs.Images.Tables.{valid-graph-in, is-image-within-sound, is-image-tables}, proofs.Images.OtherSize.{other-size-iff, is-image-not-other}}
+use Rattle.calls.specs.{Questions.{ask, Lengths, lengths-of, size-good, are-radios, has-room, lent-refusal, site-refusal, ends-refusal}}
+use Rattle.calls.specs.{Questions.{link-refusal-within, blocks-refusal, source-refusal, image-refusal, read-refusal}, Outcomes.{by-number, Numbered}}
+use Rattle.calls.specs.{Outcomes.{numbered, Linked, read-outcome, link-outcome-within, link-outcome, check-outcome, number-outcome, neighbours-outcome}}
+use Rattle.calls.specs.{Outcomes.{linked-outcome, first-outcome, core-outcome, backbone-outcome, write-outcome, tree-outcome, later-outcome}}
+use Rattle.calls.specs.{Outcomes.{sheet-outcome, staircase-outcome, script-length-outcome, script-outcome}, Older.{Was-sound, Reads-as-then}}
+use Rattle.calls.specs.{Older.{former-read-refusal, former-read-outcome, Older}}
+use Rattle.calls.proofs.{ContractLaws.{number-by}, QuestionLaws.{size-good-true, are-radios-true, has-room-true, true-has-room}}
 
 -- ---- a chain whose last question gets another answer
 

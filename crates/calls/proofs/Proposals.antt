@@ -5,30 +5,15 @@
 --   commit-iff         committing is accepted exactly if asking now would be, with this step and this list
 --   commit-number      what it is refused by: the number that asking would get, else 16
 -- Asking and committing see the tables as they now are, so a proposal made before other calls is good exactly if it is still true.
-use mathlib.Core.Path.{_≡_, refl, sym, ap, _∙_}
-use mathlib.Core.Logic.{_⊎_, inl, inr, _↔_}
-use mathlib.Core.Bool.{Bool, true, false, _&&_}
-use mathlib.Core.List.{List}
-use Prim.Native.Nat.{ℕ, _≤_}
-use native.Mathlib.Omega.{arith}
-use lib.IntN.{ℤ, pos, negsuc}
-use lib.ListN.{length, take}
-use borrow.Author.Tests.{eqb-true, eq-eqb}
-use Rattle.mesh.specs.Limits.{max-radios, max-neighbours}
-use Rattle.lists.specs.Lists.{same, overwrite}
-use Rattle.mesh.specs.Graph.{Graph}
-use Rattle.mesh.specs.Levels.{changed, step-of}
-use Rattle.mesh.specs.Tables.{Tables, graph-in}
-use Rattle.mesh.specs.Sound.{sound}
-use Rattle.lists.proofs.All.{same-refl, same-eq}
-use Rattle.lists.proofs.Overwrite.{take-overwrite}
-use Rattle.lists.proofs.Tests.{bool-cases, never, and-left, and-right, and-both}
-use Rattle.calls.specs.Questions.{ask, lengths-of, answer-length, site-lengths, size-good, same-step, is-proposal, lent-refusal, site-refusal}
-use Rattle.calls.specs.Questions.{ends-then, ends-refusal, link-refusal, commit-refusal}
-use Rattle.calls.specs.Outcomes.{reply, linked-with, Asked, asked, Committed, link-outcome, ask-outcome, commit-outcome}
-use Rattle.calls.proofs.QuestionLaws.{ask-yes, ask-no, ask-zero, ask-later, size-good-true, true-answer-length}
-use Rattle.calls.proofs.ChainLaws.{site-zero, site-yes, ends-then-zero, ends-then-yes, ends-then-no}
-use Rattle.calls.proofs.ContractLaws.{number-by, by-zero, by-other}
+use Rattle.lists.{specs.Kit.{_≡_, refl, sym, ap, _∙_, _⊎_, inl, inr, _↔_, Bool, true, false, _&&_, List, ℕ, _≤_, arith, ℤ, pos, negsuc, length, take, eqb-true}}
+use Rattle.lists.{specs.Kit.{eq-eqb}, specs.Lists.{same, overwrite}, proofs.All.{same-refl, same-eq}, proofs.Overwrite.{take-overwrite}}
+use Rattle.lists.{proofs.Tests.{bool-cases, never, and-left, and-right, and-both}}
+use Rattle.mesh.specs.{Limits.{max-radios, max-neighbours}, Graph.{Graph}, Levels.{changed, step-of}, Tables.{Tables, graph-in}, Sound.{sound}}
+use Rattle.calls.specs.{Questions.{ask, lengths-of, answer-length, site-lengths, size-good, same-step, is-proposal, lent-refusal, site-refusal}}
+use Rattle.calls.specs.{Questions.{ends-then, ends-refusal, link-refusal, commit-refusal}, Outcomes.{reply, linked-with, Asked, asked, Committed}}
+use Rattle.calls.specs.{Outcomes.{link-outcome, ask-outcome, commit-outcome}}
+use Rattle.calls.proofs.{QuestionLaws.{ask-yes, ask-no, ask-zero, ask-later, size-good-true, true-answer-length}, ChainLaws.{site-zero, site-yes}}
+use Rattle.calls.proofs.{ChainLaws.{ends-then-zero, ends-then-yes, ends-then-no}, ContractLaws.{number-by, by-zero, by-other}}
 
 -- ---- question 16
 

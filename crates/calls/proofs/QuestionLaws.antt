@@ -1,18 +1,10 @@
 -- Laws of the questions: one question of a chain, then each question as what it asks, both ways; 1 is in mesh. Chains are in
 -- ChainLaws.antt.
-use mathlib.Core.Path.{_≡_, refl}
-use mathlib.Core.Bool.{Bool, true, false, _&&_, not}
-use Prim.Native.Nat.{ℕ, suc, _+_, _*_, _≤_, _<_}
-use native.Mathlib.Omega.{arith}
-use lib.Dec.{ltb, eqb}
-use borrow.Author.Tests.{ltb-true, leb-true, eqb-true, eqb-false, lt-ltb, le-leb, eq-eqb, ne-eqb, not-true}
-use Rattle.mesh.specs.Limits.{row-bytes}
-use Rattle.mesh.specs.Graph.{Graph, linked, degree}
-use Rattle.mesh.specs.Cores.{number}
-use Rattle.lists.proofs.Tests.{never, and-left, and-right, and-both}
-use Rattle.calls.specs.Sheet.{sheet-length}
-use Rattle.calls.specs.Questions.{ask, Lengths, site-lengths, answer-length, nodes-length, is-radio, are-radios, ends-differ, can-switch}
-use Rattle.calls.specs.Questions.{has-room, has-level, image-length, holds-image, holds-sheet}
+use Rattle.lists.{specs.Kit.{_≡_, refl, Bool, true, false, _&&_, not, ℕ, suc, _+_, _*_, _≤_, _<_, arith, ltb, eqb, ltb-true, leb-true, eqb-true, eqb-false}}
+use Rattle.lists.{specs.Kit.{lt-ltb, le-leb, eq-eqb, ne-eqb, not-true}, proofs.Tests.{never, and-left, and-right, and-both}}
+use Rattle.mesh.specs.{Limits.{row-bytes}, Graph.{Graph, linked, degree}, Cores.{number}}
+use Rattle.calls.specs.{Sheet.{sheet-length}, Questions.{ask, Lengths, site-lengths, answer-length, nodes-length, is-radio, are-radios, ends-differ}}
+use Rattle.calls.specs.{Questions.{can-switch, has-room, has-level, image-length, holds-image, holds-sheet}}
 pub use Rattle.mesh.proofs.Sizes.{size-good-true, true-size-good}
 
 -- ---- one question

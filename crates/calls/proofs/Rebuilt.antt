@@ -3,25 +3,14 @@
 --   ups-allowed        links that are wanted and down come up, where no radio has more than 40 wanted links
 --   ups-pairs          the pairs after links came up in their order
 --   rebuilt            from a cleared site: all links are allowed in turn, and the pairs are the site's
-use mathlib.Core.Path.{_≡_, refl, sym, ap, subst, _∙_}
-use mathlib.Core.Logic.{_⊎_, inl, inr}
-use mathlib.Core.Bool.{Bool, true, false, cond}
-use mathlib.Core.List.{List, [], _∷_, _++_, append-nil, append-assoc}
-use Prim.Native.Nat.{ℕ, _≤_, _<_}
-use native.Mathlib.Omega.{arith}
-use Rattle.lists.specs.Lists.{range, count, member}
-use Rattle.lists.proofs.Tests.{bool-cases, never}
-use Rattle.lists.proofs.Range.{in-range}
-use Rattle.lists.proofs.Count.{count-less}
-use Rattle.mesh.specs.Limits.{max-neighbours}
-use Rattle.mesh.specs.Graph.{Link, Graph, graph, In-links, radios, other-ends, linked, neighbours-among, degree, link, link-before, with-link, new-links, relinked}
-use Rattle.mesh.specs.Graph.{proper, ascending}
-use Rattle.mesh.specs.Valid.{Valid}
-use Rattle.mesh.specs.Graph.{Allowed}
-use Rattle.mesh.proofs.GraphLaws.{ends, Ends, ends-of, linked-sym, proper-of, of-proper, proper-new-links}
-use Rattle.mesh.proofs.Tables.Relinked.{linked-relinked, ascending-new-links}
-use Rattle.mesh.proofs.Tables.AscendingLinks.{in-links-right, in-links-proper, Before, before-irreflexive, before-trans, before-of, link-eq, Sorted, sorted-of}
-use Rattle.mesh.proofs.Tables.AscendingLinks.{in-linked, link-less}
+use Rattle.lists.{specs.Kit.{_≡_, refl, sym, ap, subst, _∙_, _⊎_, inl, inr, Bool, true, false, cond, List, [], _∷_, _++_, append-nil, append-assoc, ℕ, _≤_}}
+use Rattle.lists.{specs.Kit.{_<_, arith}, specs.Lists.{range, count, member}, proofs.Tests.{bool-cases, never}, proofs.Range.{in-range}}
+use Rattle.lists.{proofs.Count.{count-less}}
+use Rattle.mesh.{specs.Limits.{max-neighbours}, specs.Graph.{Link, Graph, graph, In-links, radios, other-ends, linked, neighbours-among, degree, link}}
+use Rattle.mesh.{specs.Graph.{link-before, with-link, new-links, relinked, proper, ascending, Allowed}, specs.Valid.{Valid}, proofs.GraphLaws.{ends, Ends}}
+use Rattle.mesh.{proofs.GraphLaws.{ends-of, linked-sym, proper-of, of-proper, proper-new-links}, proofs.Tables.Relinked.{linked-relinked, ascending-new-links}}
+use Rattle.mesh.{proofs.Tables.AscendingLinks.{in-links-right, in-links-proper, Before, before-irreflexive, before-trans, before-of, link-eq, Sorted}}
+use Rattle.mesh.{proofs.Tables.AscendingLinks.{sorted-of, in-linked, link-less}}
 use Rattle.calls.specs.Switches.{Switch, switch, pairs-after, All-allowed}
 
 unfoldable pub ups : List Link → List Switch

@@ -1,24 +1,15 @@
 -- Property 1 by the number that the host sees: an outcome whose number is not 0 has zeros beside it, and everything lent is as it was.
 -- What a batch keeps is in Batches.antt.
 --   ..-keeps          so it is of each call, by `refused-is`
-use mathlib.Core.Path.{_≡_, refl}
-use mathlib.Core.Bool.{Bool, true, false}
-use mathlib.Core.List.{List}
-use Prim.Native.Nat.{ℕ}
-use lib.IntN.{ℤ, pos}
-use Rattle.mesh.specs.Tables.{Tables}
-use Rattle.mesh.specs.declared.Node.{Node}
-use Rattle.calls.specs.Outcomes.{Numbered, numbered, Linked, linked-with, Asked, asked, Committed, committed-with, Heard, heard-with, Listing, listing, Treed, treed}
-use Rattle.calls.specs.Outcomes.{reply, value, later, clear-outcome, read-outcome, link-outcome, ask-outcome, commit-outcome, hear-outcome, value-outcome}
-use Rattle.calls.specs.Outcomes.{check-outcome, number-outcome, neighbours-outcome, linked-outcome, first-outcome, later-outcome, listing-outcome}
-use Rattle.calls.specs.Outcomes.{core-outcome, backbone-outcome, staircase-outcome, write-outcome, sheet-outcome, script-length-outcome, script-outcome, tree-outcome}
-use Rattle.calls.specs.Outcomes.{no-block, block-or-end, block-outcome}
-use Rattle.calls.specs.MarkOutcomes.{Stored, stored, store-outcome, set-outcome, remove-outcome, return-outcome}
-use Rattle.calls.specs.LiftOutcome.{pair, lift-outcome}
-use Rattle.calls.specs.declared.Value.{Value}
-use Rattle.calls.specs.declared.Later.{Later}
-use Rattle.calls.specs.declared.Block.{Block}
-use Rattle.calls.specs.declared.Pair.{Pair}
+use Rattle.lists.specs.Kit.{_≡_, refl, Bool, true, false, List, ℕ, ℤ, pos}
+use Rattle.mesh.specs.{Tables.{Tables}, declared.Node.{Node}}
+use Rattle.calls.specs.{Outcomes.{Numbered, numbered, Linked, linked-with, Asked, asked, Committed, committed-with, Heard, heard-with, Listing, listing}}
+use Rattle.calls.specs.{Outcomes.{Treed, treed, reply, value, later, clear-outcome, read-outcome, link-outcome, ask-outcome, commit-outcome}}
+use Rattle.calls.specs.{Outcomes.{hear-outcome, value-outcome, check-outcome, number-outcome, neighbours-outcome, linked-outcome, first-outcome}}
+use Rattle.calls.specs.{Outcomes.{later-outcome, listing-outcome, core-outcome, backbone-outcome, staircase-outcome, write-outcome, sheet-outcome}}
+use Rattle.calls.specs.{Outcomes.{script-length-outcome, script-outcome, tree-outcome, no-block, block-or-end, block-outcome}, MarkOutcomes.{Stored}}
+use Rattle.calls.specs.{MarkOutcomes.{stored, store-outcome, set-outcome, remove-outcome, return-outcome}, LiftOutcome.{pair, lift-outcome}}
+use Rattle.calls.specs.{declared.Value.{Value}, declared.Later.{Later}, declared.Block.{Block}, declared.Pair.{Pair}}
 use Rattle.calls.proofs.ContractLaws.{refused-is}
 
 -- ---- forms that several calls have

@@ -3,20 +3,11 @@
 --   run           every list of calls is a run
 --   run-is        and a run is the list of its calls carried out
 --   link-done, hear-done   a link call and a hearing, whatever the answer table and the further table hold
-use mathlib.Core.Path.{_≡_, refl, ap, subst}
-use mathlib.Core.Bool.{Bool}
-use mathlib.Core.List.{List, [], _∷_, _++_}
-use Prim.Native.Nat.{ℕ, zero, suc}
-use lib.ListN.{length, replicate, length-replicate}
-use Rattle.lists.proofs.Overwrite.{take-overwrite}
-use Rattle.mesh.specs.Levels.{changed}
-use Rattle.mesh.specs.Tables.{Tables, graph-in}
-use Rattle.mesh.specs.Sound.{sound}
-use Rattle.calls.specs.Questions.{lengths-of, link-refusal}
-use Rattle.calls.specs.Heard.{hear-refusal}
-use Rattle.calls.specs.Outcomes.{by-number, link-outcome, hear-outcome}
-use Rattle.calls.specs.Book.{Call, linking, hearing, Answer, counted}
-use Rattle.calls.specs.Runs.{Done, did, answer-of, done, Event, event, events, after}
+use Rattle.lists.{specs.Kit.{_≡_, refl, ap, subst, Bool, List, [], _∷_, _++_, ℕ, zero, suc, length, replicate, length-replicate}}
+use Rattle.lists.{proofs.Overwrite.{take-overwrite}}
+use Rattle.mesh.specs.{Levels.{changed}, Tables.{Tables, graph-in}, Sound.{sound}}
+use Rattle.calls.specs.{Questions.{lengths-of, link-refusal}, Heard.{hear-refusal}, Outcomes.{by-number, link-outcome, hear-outcome}, Book.{Call}}
+use Rattle.calls.specs.{Book.{linking, hearing, Answer, counted}, Runs.{Done, did, answer-of, done, Event, event, events, after}}
 
 unfoldable pub Does : Call → (t : Tables) → (answers : List Answer) → (v : Tables) → Type 0
 Does c t hs v = did hs v ≡ done c t

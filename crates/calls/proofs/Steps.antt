@@ -3,45 +3,23 @@
 --   Stepped o      what one call keeps, where o is the book's outcome of it
 --   step           every call keeps it
 -- A further call takes a lemma and a clause of `step` here: that its links are allowed in turn, and what it answers.
-use mathlib.Core.Path.{_≡_, refl, ap, sym, subst, _∙_}
-use mathlib.Core.Bool.{Bool, true}
-use mathlib.Core.List.{List, [], _∷_}
-use mathlib.Core.Option.{Option, none, some}
-use Prim.Native.Nat.{ℕ, zero, suc}
-use lib.ListN.{length, replicate, length-replicate}
-use lib.IntN.{ℤ, pos}
-use Rattle.mesh.specs.Limits.{max-neighbours}
-use Rattle.lists.specs.Lists.{overwrite}
-use Rattle.mesh.specs.Graph.{Link, Graph, graph}
-use Rattle.mesh.specs.Levels.{changed, step-of}
-use Rattle.mesh.specs.Tables.{Tables, graph-in}
-use Rattle.mesh.specs.Sound.{sound}
-use Rattle.mesh.specs.Image.{image-links}
-use Rattle.lists.proofs.Overwrite.{take-overwrite}
-use Rattle.calls.specs.Questions.{lengths-of, answer-length, ask, ends-then, ends-refusal, is-proposal, tables-refusal, link-refusal}
-use Rattle.calls.specs.Questions.{commit-refusal, read-refusal}
-use Rattle.calls.specs.Switches.{Switch, switch, pairs-after, tables-after, All-allowed}
-use Rattle.calls.specs.Batches.{list-length, batch-refusal, batch-switches, batch-stop}
-use Rattle.calls.specs.Heard.{heard-lengths, heard-proper, agreed-few, hear-refusal, one-sided-count, heard-switches}
-use Rattle.calls.specs.Marks.{store-length, marks-good, is-marked, has-place, mark-refusal, set-refusal, named-refusal, mark-image}
-use Rattle.calls.specs.Book.{Call, clearing, reading, linking, committing, batching, hearing, setting, removing, returning, other, Outcome}
-use Rattle.calls.specs.Book.{Answer, plain, reported, committed, counted}
-use Rattle.calls.specs.Book.{image-under, Beginning, from-clearing, from-image, Marking, no-mark, sets, removes, returns, outcome-of, outcome-with, unless-refused, outcome}
-use Rattle.calls.specs.Book.{beginning-pairs, first-pairs, pairs-of, radios, beginning-tables}
-use Rattle.calls.specs.Outcomes.{by-number, links-taken, clear-outcome, read-outcome, link-outcome, commit-outcome, batch-outcome, hear-outcome}
-use Rattle.calls.specs.MarkOutcomes.{store-outcome, set-outcome, remove-outcome, return-outcome}
-use Rattle.calls.specs.Runs.{answer-of, replied, Done, done}
-use Rattle.calls.specs.Demand.{ended, Call-kept, Start, cleared, read, By-history}
-use Rattle.calls.specs.declared.Reply.{Reply}
-use Rattle.calls.proofs.ChainLaws.{lent-zero, site-zero, link-zero, commit-zero, read-zero}
-use Rattle.calls.proofs.Runs.{Does}
-use Rattle.calls.proofs.MarkCalls.{named-zero, mark-read}
-use Rattle.calls.proofs.Holds.{clear-is, read-is}
-use Rattle.calls.proofs.Holds.{Holds, clear-holds, read-holds, unchanged-holds, same-n, read-back, site-asked, with-n, all-holds}
-use Rattle.calls.proofs.Holds.{all-switching}
-use Rattle.calls.proofs.QuestionLaws.{ask-zero}
-use Rattle.calls.proofs.Batches.{batch-allowed}
-use Rattle.calls.proofs.HeardLaws.{hear-allowed}
+use Rattle.lists.{specs.Kit.{_≡_, refl, ap, sym, subst, _∙_, Bool, true, List, [], _∷_, Option, none, some, ℕ, zero, suc, length, replicate, length-replicate}}
+use Rattle.lists.{specs.Kit.{ℤ, pos}, specs.Lists.{overwrite}, proofs.Overwrite.{take-overwrite}}
+use Rattle.mesh.specs.{Limits.{max-neighbours}, Graph.{Link, Graph, graph}, Levels.{changed, step-of}, Tables.{Tables, graph-in}, Sound.{sound}}
+use Rattle.mesh.specs.{Image.{image-links}}
+use Rattle.calls.specs.{Questions.{lengths-of, answer-length, ask, ends-then, ends-refusal, is-proposal, tables-refusal, link-refusal, commit-refusal}}
+use Rattle.calls.specs.{Questions.{read-refusal}, Switches.{Switch, switch, pairs-after, tables-after, All-allowed}, Batches.{list-length, batch-refusal}}
+use Rattle.calls.specs.{Batches.{batch-switches, batch-stop}, Heard.{heard-lengths, heard-proper, agreed-few, hear-refusal, one-sided-count}}
+use Rattle.calls.specs.{Heard.{heard-switches}, Marks.{store-length, marks-good, is-marked, has-place, mark-refusal, set-refusal, named-refusal}}
+use Rattle.calls.specs.{Marks.{mark-image}, Book.{Call, clearing, reading, linking, committing, batching, hearing, setting, removing, returning, other}}
+use Rattle.calls.specs.{Book.{Outcome, Answer, plain, reported, committed, counted, image-under, Beginning, from-clearing, from-image, Marking, no-mark}}
+use Rattle.calls.specs.{Book.{sets, removes, returns, outcome-of, outcome-with, unless-refused, outcome, beginning-pairs, first-pairs, pairs-of, radios}}
+use Rattle.calls.specs.{Book.{beginning-tables}, Outcomes.{by-number, links-taken, clear-outcome, read-outcome, link-outcome, commit-outcome}}
+use Rattle.calls.specs.{Outcomes.{batch-outcome, hear-outcome}, MarkOutcomes.{store-outcome, set-outcome, remove-outcome, return-outcome}}
+use Rattle.calls.specs.{Runs.{answer-of, replied, Done, done}, Demand.{ended, Call-kept, Start, cleared, read, By-history}, declared.Reply.{Reply}}
+use Rattle.calls.proofs.{ChainLaws.{lent-zero, site-zero, link-zero, commit-zero, read-zero}, Runs.{Does}, MarkCalls.{named-zero, mark-read}}
+use Rattle.calls.proofs.{Holds.{clear-is, read-is, Holds, clear-holds, read-holds, unchanged-holds, same-n, read-back, site-asked, with-n, all-holds}}
+use Rattle.calls.proofs.{Holds.{all-switching}, QuestionLaws.{ask-zero}, Batches.{batch-allowed}, HeardLaws.{hear-allowed}}
 
 pub record Stepped (n : ℕ) (ps : List Link) (o : Outcome) (t : Tables) (hs : List Answer) (v : Tables) : Type 0 where
   pub kept : Call-kept n ps o t hs v

@@ -1,31 +1,14 @@
 -- Demand 3, closed: by induction over the list of calls, from the theory of mesh.
-use mathlib.Core.Path.{_≡_, refl, ap, sym, subst, _∙_}
-use mathlib.Core.Bool.{Bool, true}
-use mathlib.Core.List.{List, [], _∷_, _++_}
-use mathlib.Core.Option.{none}
-use Prim.Native.Nat.{ℕ, zero, suc, _<_}
-use native.Mathlib.Omega.{arith}
-use Rattle.mesh.specs.Graph.{Link, graph}
-use Rattle.mesh.specs.Cores.{Core}
-use Rattle.mesh.specs.Orders.{is-k-order}
-use Rattle.mesh.specs.Tables.{Tables, tables-of}
-use Rattle.mesh.specs.Sound.{number-in}
-use Rattle.mesh.specs.Levels.{changed}
-use Rattle.mesh.specs.Image.{image-links}
-use Rattle.mesh.proofs.Cores.Peeling.{number-core, getD-numbers}
-use Rattle.calls.specs.Questions.{lengths-of, answer-length, tables-refusal, read-refusal, link-refusal}
-use Rattle.calls.specs.Outcomes.{Numbered, numbered, clear-outcome, read-outcome}
-use Rattle.calls.specs.Switches.{Switch, switch, pairs-after, tables-after}
-use Rattle.calls.specs.Book.{Call, linking, given, Answer, plain, reported, outcome-of, unless-refused, outcome, pairs-of}
-use Rattle.calls.specs.Book.{booked, book-answers, book-after, from-clearing, from-image, beginning-pairs, radios, beginning-tables, fresh, past, history, past-of}
-use Rattle.calls.specs.Runs.{Event, event, events, after, givens, answers}
-use Rattle.calls.proofs.Runs.{Run, ended, next, run}
-use Rattle.calls.specs.Demand.{Kept, Link-kept, Switching, Start, cleared, read, beginning, Demand-3}
-use Rattle.calls.proofs.ChainLaws.{link-zero}
-use Rattle.calls.proofs.Holds.{Holds, clear-holds, read-holds, clear-is, read-is, same-n, is-sound, read-back}
-use Rattle.calls.proofs.ContractLaws.{accepted-is}
-use Rattle.calls.proofs.Steps.{Stepped, step}
-use Rattle.calls.proofs.Histories.{Traced, Past-holds, past-kept}
+use Rattle.lists.specs.Kit.{_≡_, refl, ap, sym, subst, _∙_, Bool, true, List, [], _∷_, _++_, none, ℕ, zero, suc, _<_, arith}
+use Rattle.mesh.{specs.Graph.{Link, graph}, specs.Cores.{Core}, specs.Orders.{is-k-order}, specs.Tables.{Tables, tables-of}, specs.Sound.{number-in}}
+use Rattle.mesh.{specs.Levels.{changed}, specs.Image.{image-links}, proofs.Cores.Peeling.{number-core, getD-numbers}}
+use Rattle.calls.specs.{Questions.{lengths-of, answer-length, tables-refusal, read-refusal, link-refusal}, Outcomes.{Numbered, numbered, clear-outcome}}
+use Rattle.calls.specs.{Outcomes.{read-outcome}, Switches.{Switch, switch, pairs-after, tables-after}, Book.{Call, linking, given, Answer, plain}}
+use Rattle.calls.specs.{Book.{reported, outcome-of, unless-refused, outcome, pairs-of, booked, book-answers, book-after, from-clearing, from-image}}
+use Rattle.calls.specs.{Book.{beginning-pairs, radios, beginning-tables, fresh, past, history, past-of}, Runs.{Event, event, events, after, givens}}
+use Rattle.calls.specs.{Runs.{answers}, Demand.{Kept, Link-kept, Switching, Start, cleared, read, beginning, Demand-3}}
+use Rattle.calls.proofs.{Runs.{Run, ended, next, run}, ChainLaws.{link-zero}, Holds.{Holds, clear-holds, read-holds, clear-is, read-is, same-n}}
+use Rattle.calls.proofs.{Holds.{is-sound, read-back}, ContractLaws.{accepted-is}, Steps.{Stepped, step}, Histories.{Traced, Past-holds, past-kept}}
 
 -- each call of a list, with the tables before it
 Each : (n : ℕ) → (ps : List Link) → List Event → Type 0

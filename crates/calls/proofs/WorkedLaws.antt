@@ -2,45 +2,22 @@
 --   Alike         what link calls leave holds the pairs, the order and the answers of a state
 --   by-state      a row that is right on pairs and order is right over the outcomes, whatever the lent tables held
 -- In order: what is lent, what calls answer, the state, link calls, what is wanted, rows.
-use mathlib.Core.Path.{_≡_, refl, ap, sym, _∙_}
-use mathlib.Core.Bool.{true, false, _&&_}
-use mathlib.Core.List.{List, [], _∷_, _++_, flatMap}
-use Prim.Native.Nat.{ℕ, zero, suc, _+_, _*_, _≤_}
-use native.Mathlib.Omega.{arith}
-use lib.Dec.{eqb}
-use lib.ListN.{length, take, length-map}
-use borrow.Author.Tests.{eqb-true, eq-eqb}
-use Rattle.mesh.specs.Limits.{max-neighbours, row-bytes}
-use Rattle.lists.specs.Lists.{range, same, overwrite}
-use Rattle.mesh.specs.Graph.{Link, Graph, graph, radios}
-use Rattle.mesh.specs.Staircase.{staircase, link-entries}
-use Rattle.mesh.specs.Levels.{changed}
-use Rattle.mesh.specs.Tables.{Tables, graph-in, tables-of}
-use Rattle.mesh.specs.Sound.{sound}
-use Rattle.mesh.specs.Connected.{core-of, backbone}
-use Rattle.mesh.specs.Tree.{node, node-name, tree, node-names}
-use Rattle.mesh.specs.Image.{long, image-of}
-use Rattle.mesh.specs.declared.Node.{Node}
-use Rattle.lists.proofs.Tests.{never, and-left, and-right, and-both}
-use Rattle.lists.proofs.Range.{length-range}
-use Rattle.lists.proofs.All.{same-refl, same-eq}
-use Rattle.lists.proofs.Overwrite.{take-overwrite}
-use Rattle.mesh.proofs.Images.Of.{length-image-of}
-use Rattle.calls.specs.Questions.{link-refusal, lengths-of, size-good, level-refusal, image-length, tables-refusal, ends-refusal, read-refusal}
-use Rattle.calls.specs.Switches.{Switch, switched}
-use Rattle.calls.specs.Outcomes.{link-outcome, by-number, Numbered, Listing, reply, value, listing-outcome, clear-outcome, read-outcome, write-outcome, tree-outcome}
-use Rattle.calls.specs.Book.{beginning-tables}
-use Rattle.calls.specs.Worked.{entries, lent-tables, lent-nodes, Left, left, left-by, played, after, Want, last-answers, all-numbers, whole-order}
-use Rattle.calls.specs.Worked.{shell-tree, connected-core, backbone-radios, image-checks, printed, soundness, staircase-list, formerly, script, bad-text, image-reading, same-nodes, block-checks}
-use Rattle.calls.specs.Worked.{is-value, is-listing, image-written, meets, meets-all, Row, right, Right, All-right}
-use Rattle.calls.proofs.ContractLaws.{number-by}
-use Rattle.calls.proofs.QuestionLaws.{size-good-true}
-use Rattle.calls.proofs.ChainLaws.{lent-yes, ends-zero}
-use Rattle.calls.proofs.Holds.{Holds, clear-is, clear-holds, read-back, switched-holds}
-use Rattle.calls.proofs.Steps.{answer-accepted, answer-refused}
-use Rattle.calls.proofs.ByPairs.{link-asked, core-by-pairs, backbone-by-pairs, write-by-pairs, tree-by-pairs, staircase-by-pairs}
-use Rattle.calls.proofs.WorkedState.{State, state, carried-out, state-played, state-after, right-lengths, state-meets, state-meets-all, state-right}
-use Rattle.calls.proofs.WorkedState.{all-state-right}
+use Rattle.lists.{specs.Kit.{_≡_, refl, ap, sym, _∙_, true, false, _&&_, List, [], _∷_, _++_, flatMap, ℕ, zero, suc, _+_, _*_, _≤_, arith, eqb, length, take}}
+use Rattle.lists.{specs.Kit.{length-map, eqb-true, eq-eqb}, specs.Lists.{range, same, overwrite}, proofs.Tests.{never, and-left, and-right, and-both}}
+use Rattle.lists.{proofs.Range.{length-range}, proofs.All.{same-refl, same-eq}, proofs.Overwrite.{take-overwrite}}
+use Rattle.mesh.{specs.Limits.{max-neighbours, row-bytes}, specs.Graph.{Link, Graph, graph, radios}, specs.Staircase.{staircase, link-entries}}
+use Rattle.mesh.{specs.Levels.{changed}, specs.Tables.{Tables, graph-in, tables-of}, specs.Sound.{sound}, specs.Connected.{core-of, backbone}}
+use Rattle.mesh.{specs.Tree.{node, node-name, tree, node-names}, specs.Image.{long, image-of}, specs.declared.Node.{Node}, proofs.Images.Of.{length-image-of}}
+use Rattle.calls.specs.{Questions.{link-refusal, lengths-of, size-good, level-refusal, image-length, tables-refusal, ends-refusal, read-refusal}}
+use Rattle.calls.specs.{Switches.{Switch, switched}, Outcomes.{link-outcome, by-number, Numbered, Listing, reply, value, listing-outcome, clear-outcome}}
+use Rattle.calls.specs.{Outcomes.{read-outcome, write-outcome, tree-outcome}, Book.{beginning-tables}, Worked.{entries, lent-tables, lent-nodes, Left}}
+use Rattle.calls.specs.{Worked.{left, left-by, played, after, Want, last-answers, all-numbers, whole-order, shell-tree, connected-core, backbone-radios}}
+use Rattle.calls.specs.{Worked.{image-checks, printed, soundness, staircase-list, formerly, script, bad-text, image-reading, same-nodes, block-checks}}
+use Rattle.calls.specs.{Worked.{is-value, is-listing, image-written, meets, meets-all, Row, right, Right, All-right}}
+use Rattle.calls.proofs.{ContractLaws.{number-by}, QuestionLaws.{size-good-true}, ChainLaws.{lent-yes, ends-zero}, Holds.{Holds, clear-is, clear-holds}}
+use Rattle.calls.proofs.{Holds.{read-back, switched-holds}, Steps.{answer-accepted, answer-refused}, ByPairs.{link-asked, core-by-pairs}}
+use Rattle.calls.proofs.{ByPairs.{backbone-by-pairs, write-by-pairs, tree-by-pairs, staircase-by-pairs}, WorkedState.{State, state, carried-out}}
+use Rattle.calls.proofs.{WorkedState.{state-played, state-after, right-lengths, state-meets, state-meets-all, state-right, all-state-right}}
 
 -- ---- what is lent
 

@@ -6,14 +6,9 @@
 --   batch-stop n xs ps       the number of the link that is refused, or 0
 --   ups xs                   every link of the list xs, going up
 -- Definitions only.
-use mathlib.Core.Bool.{Bool, true}
-use mathlib.Core.List.{List, [], _∷_}
-use Prim.Native.Nat.{ℕ, zero, suc, _%_}
-use lib.Dec.{eqb}
-use Rattle.mesh.specs.Limits.{max-neighbours}
-use Rattle.mesh.specs.Graph.{Link, graph, new-links}
-use Rattle.calls.specs.Questions.{Lengths, site-refusal, ends-refusal}
-use Rattle.calls.specs.Switches.{Switch, switch}
+use Rattle.lists.specs.Kit.{Bool, true, List, [], _∷_, ℕ, zero, suc, _%_, eqb}
+use Rattle.mesh.specs.{Limits.{max-neighbours}, Graph.{Link, graph, new-links}}
+use Rattle.calls.specs.{Questions.{Lengths, site-refusal, ends-refusal}, Switches.{Switch, switch}}
 
 -- ---- questions
 

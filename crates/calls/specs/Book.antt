@@ -14,22 +14,13 @@
 --   all-leave x i     no accepted call of a list sets, replaces or removes a mark of the name x and the image i
 -- A further call is a constructor of `Call` and a clause of `outcome` here, and a clause of `Does` in specs/Runs.antt.
 -- Definitions only.
-use mathlib.Core.Bool.{Bool, true, false, _&&_, _||_, not, cond}
-use mathlib.Core.List.{List, [], _∷_, _++_}
-use mathlib.Core.Option.{Option, none, some}
-use Prim.Native.Nat.{ℕ, zero, suc}
-use lib.IntN.{ℤ, pos}
-use lib.ListN.{length}
-use Rattle.lists.specs.Lists.{range, same}
-use Rattle.mesh.specs.Graph.{Link, graph}
-use Rattle.mesh.specs.Levels.{changed, step-of}
-use Rattle.mesh.specs.Tables.{Tables, tables-of, graph-in}
-use Rattle.mesh.specs.Image.{image-links, image-graph, image-order, image-of}
-use Rattle.calls.specs.Questions.{Lengths, tables-refusal, link-refusal, commit-refusal, read-refusal}
-use Rattle.calls.specs.Switches.{Switch, switch, pairs-after, tables-after}
-use Rattle.calls.specs.Batches.{batch-refusal, batch-switches, batch-stop}
-use Rattle.calls.specs.Heard.{hear-refusal, one-sided-count, heard-switches}
-use Rattle.calls.specs.Marks.{set-refusal, named-refusal, is-marked, mark-image}
+use Rattle.lists.specs.{Kit.{Bool, true, false, _&&_, _||_, not, cond, List, [], _∷_, _++_, Option, none, some, ℕ, zero, suc, ℤ, pos, length}, Lists.{range}}
+use Rattle.lists.specs.{Lists.{same}}
+use Rattle.mesh.specs.{Graph.{Link, graph}, Levels.{changed, step-of}, Tables.{Tables, tables-of, graph-in}, Image.{image-links, image-graph, image-order}}
+use Rattle.mesh.specs.{Image.{image-of}}
+use Rattle.calls.specs.{Questions.{Lengths, tables-refusal, link-refusal, commit-refusal, read-refusal}, Switches.{Switch, switch, pairs-after}}
+use Rattle.calls.specs.{Switches.{tables-after}, Batches.{batch-refusal, batch-switches, batch-stop}, Heard.{hear-refusal, one-sided-count}}
+use Rattle.calls.specs.{Heard.{heard-switches}, Marks.{set-refusal, named-refusal, is-marked, mark-image}}
 
 -- document 01, with the calls of W-205, W-210, W-211 and W-213
 -- what the book is given of a call, beside the lengths of links, numbers and order: `answer` is the answer table's length, `further` that of

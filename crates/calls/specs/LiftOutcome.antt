@@ -3,13 +3,9 @@
 --   lift-outcome   the first pair that lifts v, by lower radio and then higher; or the refusal
 -- The contract of the call (Contracts.antt) is that its result is this outcome.
 -- Definitions only.
-use Prim.Native.Nat.{ℕ}
-use Rattle.mesh.specs.Tables.{Tables, graph-in}
-use Rattle.mesh.specs.Sound.{sound}
-use Rattle.calls.specs.Questions.{lengths-of}
-use Rattle.calls.specs.Lift.{lifting, first-pair, lift-refusal}
-use Rattle.calls.specs.Outcomes.{by-number}
-use Rattle.calls.specs.declared.Pair.{Pair}
+use Rattle.lists.specs.Kit.{ℕ}
+use Rattle.mesh.specs.{Tables.{Tables, graph-in}, Sound.{sound}}
+use Rattle.calls.specs.{Questions.{lengths-of}, Lift.{lifting, first-pair, lift-refusal}, Outcomes.{by-number}, declared.Pair.{Pair}}
 
 -- document 02, W-212
 abbrev pub pair : (number low high : ℕ) → Pair

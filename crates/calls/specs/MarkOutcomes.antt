@@ -1,13 +1,9 @@
 -- The outcome of each call on named marks (W-211) as an executable definition. The contract of a call (Contracts.antt) is that its
 -- result and lent tables are this outcome. Definitions only.
-use mathlib.Core.List.{List}
-use Prim.Native.Nat.{ℕ}
-use Rattle.mesh.specs.Tables.{Tables, tables-of}
-use Rattle.mesh.specs.Sound.{sound}
-use Rattle.mesh.specs.Image.{image-graph, image-order}
-use Rattle.calls.specs.Questions.{lengths-of}
-use Rattle.calls.specs.Marks.{set-refusal, named-refusal, set-store, removed-store, mark-image}
-use Rattle.calls.specs.Outcomes.{by-number, Numbered, numbered}
+use Rattle.lists.specs.Kit.{List, ℕ}
+use Rattle.mesh.specs.{Tables.{Tables, tables-of}, Sound.{sound}, Image.{image-graph, image-order}}
+use Rattle.calls.specs.{Questions.{lengths-of}, Marks.{set-refusal, named-refusal, set-store, removed-store, mark-image}, Outcomes.{by-number, Numbered}}
+use Rattle.calls.specs.{Outcomes.{numbered}}
 
 -- what setting or removing a mark comes to: the number, and the store after it
 pub record Stored : Type 0 where

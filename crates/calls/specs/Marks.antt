@@ -8,14 +8,9 @@
 --   set-store, removed-store   the store after
 --   mark-image n x bs the image that the mark x of the store bs holds
 -- Definitions only.
-use mathlib.Core.Bool.{Bool, _&&_, _||_}
-use mathlib.Core.List.{List}
-use Prim.Native.Nat.{ℕ}
-use lib.Dec.{ltb, eqb}
-use lib.ListN.{length}
-use Rattle.mesh.specs.Tables.{Tables, graph-in}
-use Rattle.mesh.specs.Image.{image-of}
-use Rattle.mesh.specs.Marks.{places, store-bytes, is-name, is-store, image-in, place-of, marks-in, store-of, has-mark, found, with-mark, without-mark}
+use Rattle.lists.specs.Kit.{Bool, _&&_, _||_, List, ℕ, ltb, eqb, length}
+use Rattle.mesh.specs.{Tables.{Tables, graph-in}, Image.{image-of}, Marks.{places, store-bytes, is-name, is-store, image-in, place-of, marks-in, store-of}}
+use Rattle.mesh.specs.{Marks.{has-mark, found, with-mark, without-mark}}
 use Rattle.calls.specs.Questions.{ask, Lengths, site-refusal}
 
 -- ---- questions

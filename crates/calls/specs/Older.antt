@@ -5,39 +5,24 @@
 --   former-read-outcome      what reading gave then
 --   Older                    what calls give of them: what they gave then, but that a link-up call refused by 7 is taken
 -- That it holds is `older` in proofs/Older.antt. Clearing and the block reader do not ask for the limit. Definitions only.
-use mathlib.Core.Path.{_≡_}
-use mathlib.Core.Bool.{Bool, true, cond}
-use mathlib.Core.List.{List}
-use Prim.Native.Nat.{ℕ, _≤_}
-use lib.ListN.{length}
-use Rattle.lists.specs.Lists.{head-or, overwrite}
-use Rattle.mesh.specs.Limits.{max-radios, former-neighbours, size-good}
-use Rattle.mesh.specs.Graph.{Graph, degree}
+use Rattle.lists.specs.{Kit.{_≡_, Bool, true, cond, List, ℕ, _≤_, length}, Lists.{head-or, overwrite}}
+use Rattle.mesh.specs.{Limits.{max-radios, former-neighbours, size-good}, Graph.{Graph, degree}, Orders.{later-in, nobody}, Connected.{core-of}}
+use Rattle.mesh.specs.{Staircase.{link-entries}, Tree.{node-names}, Tables.{Tables, graph-in, tables-of}, Sound.{sound-within}, Image.{image-of, image-graph}}
+use Rattle.mesh.specs.{Image.{image-order, is-image-within, is-image}, declared.Node.{Node}}
+use Rattle.calls.specs.{Questions.{ask, Lengths, lengths-of, image-length, lent-refusal, tables-refusal, blocks-refusal, radio-refusal, pair-refusal}}
+use Rattle.calls.specs.{Questions.{core-refusal, backbone-refusal, tree-refusal, staircase-refusal, write-refusal, sheet-refusal, script-length-refusal}}
+use Rattle.calls.specs.{Questions.{script-refusal}, Sheet.{sheet-length}, Script.{script-of}, Outcomes.{by-number, value, Numbered, numbered, treed}}
+use Rattle.calls.specs.{Outcomes.{read-outcome, link-outcome-within, link-outcome, value-outcome, listing-outcome, first-of-two, check-outcome}}
+use Rattle.calls.specs.{Outcomes.{number-outcome, neighbours-outcome, linked-outcome, first-outcome, later-outcome, core-outcome, backbone-outcome}}
+use Rattle.calls.specs.{Outcomes.{staircase-outcome, write-outcome, tree-outcome, sheet-outcome, script-length-outcome, script-outcome}}
 use Rattle.mesh.specs.Graph as graphs
 use Rattle.mesh.specs.Cores as cores
-use Rattle.mesh.specs.Orders.{later-in, nobody}
-use Rattle.mesh.specs.Connected.{core-of}
 use Rattle.mesh.specs.Connected as connected
-use Rattle.mesh.specs.Staircase.{link-entries}
 use Rattle.mesh.specs.Staircase as staircases
-use Rattle.mesh.specs.Tree.{node-names}
 use Rattle.mesh.specs.Tree as trees
-use Rattle.mesh.specs.Tables.{Tables, graph-in, tables-of}
-use Rattle.mesh.specs.Sound.{sound-within}
-use Rattle.mesh.specs.Image.{image-of, image-graph, image-order, is-image-within, is-image}
-use Rattle.mesh.specs.declared.Node.{Node}
-use Rattle.calls.specs.Questions.{ask, Lengths, lengths-of, image-length, lent-refusal, tables-refusal, blocks-refusal, radio-refusal, pair-refusal}
-use Rattle.calls.specs.Questions.{core-refusal, backbone-refusal, tree-refusal, staircase-refusal, write-refusal, sheet-refusal}
-use Rattle.calls.specs.Questions.{script-length-refusal, script-refusal}
-use Rattle.calls.specs.Sheet.{sheet-length}
 use Rattle.calls.specs.Sheet as sheets
-use Rattle.calls.specs.Script.{script-of}
 use Rattle.calls.specs.Script as scripts
-use Rattle.calls.specs.Outcomes.{by-number, value, Numbered, numbered, treed, read-outcome, link-outcome-within, link-outcome}
 use Rattle.calls.specs.Outcomes as outcomes
-use Rattle.calls.specs.Outcomes.{value-outcome, listing-outcome, first-of-two, check-outcome, number-outcome, neighbours-outcome, linked-outcome}
-use Rattle.calls.specs.Outcomes.{first-outcome, later-outcome, core-outcome, backbone-outcome, staircase-outcome, write-outcome, tree-outcome}
-use Rattle.calls.specs.Outcomes.{sheet-outcome, script-length-outcome, script-outcome}
 
 -- the conditions of soundness, with the former limit
 abbrev pub Was-sound : (n : ℕ) → Tables → Type 0

@@ -5,37 +5,17 @@
 --   link-outcome-within most             a link call with that bound on neighbours in questions 3 and 7
 -- The contract of a call (Contracts.antt) is that its result and lent tables are this outcome.
 -- Definitions only.
-use mathlib.Core.Bool.{Bool, true, false, cond}
-use mathlib.Core.List.{List, [], _∷_}
-use Prim.Native.Nat.{ℕ, zero, suc, _+_, _*_, _/_}
-use lib.Dec.{ltb, eqb}
-use lib.IntN.{ℤ, pos}
-use lib.ListN.{length, replicate}
-use Rattle.mesh.specs.Limits.{max-neighbours, row-bytes}
-use Rattle.lists.specs.Lists.{range, head-or, overwrite}
-use Rattle.mesh.specs.Graph.{linked, degree}
-use Rattle.mesh.specs.Cores.{number}
-use Rattle.mesh.specs.Orders.{later-in, nobody}
-use Rattle.mesh.specs.Levels.{changed, step-of}
-use Rattle.mesh.specs.Tables.{Tables, tables, graph-in, tables-of}
-use Rattle.mesh.specs.Sound.{sound-within, sound}
-use Rattle.mesh.specs.Connected.{core-of, backbone}
-use Rattle.mesh.specs.Tree.{tree, node-names}
-use Rattle.mesh.specs.Staircase.{staircase, link-entries}
-use Rattle.mesh.specs.Image.{block-bytes, payload-bytes, image-of, image-graph, image-order}
-use Rattle.mesh.specs.declared.Node.{Node}
-use Rattle.calls.specs.Questions.{lengths-of, image-length, tables-refusal, link-refusal-within, read-refusal, radio-refusal, pair-refusal}
-use Rattle.calls.specs.Questions.{link-refusal, commit-refusal, core-refusal, backbone-refusal, tree-refusal, staircase-refusal, write-refusal, sheet-refusal, block-refusal}
-use Rattle.calls.specs.Questions.{script-length-refusal, script-refusal}
-use Rattle.calls.specs.Sheet.{sheet, sheet-length}
-use Rattle.calls.specs.Script.{script-of, script-length}
-use Rattle.calls.specs.Switches.{switch, switched, tables-after}
-use Rattle.calls.specs.Batches.{batch-refusal, batch-switches, batch-stop}
-use Rattle.calls.specs.Heard.{hear-refusal, one-sided, one-sided-count, heard-switches}
-use Rattle.calls.specs.declared.Reply.{Reply}
-use Rattle.calls.specs.declared.Value.{Value}
-use Rattle.calls.specs.declared.Later.{Later}
-use Rattle.calls.specs.declared.Block.{Block}
+use Rattle.lists.specs.{Kit.{Bool, true, false, cond, List, [], _∷_, ℕ, zero, suc, _+_, _*_, _/_, ltb, eqb, ℤ, pos, length, replicate}, Lists.{range, head-or}}
+use Rattle.lists.specs.{Lists.{overwrite}}
+use Rattle.mesh.specs.{Limits.{max-neighbours, row-bytes}, Graph.{linked, degree}, Cores.{number}, Orders.{later-in, nobody}, Levels.{changed, step-of}}
+use Rattle.mesh.specs.{Tables.{Tables, tables, graph-in, tables-of}, Sound.{sound-within, sound}, Connected.{core-of, backbone}, Tree.{tree, node-names}}
+use Rattle.mesh.specs.{Staircase.{staircase, link-entries}, Image.{block-bytes, payload-bytes, image-of, image-graph, image-order}, declared.Node.{Node}}
+use Rattle.calls.specs.{Questions.{lengths-of, image-length, tables-refusal, link-refusal-within, read-refusal, radio-refusal, pair-refusal}}
+use Rattle.calls.specs.{Questions.{link-refusal, commit-refusal, core-refusal, backbone-refusal, tree-refusal, staircase-refusal, write-refusal}}
+use Rattle.calls.specs.{Questions.{sheet-refusal, block-refusal, script-length-refusal, script-refusal}, Sheet.{sheet, sheet-length}, Script.{script-of}}
+use Rattle.calls.specs.{Script.{script-length}, Switches.{switch, switched, tables-after}, Batches.{batch-refusal, batch-switches, batch-stop}}
+use Rattle.calls.specs.{Heard.{hear-refusal, one-sided, one-sided-count, heard-switches}, declared.Reply.{Reply}, declared.Value.{Value}}
+use Rattle.calls.specs.{declared.Later.{Later}, declared.Block.{Block}}
 
 -- no "no": the accepted outcome; else that of the refusal
 unfoldable pub by-number : {A : Type 0} → (refusal : ℕ) → (accepted : A) → (refused : ℕ → A) → A

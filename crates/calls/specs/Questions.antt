@@ -7,21 +7,10 @@
 -- pairs and gives 3 a yes. A chain `..-within most` asks with that bound on neighbours; without it, with a site's own. The numbers
 -- of document 02 stand where it puts them: 12 and 13 after 3, 16 after 7, 15 after 10.
 -- Definitions only.
-use mathlib.Core.Bool.{Bool, true, false, _&&_, not}
-use mathlib.Core.List.{List}
-use Prim.Native.Nat.{ℕ, zero, suc, _+_, _*_}
-use lib.Dec.{ltb, leb, eqb}
-use lib.IntN.{ℤ, pos, negsuc}
-use lib.ListN.{length}
-use Rattle.mesh.specs.Limits.{max-neighbours, row-bytes}
-use Rattle.lists.specs.Lists.{same}
-use Rattle.mesh.specs.Graph.{Graph, linked, degree}
-use Rattle.mesh.specs.Cores.{number}
-use Rattle.mesh.specs.Levels.{changed, step-of}
-use Rattle.mesh.specs.Tables.{Tables}
-use Rattle.mesh.specs.Image.{block-bytes, block-count, whole-blocks, checks-good, other-size, is-image}
-use Rattle.calls.specs.Sheet.{sheet-length}
-use Rattle.calls.specs.Script.{script-length}
+use Rattle.lists.specs.{Kit.{Bool, true, false, _&&_, not, List, ℕ, _+_, _*_, ltb, leb, eqb, ℤ, pos, negsuc, length}, Lists.{same}}
+use Rattle.mesh.specs.{Limits.{max-neighbours, row-bytes}, Graph.{Graph, linked, degree}, Cores.{number}, Levels.{changed, step-of}, Tables.{Tables}}
+use Rattle.mesh.specs.{Image.{block-bytes, block-count, whole-blocks, checks-good, other-size, is-image}}
+use Rattle.calls.specs.{Sheet.{sheet-length}, Script.{script-length}}
 unfoldable pub use Rattle.mesh.specs.Limits.{size-good}
 
 unfoldable pub ask : (number : ℕ) → (yes : Bool) → (later : ℕ) → ℕ

@@ -7,29 +7,15 @@
 --   meets want             is it so, by the outcome of the call that is asked
 --   Row, Right             a row, and that its wants are met whatever the lent tables held
 -- Definitions only.
-use mathlib.Core.Path.{_≡_}
-use mathlib.Core.Bool.{Bool, true, false, _&&_, cond}
-use mathlib.Core.List.{List, [], _∷_, _++_, map, flatMap}
-use Prim.Native.Nat.{ℕ, zero, suc, _+_, _*_, _-_}
+use Rattle.lists.specs.{Kit.{_≡_, Bool, true, false, _&&_, cond, List, [], _∷_, _++_, map, flatMap, ℕ, zero, suc, _+_, _*_, _-_, eqb, length, drop, take, set}}
+use Rattle.lists.specs.{Lists.{range, same}}
 use Prim.Native.String.{String}
-use lib.Dec.{eqb}
-use lib.ListN.{length, drop, take, set}
-use Rattle.mesh.specs.Limits.{row-bytes, former-neighbours}
-use Rattle.lists.specs.Lists.{range, same}
-use Rattle.mesh.specs.Tables.{Tables, tables, graph-in}
-use Rattle.mesh.specs.Tree.{node}
-use Rattle.mesh.specs.Image.{block-bytes, long}
-use Rattle.mesh.specs.declared.Node.{Node}
-use Rattle.calls.specs.Questions.{image-length, same-step, ends-refusal}
-use Rattle.calls.specs.Switches.{Switch, switch}
-use Rattle.calls.specs.Outcomes.{Linked, Listing, clear-outcome, read-outcome, link-outcome, check-outcome, core-outcome, backbone-outcome, write-outcome, tree-outcome}
-use Rattle.calls.specs.Outcomes.{staircase-outcome}
-use Rattle.calls.specs.Script.{script-of}
-use Rattle.calls.specs.Book.{Answer, plain, reported}
-use Rattle.calls.specs.Runs.{answer-of}
+use Rattle.mesh.specs.{Limits.{row-bytes, former-neighbours}, Tables.{Tables, tables, graph-in}, Tree.{node}, Image.{block-bytes, long}, declared.Node.{Node}}
+use Rattle.calls.specs.{Questions.{image-length, same-step, ends-refusal}, Switches.{Switch, switch}, Outcomes.{Linked, Listing, clear-outcome}}
+use Rattle.calls.specs.{Outcomes.{read-outcome, link-outcome, check-outcome, core-outcome, backbone-outcome, write-outcome, tree-outcome}}
+use Rattle.calls.specs.{Outcomes.{staircase-outcome}, Script.{script-of}, Book.{Answer, plain, reported}, Runs.{answer-of}, Replay.{lines, bad-line}}
+use Rattle.calls.specs.{declared.Value.{Value}}
 use Rattle.text.specs.Text.{bytes-of}
-use Rattle.calls.specs.Replay.{lines, bad-line}
-use Rattle.calls.specs.declared.Value.{Value}
 
 -- ---- what is lent
 

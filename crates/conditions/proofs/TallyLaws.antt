@@ -2,26 +2,13 @@
 --   Counting           some radios are counted, and with what is left they come to what all of them come to
 --   Word-counting      the same of the radios of a word
 --   Words-counting     the same of the words of a row
-use mathlib.Core.Path.{_≡_, sym, ap, _∙_}
-use mathlib.Core.Bool.{Bool, cond}
-use mathlib.Core.List.{List, [], _∷_, _++_}
-use Prim.Native.Nat.{ℕ, _+_, _*_, _-_, _^_, _≤_, _<_}
-use native.Mathlib.Omega.{arith}
-use mir.Syntax.{w32}
-use mir.Val.{boolByte, Fits}
-use lib.Bits.{bitAnd, and-le-l}
-use lib.Count.{trailingZeros}
-use lib.ListN.{length, getD, length-append}
-use Rattle.mesh.specs.Limits.{max-radios, row-bytes}
-use Rattle.mesh.specs.Tables.{marked}
-use Rattle.lists.specs.Lists.{range, count}
-use Rattle.lists.proofs.Tests.{byte-bit, bit-one}
-use Rattle.lists.proofs.Count.{count-le-length, count-append}
-use Rattle.lists.proofs.Range.{length-range}
-use Rattle.lists.proofs.Filter.{filter-le}
-use Rattle.rows.specs.Rows.{neighbours-of, row-from, set-bits, row-word}
-use Rattle.rows.proofs.WordLaws.{set-bits-nothing, set-bits-lowest, length-set-bits-le}
-use Rattle.rows.proofs.RowWords.{row-from-zero, row-from-word, row-from-end}
+use Rattle.lists.{specs.Kit.{_≡_, sym, ap, _∙_, Bool, cond, List, [], _∷_, _++_, ℕ, _+_, _*_, _-_, _^_, _≤_, _<_, arith, bitAnd, and-le-l, trailingZeros}}
+use Rattle.lists.{specs.Kit.{length, getD, length-append}, specs.Lists.{range, count}, proofs.Tests.{byte-bit, bit-one}, proofs.Count.{count-le-length}}
+use Rattle.lists.{proofs.Count.{count-append}, proofs.Range.{length-range}, proofs.Filter.{filter-le}}
+use mir.{Syntax.{w32}, Val.{boolByte, Fits}}
+use Rattle.mesh.specs.{Limits.{max-radios, row-bytes}, Tables.{marked}}
+use Rattle.rows.{specs.Rows.{neighbours-of, row-from, set-bits, row-word}, proofs.WordLaws.{set-bits-nothing, set-bits-lowest, length-set-bits-le}}
+use Rattle.rows.{proofs.RowWords.{row-from-zero, row-from-word, row-from-end}}
 
 -- r of the radios `whole` are counted, and `rest` are left
 pub record Counting (g : ℕ → Bool) (whole rest : List ℕ) (r : ℕ) : Type 0 where

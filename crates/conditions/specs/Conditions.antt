@@ -11,15 +11,8 @@
 --   rising-from              numbers never fall along a list, and do not begin below the given one
 -- That tables are sound when the order holds each radio once, numbers rise along it and every row is good is `sound-rows` in
 -- proofs/RowByRow.antt. Definitions only.
-use mathlib.Core.Path.{_≡_}
-use mathlib.Core.Bool.{Bool, true, _&&_, not, cond}
-use mathlib.Core.List.{List, [], _∷_}
-use Prim.Native.Nat.{ℕ, _+_, _*_, _-_, _^_, _<_, min}
-use lib.Dec.{ltb, leb, eqb}
-use lib.ListN.{length, getD}
-use Rattle.lists.specs.Lists.{count, all}
-use Rattle.mesh.specs.Tables.{marked}
-use Rattle.mesh.specs.Sound.{number-in}
+use Rattle.lists.specs.{Kit.{_≡_, Bool, true, _&&_, not, cond, List, [], _∷_, ℕ, _+_, _*_, _-_, _^_, _<_, min, ltb, leb, eqb, length, getD}, Lists.{count, all}}
+use Rattle.mesh.specs.{Tables.{marked}, Sound.{number-in}}
 use Rattle.rows.specs.Rows.{neighbours-of}
 
 -- entry i of the order stands at place i

@@ -12,19 +12,10 @@
 --   Listed-from            entries written into a list from a place on
 --   Wanted-listed          the radios above a whose link with a is wanted, in front of a list
 -- Definitions only.
-use mathlib.Core.Path.{_≡_}
-use mathlib.Core.Bool.{Bool, true, _&&_, not, cond}
-use mathlib.Core.List.{List, _++_}
-use Prim.Native.Nat.{ℕ, suc, _+_, _*_, _-_, _/_, _≤_, _<_}
-use lib.Dec.{ltb}
-use lib.ListN.{length, take}
-use Rattle.mesh.specs.Limits.{max-radios, max-neighbours, row-bytes}
-use Rattle.lists.specs.Lists.{range, count, filter, all}
-use Rattle.lists.specs.Facts.{folded}
-use Rattle.mesh.specs.Tables.{marked, put-bit}
-use Rattle.mesh.specs.Sound.{within}
-use Rattle.calls.specs.Questions.{ask}
-use Rattle.calls.specs.Heard.{agreed, heard-proper, agreed-few, one-sided, one-sided-count}
+use Rattle.lists.specs.{Kit.{_≡_, Bool, true, _&&_, not, cond, List, _++_, ℕ, suc, _+_, _*_, _-_, _/_, _≤_, _<_, ltb, length, take}, Lists.{range, count}}
+use Rattle.lists.specs.{Lists.{filter, all}, Facts.{folded}}
+use Rattle.mesh.specs.{Limits.{max-radios, max-neighbours, row-bytes}, Tables.{marked, put-bit}, Sound.{within}}
+use Rattle.calls.specs.{Questions.{ask}, Heard.{agreed, heard-proper, agreed-few, one-sided, one-sided-count}}
 
 pub record Of-size (n : ℕ) (hs : List ℕ) : Type 0 where
   pub most : n ≤ max-radios

@@ -1,21 +1,8 @@
 -- The flood's steps as the code has them: rows joined, a layer.
-use mathlib.Core.Path.{_≡_, sym, ap, _∙_}
-use mathlib.Core.Logic.{_⊎_, inl, inr}
-use mathlib.Core.Bool.{true, false}
-use mathlib.Core.List.{List}
-use Prim.Native.Nat.{ℕ, _+_, _-_, _≤_}
-use native.Mathlib.Omega.{arith}
-use lib.Dec.{eqb}
-use lib.ListN.{length, getD, replicate}
-use borrow.Author.Tests.{eqb-true, eqb-false}
+use Rattle.lists.{specs.Kit.{_≡_, sym, ap, _∙_, _⊎_, inl, inr, true, false, List, ℕ, _+_, _-_, _≤_, arith, eqb, length, getD, replicate, eqb-true, eqb-false}}
+use Rattle.lists.{specs.Lists.{member}, proofs.Overwrite.{sets-front}, proofs.Tests.{bool-cases, never, or-cases, or-left, or-right}}
 use borrow.Rule.Slice.PartMut.{midOf, putMid, mid-len}
-use Rattle.lists.specs.Lists.{member}
-use Rattle.lists.proofs.Overwrite.{sets-front}
-use Rattle.lists.proofs.Tests.{bool-cases, never, or-cases, or-left, or-right}
-use Rattle.rows.specs.Rows.{row-listed}
-use Rattle.rows.specs.Sets.{in-set, Row-joined, common, Common-taken}
-use Rattle.rows.proofs.Listing.{put-rest}
-use Rattle.rows.proofs.SetLaws.{in-set-zeros}
+use Rattle.rows.{specs.Rows.{row-listed}, specs.Sets.{in-set, Row-joined, common, Common-taken}, proofs.Listing.{put-rest}, proofs.SetLaws.{in-set-zeros}}
 use Rattle.floods.specs.Floods.{flood-at, Marked-by, Rows-joined, Layer-taken}
 
 -- ---- rows joined, one by one

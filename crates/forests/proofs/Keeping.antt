@@ -3,22 +3,12 @@
 --   keep-tight              the kept links stay tight, so acyclic
 --   keep-joins              taken by weight falling: a link of weight w or more has its ends joined by kept ones of weight w or more
 --   falling-..              the links by weight falling
-use mathlib.Core.Path.{_≡_, refl, sym, ap, subst}
-use mathlib.Core.Logic.{_⊎_, inl, inr}
-use mathlib.Core.Bool.{true, false, cond}
-use mathlib.Core.List.{List, [], _∷_, _++_}
-use Prim.Native.Nat.{ℕ, zero, suc, _+_, _≤_, _<_}
-use native.Mathlib.Omega.{arith}
-use lib.Dec.{eqb, leb}
-use lib.ListN.{length-append}
-use borrow.Author.Tests.{eqb-true, eq-eqb, le-leb, leb-true}
-use Rattle.mesh.specs.Graph.{Link, In-links}
-use Rattle.mesh.specs.Staircase.{Joined, joined, keep, of-weight, falling, heavy}
-use Rattle.lists.proofs.Tests.{bool-cases, never, trichotomy}
-use Rattle.mesh.proofs.Tables.AscendingLinks.{in-links-left, in-links-right, in-links-cases}
-use Rattle.forests.proofs.JoinedLaws.{Inside, joined-link, joined-mono, joined-iff, not-joined}
-use Rattle.forests.proofs.Labels.{relabel, One-more, labels-none, parts-none, labels-new, parts-new}
-use Rattle.forests.proofs.Forests.{Tight, same-label, in-filter-links, filter-links-in}
+use Rattle.lists.{specs.Kit.{_≡_, refl, sym, ap, subst, _⊎_, inl, inr, true, false, cond, List, [], _∷_, _++_, ℕ, zero, suc, _≤_, _<_, arith, eqb, leb}}
+use Rattle.lists.{specs.Kit.{length-append, eqb-true, eq-eqb, le-leb, leb-true}, proofs.Tests.{bool-cases, never, trichotomy}}
+use Rattle.mesh.{specs.Graph.{Link, In-links}, specs.Staircase.{Joined, joined, keep, of-weight, falling, heavy}, proofs.Tables.AscendingLinks.{in-links-left}}
+use Rattle.mesh.{proofs.Tables.AscendingLinks.{in-links-right, in-links-cases}}
+use Rattle.forests.proofs.{JoinedLaws.{Inside, joined-link, joined-mono, joined-iff, not-joined}, Labels.{relabel, One-more, labels-none, parts-none}}
+use Rattle.forests.proofs.{Labels.{labels-new, parts-new}, Forests.{Tight, same-label, in-filter-links, filter-links-in}}
 
 -- ---- one link more at the end
 

@@ -1,29 +1,13 @@
 -- What grows is the kept links, with their labels.
 --   Shows n old ks s   s has the labels, the list and the count of the links ks; `old` is what the lent table held
 --   shows-all          the links ls taken in turn give what `keep` gives
-use mathlib.Core.Path.{_≡_, refl, sym, ap, subst, _∙_}
-use mathlib.Core.Logic.{_⊎_, inl, inr}
-use mathlib.Core.Bool.{true, false, cond}
-use mathlib.Core.List.{List, [], _∷_, _++_, map}
-use Prim.Native.Nat.{ℕ, zero, suc, _+_, _*_, _≤_, _<_, min, max}
-use native.Mathlib.Omega.{arith}
-use lib.Dec.{eqb}
-use lib.ListN.{length, getD, length-append, List·getD-eq-default}
-use lib.Seq.{sets}
-use borrow.Author.Tests.{eqb-true, eq-eqb}
-use Rattle.lists.specs.Lists.{range}
-use Rattle.mesh.specs.Graph.{Link}
-use Rattle.mesh.specs.Staircase.{Joined, joined, keep, link-entries}
-use Rattle.lists.proofs.Parts.{getD-any}
-use Rattle.lists.proofs.Tests.{bool-cases, never, iff-eq, trichotomy}
-use Rattle.lists.proofs.Range.{length-range, getD-range}
-use Rattle.lists.proofs.Map.{length-map}
-use Rattle.lists.proofs.Overwrite.{sets-append}
-use Rattle.forests.proofs.JoinedLaws.{Inside, joined-iff}
-use Rattle.forests.proofs.Labels.{Labels, relabel, labels-none, labels-new, relabel-miss}
-use Rattle.forests.proofs.Forests.{same-label}
-use Rattle.forests.proofs.Keeping.{now, now-inside, more-end, inside-end}
-use Rattle.forests.proofs.Tree.{length-link-entries}
+use Rattle.lists.{specs.Kit.{_≡_, refl, sym, ap, subst, _∙_, _⊎_, inl, inr, true, false, cond, List, [], _∷_, _++_, map, ℕ, zero, suc, _+_, _*_, _≤_, _<_, min}}
+use Rattle.lists.{specs.Kit.{max, arith, eqb, length, getD, length-append, List·getD-eq-default, sets, eqb-true, eq-eqb}, specs.Lists.{range}}
+use Rattle.lists.{proofs.Parts.{getD-any}, proofs.Tests.{bool-cases, never, iff-eq, trichotomy}, proofs.Range.{length-range, getD-range}}
+use Rattle.lists.{proofs.Map.{length-map}, proofs.Overwrite.{sets-append}}
+use Rattle.mesh.specs.{Graph.{Link}, Staircase.{Joined, joined, keep, link-entries}}
+use Rattle.forests.proofs.{JoinedLaws.{Inside, joined-iff}, Labels.{Labels, relabel, labels-none, labels-new, relabel-miss}, Forests.{same-label}}
+use Rattle.forests.proofs.{Keeping.{now, now-inside, more-end, inside-end}, Tree.{length-link-entries}}
 use Rattle.forests.specs.Growing.{Growing, growing, relabelled, joined-up, grown-one, grown-all}
 
 -- ---- entries of a list

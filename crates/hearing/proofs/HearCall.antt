@@ -1,32 +1,15 @@
 -- A hearing meets its contract, on plain values: its questions, and the call.
-use mathlib.Core.Path.{_≡_, refl, sym, ap, _∙_}
-use mathlib.Core.Bool.{Bool, true, false, _&&_, not}
-use mathlib.Core.List.{List}
-use Prim.Native.Nat.{ℕ, _*_, _≤_}
-use native.Mathlib.Omega.{arith}
-use lib.Dec.{eqb}
-use lib.ListN.{length}
-use borrow.Author.Tests.{eqb-true, eq-eqb, ne-eqb}
-use Rattle.mesh.specs.Limits.{max-radios, max-neighbours, row-bytes}
-use Rattle.mesh.specs.Tables.{Tables, marked}
-use Rattle.mesh.specs.Sound.{sound, within, irreflexive}
-use Rattle.lists.proofs.Tests.{and-left, and-right}
-use Rattle.calls.specs.Questions.{ask, lengths-of, tables-refusal}
-use Rattle.calls.specs.Heard.{agreed, agreed-few, heard-proper, heard-lengths, hear-refusal, goes-down, comes-up}
-use Rattle.calls.specs.Hearing.{Rows-left, downs, ups}
-use Rattle.calls.specs.Outcomes.{value, hear-outcome}
-use Rattle.calls.specs.Contracts.{Hear-contract}
-use Rattle.calls.proofs.QuestionLaws.{ask-zero}
-use Rattle.calls.proofs.ChainLaws.{lent-zero, site-zero}
-use Rattle.calls.proofs.ContractLaws.{by-accepted, by-refused}
-use Rattle.calls.proofs.SoundSwitches.{Good}
-use Rattle.calls.proofs.HearingLaws.{good-marked, rows-first, downs-end, ups-end}
-use Rattle.soundness.specs.Checks.{Examined}
-use Rattle.soundness.proofs.ExamineLaws.{site-refused, site-lent, fits-sound-lent, examinable-room}
+use Rattle.lists.{specs.Kit.{_≡_, refl, sym, ap, _∙_, Bool, true, false, _&&_, not, List, ℕ, _*_, _≤_, arith, eqb, length, eqb-true, eq-eqb, ne-eqb}}
+use Rattle.lists.{proofs.Tests.{and-left, and-right}}
+use Rattle.mesh.specs.{Limits.{max-radios, max-neighbours, row-bytes}, Tables.{Tables, marked}, Sound.{sound, within, irreflexive}}
+use Rattle.calls.{specs.Questions.{ask, lengths-of, tables-refusal}, specs.Heard.{agreed, agreed-few, heard-proper, heard-lengths, hear-refusal, goes-down}}
+use Rattle.calls.{specs.Heard.{comes-up}, specs.Hearing.{Rows-left, downs, ups}, specs.Outcomes.{value, hear-outcome}, specs.Contracts.{Hear-contract}}
+use Rattle.calls.{proofs.QuestionLaws.{ask-zero}, proofs.ChainLaws.{lent-zero, site-zero}, proofs.ContractLaws.{by-accepted, by-refused}}
+use Rattle.calls.{proofs.SoundSwitches.{Good}, proofs.HearingLaws.{good-marked, rows-first, downs-end, ups-end}}
+use Rattle.soundness.{specs.Checks.{Examined}, proofs.ExamineLaws.{site-refused, site-lent, fits-sound-lent, examinable-room}}
 use Rattle.conditions.specs.Hearing.{Of-size, rows-refusal, One-sided-marked}
-use Rattle.links.specs.Steps.{Prepared}
+use Rattle.links.{specs.Steps.{Prepared}, proofs.StepLaws.{fits-good}}
 use Rattle.hearing.specs.Hearings.{Phase-by, Marked-hearing, Rows-switched, Brought, Hear-asked}
-use Rattle.links.proofs.StepLaws.{fits-good}
 
 -- ---- the questions
 

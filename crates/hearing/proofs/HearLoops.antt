@@ -1,36 +1,15 @@
 -- The loops of a hearing, on plain values: the links of a row, and the rows of a phase.
-use mathlib.Core.Path.{_≡_, refl, sym, ap, subst, _∙_}
-use mathlib.Core.Bool.{Bool, true, false, _&&_, not, cond}
-use mathlib.Core.List.{List, _∷_}
-use Prim.Native.Nat.{ℕ, suc, _+_, _-_, _≤_, _<_}
-use native.Mathlib.Omega.{arith}
-use native.Mathlib.Numerals.{add-one}
-use lib.Dec.{leb}
-use lib.ListN.{length, getD, take, drop, drop-of-length-le}
-use lib.Seq.{drop-cons, length-take-le}
-use borrow.Author.Tests.{leb-true}
-use Rattle.mesh.specs.Limits.{max-radios, max-neighbours}
-use Rattle.lists.specs.Lists.{range, count, filter, In}
-use Rattle.lists.proofs.Tests.{and-left, and-right}
-use Rattle.lists.proofs.Count.{count-mono, count-append}
-use Rattle.lists.proofs.Range.{range-in, range-append}
-use Rattle.lists.proofs.All.{all-below}
-use Rattle.lists.proofs.Filter.{filter-all, filter-ext, in-filter, length-filter}
-use Rattle.lists.proofs.Ascending.{ascending-range, ascending-filter}
-use Rattle.mesh.specs.Tables.{Tables, marked, graph-in}
-use Rattle.mesh.specs.Sound.{sound, within, row-degree, rows-proper, few, symmetric, irreflexive}
-use Rattle.mesh.proofs.Tables.Rows.{few-of}
-use Rattle.mesh.proofs.Tables.Soundness.{sound-certificate}
-use Rattle.calls.specs.Questions.{lengths-of, ends-refusal}
-use Rattle.calls.specs.Switches.{switch, switched}
-use Rattle.calls.specs.Heard.{agreed, agreed-degree, agreed-few}
-use Rattle.calls.specs.Hearing.{Phase, Rows-left, Row-left}
-use Rattle.calls.proofs.SoundSwitches.{Good}
-use Rattle.calls.proofs.HearingLaws.{row-first, row-next, row-end}
+use Rattle.lists.{specs.Kit.{_≡_, refl, sym, ap, subst, _∙_, Bool, true, false, _&&_, not, cond, List, _∷_, ℕ, suc, _+_, _-_, _≤_, _<_, arith, add-one, leb}}
+use Rattle.lists.{specs.Kit.{length, getD, take, drop, drop-of-length-le, drop-cons, length-take-le, leb-true}, specs.Lists.{range, count, filter, In}}
+use Rattle.lists.{proofs.Tests.{and-left, and-right}, proofs.Count.{count-mono, count-append}, proofs.Range.{range-in, range-append}, proofs.All.{all-below}}
+use Rattle.lists.{proofs.Filter.{filter-all, filter-ext, in-filter, length-filter}, proofs.Ascending.{ascending-range, ascending-filter}}
+use Rattle.mesh.{specs.Limits.{max-radios, max-neighbours}, specs.Tables.{Tables, marked, graph-in}, specs.Sound.{sound, within, row-degree, rows-proper, few}}
+use Rattle.mesh.{specs.Sound.{symmetric, irreflexive}, proofs.Tables.Rows.{few-of}, proofs.Tables.Soundness.{sound-certificate}}
+use Rattle.calls.{specs.Questions.{lengths-of, ends-refusal}, specs.Switches.{switch, switched}, specs.Heard.{agreed, agreed-degree, agreed-few}}
+use Rattle.calls.{specs.Hearing.{Phase, Rows-left, Row-left}, proofs.SoundSwitches.{Good}, proofs.HearingLaws.{row-first, row-next, row-end}}
 use Rattle.conditions.specs.Hearing.{Of-size, Is-prefix, wanted, Wanted-listed}
-use Rattle.links.specs.Steps.{Prepared, Stepped}
+use Rattle.links.{specs.Steps.{Prepared, Stepped}, proofs.StepLaws.{fits-good}}
 use Rattle.hearing.specs.Hearings.{Phase-by, Marked-hearing, Row-switched, Rows-switched}
-use Rattle.links.proofs.StepLaws.{fits-good}
 
 -- ---- the links of a row
 

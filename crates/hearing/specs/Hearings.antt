@@ -6,16 +6,9 @@
 --   Brought         both phases are done
 --   Hear-asked      the refusal number of a hearing, and where it is 0 what its first link is taken with
 -- Definitions only.
-use mathlib.Core.Path.{_≡_}
-use mathlib.Core.Bool.{Bool, true, false, _&&_, not, cond}
-use mathlib.Core.List.{List}
-use Prim.Native.Nat.{ℕ, suc, _<_}
-use Rattle.mesh.specs.Limits.{max-neighbours}
-use Rattle.mesh.specs.Tables.{Tables}
-use Rattle.mesh.specs.Sound.{sound}
-use Rattle.calls.specs.Questions.{lengths-of}
-use Rattle.calls.specs.Heard.{agreed, agreed-few, one-sided, hear-refusal}
-use Rattle.calls.specs.Hearing.{Phase, Rows-left, Row-left}
+use Rattle.lists.specs.Kit.{_≡_, Bool, true, false, _&&_, not, cond, List, ℕ, suc, _<_}
+use Rattle.mesh.specs.{Limits.{max-neighbours}, Tables.{Tables}, Sound.{sound}}
+use Rattle.calls.specs.{Questions.{lengths-of}, Heard.{agreed, agreed-few, one-sided, hear-refusal}, Hearing.{Phase, Rows-left, Row-left}}
 use Rattle.conditions.specs.Hearing.{Of-size}
 use Rattle.links.specs.Steps.{Prepared}
 

@@ -1,7 +1,5 @@
 // A hearing: the site brought to the links that both ends hear, as if by single calls. The tables are checked once.
-ghost use mathlib.Core.Path.{_≡_};
-ghost use Prim.Native.Nat.{_≤_};
-ghost use lib.ListN.{length};
+ghost use Rattle.lists.specs.Kit.{_≡_, _≤_, length};
 ghost use Rattle.mesh.specs.Limits.{max-radios};
 ghost use Rattle.mesh.specs.Lent.{lent};
 ghost use Rattle.calls.specs.Contracts.{Hear-contract};

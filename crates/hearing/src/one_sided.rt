@@ -1,6 +1,5 @@
 // The one-sided pairs of a heard table: a hears b, and b does not hear a. The table is only read, word by word.
-ghost use Prim.Native.Nat.{_+_, _*_, _≤_};
-ghost use lib.ListN.{length};
+ghost use Rattle.lists.specs.Kit.{_+_, _*_, _≤_, length};
 ghost use Rattle.mesh.specs.Limits.{max-radios, row-bytes};
 ghost use Rattle.rows.specs.Rows.{neighbours-of, set-bits};
 ghost use Rattle.conditions.specs.Hearing.{Pair-marked, Row-marked, One-sided-marked};

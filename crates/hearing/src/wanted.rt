@@ -1,9 +1,6 @@
 // The links of a row that are to go down, or to come up, for the site to have the agreed links of a heard table. The tables are only read,
 // word by word.
-ghost use mathlib.Core.Path.{_≡_};
-ghost use Prim.Native.Nat.{ℕ, _+_, _*_, _≤_, _<_};
-ghost use lib.Dec.{ltb};
-ghost use lib.ListN.{length};
+ghost use Rattle.lists.specs.Kit.{_≡_, ℕ, _+_, _*_, _≤_, _<_, ltb, length};
 ghost use Rattle.mesh.specs.Limits.{max-radios, row-bytes};
 ghost use Rattle.mesh.specs.Tables.{digit};
 ghost use Rattle.lists.specs.Lists.{filter};

@@ -1,33 +1,15 @@
 -- Three calls of a host, in cells: four blocks, in which three tables of two radios and an answer table of two entries hold anything. The
 -- host clears the tables, takes the link between the two radios up, and takes it down again.
 --   three-calls    the three runs, what each returns, and every cell of the four tables after each
-use mathlib.Core.Path.{_≡_, refl, sym, _∙_, ap, subst}
-use mathlib.Core.Logic.{∥∥₁-prop, ∥∥₁-elim, ∥∥₁-map}
-use mathlib.Core.Bool.{Bool, true, false}
-use mathlib.Core.List.{List, [], _∷_, _++_, map}
-use Prim.Native.Nat.{ℕ, zero, suc}
-use native.Mathlib.Omega.{arith}
-use lib.IntN.{pos, negsuc}
-use lib.ListN.{length, replicate}
-use lib.Dec.{lit<}
-use mir.Mem.{Cell, byte}
-use mir.Syntax.{Ty, w8, w16, w32, tyInt}
-use mir.Val.{Val, vint, vstruct, vcons, vnil}
-use prog.Memory.{Memory}
-use prog.Machine.{done}
-use prog.Routine.{Routine}
-use Rattle.machine.specs.Cells.{Form, Place, Inputs, Stands, All-held, Sized, Good-list, Ready, Ran, Runs, unsigned, span, pointer, passed, writes}
-use Rattle.machine.specs.Made.{Fitting, blocks, placed}
-use Rattle.machine.proofs.Left.{ran-lengths, ran-held}
-use Rattle.machine.proofs.Made.{made-ready}
-use Rattle.machine.proofs.Again.{stands-still}
-use Rattle.lists.specs.Lists.{overwrite}
+use Rattle.lists.specs.{Kit.{_≡_, refl, sym, _∙_, subst, ∥∥₁-prop, ∥∥₁-elim, ∥∥₁-map, Bool, true, false, List, [], _∷_, _++_, map, ℕ, zero, suc, arith, pos}}
+use Rattle.lists.specs.{Kit.{negsuc, length, replicate, lit<}, Lists.{overwrite}}
+use mir.{Mem.{byte}, Syntax.{w8, w16, w32, tyInt}, Val.{Val, vint, vstruct, vcons, vnil}}
+use prog.{Memory.{Memory}, Machine.{done}, Routine.{Routine}}
+use Rattle.machine.{specs.Cells.{Form, Inputs, Stands, All-held, Sized, Good-list, Ready, Runs, span, pointer, passed, writes}, specs.Made.{Fitting, blocks}}
+use Rattle.machine.{proofs.Left.{ran-lengths, ran-held}, proofs.Made.{made-ready}, proofs.Again.{stands-still}}
 use Rattle.mesh.specs.Tables.{Tables, tables, graph-in, row-links, put-link, put-bit, put-digit}
-use Rattle.calls.specs.Questions.{Lengths, lengths-of, link-refusal, site-refusal, answer-length}
-use Rattle.calls.specs.Outcomes.{Numbered, numbered, Linked, linked-with, reply, clear-outcome, link-outcome}
-use Rattle.calls.specs.Switches.{switched}
-use Rattle.calls.specs.declared.Reply.{Reply}
-use Rattle.calls.proofs.WorkedState.{compute}
+use Rattle.calls.{specs.Questions.{site-refusal, answer-length}, specs.Outcomes.{Numbered, numbered, Linked, linked-with, reply, clear-outcome, link-outcome}}
+use Rattle.calls.{specs.Switches.{switched}, proofs.WorkedState.{compute}}
 use Rattle.hosts.specs.Public.{clear, link, Public, of-book, call, bytes, words, number-value, reply-value}
 use Rattle.hosts.proofs.Made.{Room-at, aligned-of, room-still}
 

@@ -4,46 +4,23 @@
 --   hosted-run       a host's list of calls is carried out as `events` says, and its last tables stand in the last memory
 --   standing-demand  so demand 3 holds of it
 --   hosts-demand     and of every list that begins with an accepted clearing or reading
-use mathlib.Core.Path.{_≡_, refl, sym, _∙_, ap, subst}
-use mathlib.Core.Logic.{_⊎_, inl, inr, ∥∥₁-prop, ∥∥₁-elim, ∥∥₁-map}
-use mathlib.Core.Bool.{Bool}
-use mathlib.Core.List.{List, [], _∷_, map}
-use mathlib.Core.Option.{some}
-use Prim.Native.Nat.{ℕ, _*_}
-use native.Mathlib.Omega.{arith}
-use lib.ListN.{length}
-use mir.Mem.{Cell}
-use mir.Syntax.{w8, w16}
-use mir.Val.{Val, Vals, vunit, vbool, vint, vfloat, vptr, vstruct, vnil, vcons}
-use prog.Memory.{Memory}
-use prog.Routine.{Routine}
-use Rattle.machine.specs.Cells.{Place, Lent, place, entries, Inputs, Span, Stands, Apart, All, All-held, Good-list, Ready, Ran, Runs, span, cells-of, cell-at}
-use Rattle.machine.specs.Cells.{writes, outcome-of}
-use Rattle.machine.proofs.Chain.{list-one, cells-count, carried, first-entries}
-use Rattle.machine.proofs.Again.{stands-still}
-use Rattle.machine.proofs.Left.{ran-lengths, ran-held}
-use Rattle.machine.proofs.Made.{ran-one}
-use Rattle.mesh.specs.Graph.{Link, graph}
-use Rattle.mesh.specs.Tables.{Tables, tables}
-use Rattle.mesh.specs.Image.{image-links}
-use Rattle.calls.specs.Questions.{Lengths, lengths-of}
-use Rattle.calls.specs.Contracts.{Clear-contract, Read-contract}
-use Rattle.calls.specs.Outcomes.{Numbered, numbered, clear-outcome, read-outcome, link-outcome, commit-outcome, batch-outcome, hear-outcome}
-use Rattle.calls.specs.MarkOutcomes.{set-outcome, remove-outcome, return-outcome}
-use Rattle.calls.specs.Book.{Call, clearing, reading, linking, committing, batching, hearing, setting, removing, returning, other, Given, given, Answer}
-use Rattle.calls.specs.Book.{plain, counted, Outcome, outcome, booked, book-after, pairs-of, from-clearing, from-image}
-use Rattle.calls.specs.Runs.{Done, answer-of, replied, done, events, after, givens}
-use Rattle.calls.specs.Demand.{cleared, read, beginning, Kept, Demand-3}
-use Rattle.calls.proofs.Runs.{link-done, hear-done, Does}
-use Rattle.calls.proofs.Holds.{Holds}
-use Rattle.calls.proofs.Steps.{step}
-use Rattle.calls.proofs.WholeList.{start, demand-3}
-use Rattle.hosts.specs.Public.{Known, clear, image-read, link, commit, link-batch, hear, mark-set, mark-remove, mark-return, Public, of-book, call}
-use Rattle.hosts.specs.Public.{bytes, words, the-tables, number-value}
-use Rattle.hosts.specs.Hosts.{Site, Lie, Table-cell, of-links, of-numbers, of-order, Untouched, Spares, site-at, told-of, shown, Turn, on-site}
-use Rattle.hosts.specs.Hosts.{elsewhere, made, Step, Placed}
-use Rattle.hosts.specs.Hosts.{book-call, call-of, fed, Said-so, Said, Agrees, Carried-out, Ends, clears, reads, Made, Hosted, Hosts-demand}
-use Rattle.hosts.specs.Hosts.{Standing-demand}
+use Rattle.lists.specs.Kit.{_≡_, refl, sym, _∙_, ap, subst, _⊎_, inl, inr, ∥∥₁-prop, ∥∥₁-elim, ∥∥₁-map, Bool, List, [], _∷_, map, some, ℕ, _*_, arith, length}
+use mir.{Mem.{Cell}, Syntax.{w8, w16}, Val.{Val, Vals, vunit, vbool, vint, vfloat, vptr, vstruct, vnil, vcons}}
+use prog.{Memory.{Memory}, Routine.{Routine}}
+use Rattle.machine.{specs.Cells.{Place, Lent, place, entries, Inputs, Span, Stands, Apart, All, All-held, Good-list, Ready, Ran, Runs, span, cells-of, cell-at}}
+use Rattle.machine.{specs.Cells.{writes, outcome-of}, proofs.Chain.{list-one, cells-count, carried, first-entries}, proofs.Again.{stands-still}}
+use Rattle.machine.{proofs.Left.{ran-lengths, ran-held}, proofs.Made.{ran-one}}
+use Rattle.mesh.specs.{Graph.{Link, graph}, Tables.{Tables, tables}, Image.{image-links}}
+use Rattle.calls.{specs.Questions.{Lengths, lengths-of}, specs.Contracts.{Clear-contract, Read-contract}, specs.Outcomes.{numbered, clear-outcome}}
+use Rattle.calls.{specs.Outcomes.{read-outcome, link-outcome, commit-outcome, batch-outcome, hear-outcome}, specs.MarkOutcomes.{set-outcome, remove-outcome}}
+use Rattle.calls.{specs.MarkOutcomes.{return-outcome}, specs.Book.{Call, clearing, reading, linking, committing, batching, hearing, setting, removing}}
+use Rattle.calls.{specs.Book.{returning, other, Given, given, Answer, plain, counted, Outcome, outcome, booked, book-after, pairs-of}, specs.Runs.{Done}}
+use Rattle.calls.{specs.Runs.{answer-of, replied, done, events, after, givens}, specs.Demand.{cleared, read, beginning, Kept, Demand-3}}
+use Rattle.calls.{proofs.Runs.{link-done, hear-done, Does}, proofs.Holds.{Holds}, proofs.Steps.{step}, proofs.WholeList.{start, demand-3}}
+use Rattle.hosts.specs.{Public.{Known, clear, image-read, link, commit, link-batch, hear, mark-set, mark-remove, mark-return, Public, of-book, call}}
+use Rattle.hosts.specs.{Public.{bytes, words, the-tables, number-value}, Hosts.{Site, Lie, Table-cell, of-links, of-numbers, of-order, Untouched}}
+use Rattle.hosts.specs.{Hosts.{site-at, told-of, shown, Turn, on-site, elsewhere, made, Step, Placed, book-call, call-of, fed, Said-so, Said, Agrees}}
+use Rattle.hosts.specs.{Hosts.{Carried-out, clears, reads, Made, Hosted, Hosts-demand, Standing-demand}}
 use Rattle.hosts.specs.Hosts as hosts
 
 -- ---- the tables of a site

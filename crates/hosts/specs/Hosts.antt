@@ -19,28 +19,17 @@
 --   Hosts-demand      every host's list of calls from such a call on ends so
 --   Standing-demand   and every one from a memory in which tables stand that such a call left
 -- Definitions only.
-use mathlib.Core.Path.{_≡_}
-use mathlib.Core.Bool.{true, false}
-use mathlib.Core.List.{List, [], _∷_, map}
-use Prim.Native.Nat.{ℕ, _+_, _*_, _<_, _≤_}
-use lib.ListN.{length}
+use Rattle.lists.specs.Kit.{_≡_, List, [], _∷_, map, ℕ, _+_, _*_, _<_, _≤_, length}
 use mir.Val.{Val}
-use prog.Memory.{Memory}
-use prog.Machine.{done as returned}
-use prog.Routine.{Routine}
+use prog.{Memory.{Memory}, Machine.{done as returned}, Routine.{Routine}}
 use Rattle.machine.specs.Cells.{Place, Lent, place, entries, Inputs, of-inputs, Of-inputs, Span, Stands, Has, All, All-held, span, cell-at, Ready, passed}
 use Rattle.machine.specs.Cells.{writes, to-write}
-use Rattle.mesh.specs.Graph.{Link, graph}
-use Rattle.mesh.specs.Tables.{Tables}
-use Rattle.mesh.specs.Image.{image-links}
-use Rattle.calls.specs.Questions.{Lengths, lengths-of}
-use Rattle.calls.specs.Outcomes.{reply, value}
-use Rattle.calls.specs.Book.{Call, clearing, reading, linking, committing, batching, hearing, setting, removing, returning, other}
-use Rattle.calls.specs.Book.{Given, given, Answer, booked, pairs-of, book-after, Beginning, from-clearing, from-image}
-use Rattle.calls.specs.Runs.{done, events, after}
-use Rattle.calls.specs.Demand.{Start, beginning, Kept}
-use Rattle.hosts.specs.Public.{Known, clear, image-read, link, commit, link-batch, hear, mark-set, mark-remove, mark-return, Public, of-book}
-use Rattle.hosts.specs.Public.{call, bytes, words, site-params, the-tables, number-value, reply-value, value-value}
+use Rattle.mesh.specs.{Graph.{Link, graph}, Tables.{Tables}, Image.{image-links}}
+use Rattle.calls.specs.{Questions.{Lengths, lengths-of}, Outcomes.{reply, value}, Book.{Call, clearing, reading, linking, committing, batching, hearing}}
+use Rattle.calls.specs.{Book.{setting, removing, returning, other, Given, given, Answer, booked, pairs-of, book-after, Beginning, from-clearing, from-image}}
+use Rattle.calls.specs.{Runs.{done, events, after}, Demand.{Start, beginning, Kept}}
+use Rattle.hosts.specs.Public.{Known, clear, image-read, link, commit, link-batch, hear, mark-set, mark-remove, mark-return, Public, of-book, call, bytes}
+use Rattle.hosts.specs.Public.{words, site-params, the-tables, number-value, reply-value, value-value}
 
 -- ---- a site's tables
 

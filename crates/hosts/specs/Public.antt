@@ -10,25 +10,16 @@
 --   step-value        what a step of the reader gives, of an image at that place: the part of the image that its form for C tells of, and the numbers
 --   call              the call
 -- Definitions only.
-use mathlib.Core.Bool.{Bool}
-use mathlib.Core.List.{List, [], _∷_}
-use Prim.Native.Nat.{ℕ, zero, suc, _+_, _<_, _^_}
-use mir.Syntax.{w8, w16, w32, w64, tyInt, tyStruct, tcons, tnil}
-use mir.Val.{Val, vint, vstruct, vcons, vnil, ofList, ofZ}
-use Rattle.machine.specs.Cells.{Form, unsigned, signed, Mode, to-read, to-write, Param, by-value, lent, lent-with}
-use Rattle.machine.specs.Cells.{Place, Lent, place, entries, Outputs, Of-inputs, pointer, passes, Call}
-use Rattle.mesh.specs.Tables.{Tables, tables}
-use Rattle.mesh.specs.declared.Node.{Node}
-use Rattle.calls.specs.declared.Reply.{Reply}
-use Rattle.calls.specs.declared.Value.{Value}
-use Rattle.calls.specs.declared.Later.{Later}
-use Rattle.calls.specs.declared.Pair.{Pair}
-use Rattle.calls.specs.declared.Block.{Block}
-use Rattle.calls.specs.Outcomes.{Listing, clear-outcome, read-outcome, link-outcome, ask-outcome, commit-outcome, batch-outcome, hear-outcome, check-outcome}
-use Rattle.calls.specs.Outcomes.{number-outcome, neighbours-outcome, linked-outcome, first-outcome, later-outcome, core-outcome, backbone-outcome}
-use Rattle.calls.specs.Outcomes.{tree-outcome, staircase-outcome, write-outcome, sheet-outcome, script-length-outcome, script-outcome, block-outcome}
-use Rattle.calls.specs.MarkOutcomes.{set-outcome, remove-outcome, return-outcome}
-use Rattle.calls.specs.LiftOutcome.{lift-outcome}
+use Rattle.lists.specs.Kit.{Bool, List, [], _∷_, ℕ, zero, suc, _+_, _<_, _^_}
+use mir.{Syntax.{w8, w16, w32, w64, tyInt, tyStruct, tcons, tnil}, Val.{Val, vint, vstruct, vcons, vnil, ofList, ofZ}}
+use Rattle.machine.specs.Cells.{Form, unsigned, signed, Mode, to-read, to-write, Param, by-value, lent, lent-with, Place, Lent, place, entries, Outputs}
+use Rattle.machine.specs.Cells.{Of-inputs, pointer, passes, Call}
+use Rattle.mesh.specs.{Tables.{Tables, tables}, declared.Node.{Node}}
+use Rattle.calls.specs.{declared.Reply.{Reply}, declared.Value.{Value}, declared.Later.{Later}, declared.Pair.{Pair}, declared.Block.{Block}}
+use Rattle.calls.specs.{Outcomes.{Listing, clear-outcome, read-outcome, link-outcome, ask-outcome, commit-outcome, batch-outcome, hear-outcome, check-outcome}}
+use Rattle.calls.specs.{Outcomes.{number-outcome, neighbours-outcome, linked-outcome, first-outcome, later-outcome, core-outcome, backbone-outcome}}
+use Rattle.calls.specs.{Outcomes.{tree-outcome, staircase-outcome, write-outcome, sheet-outcome, script-length-outcome, script-outcome, block-outcome}}
+use Rattle.calls.specs.{MarkOutcomes.{set-outcome, remove-outcome, return-outcome}, LiftOutcome.{lift-outcome}}
 
 -- ---- the list
 

@@ -3,35 +3,17 @@
 --   confluence      both hubs hold equal links and numbers
 --   calls-agree     shell tree, backbone and staircase calls answer equal on both
 --   orders-by-images   the images are equal only where the orders are
-use mathlib.Core.Path.{_≡_, refl, sym, ap, subst, _∙_}
-use mathlib.Core.Bool.{Bool, true, _&&_}
-use mathlib.Core.List.{List, [], _∷_}
-use mathlib.Core.Option.{none}
-use Prim.Native.Nat.{ℕ, zero, suc}
-use native.Mathlib.Omega.{arith}
-use lib.ListN.{length}
-use Rattle.mesh.specs.Limits.{max-neighbours}
-use Rattle.mesh.specs.Graph.{Link, graph, new-links, Allowed}
-use Rattle.mesh.specs.Levels.{changed}
-use Rattle.mesh.specs.Tables.{Tables, graph-in, tables-of}
-use Rattle.mesh.specs.Sound.{sound}
-use Rattle.mesh.specs.Image.{image-of, image-order}
-use Rattle.mesh.proofs.Images.Sites.{length-order, read-written-order}
-use Rattle.calls.specs.Questions.{Lengths, lengths-of, answer-length, nodes-length, staircase-length, site-refusal, link-refusal}
-use Rattle.calls.specs.Questions.{tree-refusal, backbone-refusal, staircase-refusal}
-use Rattle.calls.specs.Switches.{Switch, switch, pairs-after, All-allowed}
-use Rattle.calls.specs.Outcomes.{backbone-outcome, tree-outcome, staircase-outcome}
-use Rattle.calls.specs.Book.{linking, other, Answer, plain, reported, outcome-of, unless-refused, outcome, first-pairs, pairs-of}
-use Rattle.calls.specs.Runs.{Event, after}
-use Rattle.calls.proofs.Runs.{Run, next, run}
-use Rattle.calls.proofs.Runs as runs
-use Rattle.calls.specs.Demand.{cleared}
-use Rattle.calls.proofs.ChainLaws.{link-zero}
-use Rattle.calls.proofs.Holds.{Holds, read-back, site-asked}
-use Rattle.calls.proofs.Steps.{Stepped, step}
-use Rattle.calls.proofs.WholeList.{start}
+use Rattle.lists.specs.Kit.{_≡_, refl, sym, ap, subst, _∙_, Bool, true, _&&_, List, [], _∷_, none, ℕ, zero, suc, arith, length}
+use Rattle.mesh.{specs.Limits.{max-neighbours}, specs.Graph.{Link, graph, new-links, Allowed}, specs.Levels.{changed}, specs.Tables.{Tables, graph-in}}
+use Rattle.mesh.{specs.Tables.{tables-of}, specs.Sound.{sound}, specs.Image.{image-of, image-order}, proofs.Images.Sites.{length-order, read-written-order}}
+use Rattle.calls.{specs.Questions.{Lengths, lengths-of, answer-length, nodes-length, staircase-length, site-refusal, link-refusal, tree-refusal}}
+use Rattle.calls.{specs.Questions.{backbone-refusal, staircase-refusal}, specs.Switches.{Switch, switch, pairs-after, All-allowed}}
+use Rattle.calls.{specs.Outcomes.{backbone-outcome, tree-outcome, staircase-outcome}, specs.Book.{linking, other, Answer, plain, reported, outcome-of}}
+use Rattle.calls.{specs.Book.{unless-refused, outcome, first-pairs, pairs-of}, specs.Runs.{Event, after}, proofs.Runs.{Run, next, run}, specs.Demand.{cleared}}
+use Rattle.calls.{proofs.ChainLaws.{link-zero}, proofs.Holds.{Holds, read-back, site-asked}, proofs.Steps.{Stepped, step}, proofs.WholeList.{start}}
 use Rattle.hubs.specs.Hubs.{Cleared, Singles, no-more, single, only-reads, Two-hubs, Equal-sites, Equal-answers}
 use Rattle.hubs.proofs.Balance.{pairs-agree}
+use Rattle.calls.proofs.Runs as runs
 
 -- ---- runs of single link calls, none refused
 

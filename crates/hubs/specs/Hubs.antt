@@ -8,20 +8,10 @@
 --   Equal-answers      the shell tree, backbone and staircase calls with equal lent lists answer equal
 -- Calls that stand for several link calls, committings, images and coming back to a mark lie outside.
 -- The proofs are `confluence` and `calls-agree` in proofs/Confluence.antt. Definitions only.
-use mathlib.Core.Path.{_≡_}
-use mathlib.Core.Bool.{Bool, _&&_, _||_, cond, Bool·beq}
-use mathlib.Core.List.{List, [], _∷_}
-use Prim.Native.Nat.{ℕ, _+_}
-use lib.Dec.{eqb}
-use Rattle.mesh.specs.Tables.{Tables, graph-in}
-use Rattle.mesh.specs.Connected.{backbone}
-use Rattle.mesh.specs.Tree.{tree, node-names}
-use Rattle.mesh.specs.Staircase.{staircase}
-use Rattle.mesh.specs.declared.Node.{Node}
-use Rattle.calls.specs.Switches.{Switch, switch}
-use Rattle.calls.specs.Outcomes.{numbered, clear-outcome, backbone-outcome, tree-outcome, staircase-outcome}
-use Rattle.calls.specs.Book.{Answer, Call, linking, other}
-use Rattle.calls.specs.Runs.{Event, event, events, after}
+use Rattle.lists.specs.Kit.{_≡_, Bool, _&&_, _||_, cond, Bool·beq, List, [], _∷_, ℕ, _+_, eqb}
+use Rattle.mesh.specs.{Tables.{Tables, graph-in}, Connected.{backbone}, Tree.{tree, node-names}, Staircase.{staircase}, declared.Node.{Node}}
+use Rattle.calls.specs.{Switches.{Switch, switch}, Outcomes.{numbered, clear-outcome, backbone-outcome, tree-outcome, staircase-outcome}, Book.{Answer, Call}}
+use Rattle.calls.specs.{Book.{linking, other}, Runs.{Event, event, events, after}}
 
 -- ---- the same calls
 

@@ -1,12 +1,7 @@
 // Whether the links and the order that an image lists make a sound site, and then the numbers. It is put to the image in place: counts
 // over the links, block by block, with a count for each radio. A test of all entries of a table does not stop at the first no:
 // the compiler then does many at a time.
-ghost use mathlib.Core.Path.{_≡_};
-ghost use mathlib.Core.Bool.{true, _&&_};
-ghost use mathlib.Core.List.{[], map};
-ghost use Prim.Native.Nat.{ℕ, _≤_, _<_, _+_, _*_, max};
-ghost use lib.Dec.{leb};
-ghost use lib.ListN.{length, getD};
+ghost use Rattle.lists.specs.Kit.{_≡_, true, _&&_, [], map, ℕ, _≤_, _<_, _+_, _*_, max, leb, length, getD};
 ghost use Rattle.lists.specs.Lists.{range, all};
 ghost use Rattle.mesh.specs.Limits.{max-radios, max-neighbours};
 ghost use Rattle.mesh.specs.Graph.{graph, proper, ascending};

@@ -1,30 +1,15 @@
 -- Laws of the writer's blocks: each kind of block is the image's block.
 -- In order: a block of links, the blocks before the links, blocks one after the other, all blocks of links, the image.
-use mathlib.Core.Path.{_≡_, refl, sym, ap, ap₂, _∙_}
-use mathlib.Core.Logic.{_⊎_, inl, inr}
-use mathlib.Core.Bool.{Bool, true, false, cond}
-use mathlib.Core.List.{List, [], _∷_, _++_, flatMap, append-assoc, append-nil}
-use Prim.Native.Nat.{ℕ, zero, suc, _+_, _*_, _-_, _/_, _^_, _≤_, _<_, min}
-use native.Mathlib.Omega.{arith}
-use lib.Dec.{ltb}
-use lib.ListN.{length, take, drop, set, replicate, length-append, length-drop, length-set, take-append-drop}
-use lib.Seq.{sets, sets-eq, length-sets, take-at, take-all, drop-at, drop-drop, length-take-le}
-use borrow.Author.Tests.{lt-ltb, le-ltb}
+use Rattle.lists.{specs.Kit.{_≡_, refl, sym, ap, ap₂, _∙_, _⊎_, inl, inr, true, false, List, [], _∷_, _++_, flatMap, append-assoc, append-nil, ℕ, zero, suc}}
+use Rattle.lists.{specs.Kit.{_+_, _*_, _-_, _/_, _^_, _≤_, _<_, min, arith, ltb, length, take, drop, set, replicate, length-append, length-drop, length-set}}
+use Rattle.lists.{specs.Kit.{take-append-drop, sets, sets-eq, length-sets, take-at, take-all, drop-at, drop-drop, length-take-le, lt-ltb, le-ltb}}
+use Rattle.lists.{specs.Lists.{range}, proofs.Parts.{length-flatMap}, proofs.Map.{flatMap-append}, proofs.Range.{range-append}}
 use borrow.Rule.Slice.PartMut.{putMid, put-same, same-len-mid}
-use Rattle.lists.specs.Lists.{range}
-use Rattle.mesh.specs.Limits.{max-radios}
-use Rattle.mesh.specs.Graph.{Link, graph}
-use Rattle.mesh.specs.Image.{block-bytes, payload-bytes, block-entries, block-links, word, link-bytes, block, blocks-for, order-blocks, block-count}
-use Rattle.mesh.specs.Image.{order-payload, links-payload, block-at}
-use Rattle.lists.proofs.Parts.{length-flatMap}
-use Rattle.lists.proofs.Map.{flatMap-append}
-use Rattle.lists.proofs.Range.{range-append}
-use Rattle.mesh.proofs.Images.Blocks.{length-link-bytes}
+use Rattle.mesh.{specs.Limits.{max-radios}, specs.Graph.{Link, graph}, specs.Image.{block-bytes, payload-bytes, block-entries, block-links, word, link-bytes}}
+use Rattle.mesh.{specs.Image.{block, blocks-for, order-blocks, order-payload, links-payload, block-at}, proofs.Images.Blocks.{length-link-bytes}}
 use Rattle.rows.specs.Links.{links-from}
-use Rattle.image_writer.specs.Filler.{sealed}
-use Rattle.image_writer.specs.Blocks.{Links-put, links-left, Next-link, Links-filled, links-block, All-links-filled, front-block}
-use Rattle.image_writer.proofs.LinksPut.{left-some}
-use Rattle.image_writer.proofs.FillerLaws.{filled-payload, sealed-payload}
+use Rattle.image_writer.specs.{Filler.{sealed}, Blocks.{Links-put, links-left, Next-link, Links-filled, links-block, All-links-filled, front-block}}
+use Rattle.image_writer.proofs.{LinksPut.{left-some}, FillerLaws.{filled-payload, sealed-payload}}
 
 -- ---- the blocks before the links
 

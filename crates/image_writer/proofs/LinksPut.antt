@@ -1,27 +1,13 @@
 -- Laws of links put into a block.
 -- In order: putting links, one link, a part of the links, the links of a word, of a row and of the rows, a cursor.
-use mathlib.Core.Path.{_≡_, refl, sym, ap, ap₂, _∙_}
-use mathlib.Core.Logic.{_⊎_, inl, inr}
-use mathlib.Core.List.{List, [], _∷_, _++_, flatMap, append-assoc, append-nil}
-use Prim.Native.Nat.{ℕ, zero, suc, _+_, _*_, _-_, _/_, _%_, _^_, _≤_, _<_, min}
-use native.Mathlib.Omega.{arith}
-use lib.Bits.{bitAnd}
-use lib.Count.{trailingZeros}
-use lib.ListN.{length, getD, take, drop, length-append, length-take, length-drop, take-append-drop}
-use lib.Seq.{sets, take-append-le, drop-append-le, take-add, drop-drop, length-take-le}
-use Rattle.mesh.specs.Graph.{Link, link-of}
-use Rattle.rows.specs.Rows.{row-from, set-bits, row-word, word-of}
-use Rattle.rows.proofs.RowWords.{row-from-word, row-from-end, word-of-whole, row-word-part}
-use Rattle.rows.proofs.WordLaws.{set-bits-lowest, set-bits-nothing}
-use Rattle.rows.specs.Links.{links-to, links-above, links-from}
-use Rattle.rows.proofs.LinksFrom.{links-from-row, links-from-end}
-use Rattle.rows.proofs.AboveWords.{above-words}
-use Rattle.lists.proofs.Map.{map-append, flatMap-append}
-use Rattle.mesh.specs.Limits.{max-radios, row-bytes}
-use Rattle.mesh.specs.Image.{link-bytes}
-use Rattle.lists.proofs.Parts.{length-flatMap}
-use Rattle.mesh.proofs.Images.Blocks.{length-link-bytes}
-use Rattle.lists.proofs.Overwrite.{sets-append}
+use Rattle.lists.{specs.Kit.{_≡_, refl, sym, ap, ap₂, _∙_, inl, inr, List, [], _∷_, _++_, flatMap, append-nil, ℕ, _+_, _*_, _-_, _/_, _%_, _^_, _≤_, _<_}}
+use Rattle.lists.{specs.Kit.{arith, bitAnd, trailingZeros, length, getD, take, drop, length-append, length-take, length-drop, sets, take-append-le}}
+use Rattle.lists.{specs.Kit.{drop-append-le, take-add, drop-drop, length-take-le}, proofs.Map.{map-append, flatMap-append}, proofs.Parts.{length-flatMap}}
+use Rattle.lists.{proofs.Overwrite.{sets-append}}
+use Rattle.mesh.{specs.Graph.{Link, link-of}, specs.Limits.{max-radios, row-bytes}, specs.Image.{link-bytes}, proofs.Images.Blocks.{length-link-bytes}}
+use Rattle.rows.{specs.Rows.{row-from, set-bits, row-word, word-of}, proofs.RowWords.{row-from-word, row-from-end, word-of-whole, row-word-part}}
+use Rattle.rows.{proofs.WordLaws.{set-bits-lowest, set-bits-nothing}, specs.Links.{links-to, links-above, links-from}, proofs.LinksFrom.{links-from-row}}
+use Rattle.rows.{proofs.LinksFrom.{links-from-end}, proofs.AboveWords.{above-words}}
 use Rattle.image_writer.specs.Blocks.{Links-put, Stopped, Row-stopped, row-left, links-left}
 
 -- ---- links put one after the other

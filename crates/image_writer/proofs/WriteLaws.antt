@@ -1,30 +1,14 @@
 -- The writer meets its contract, on plain values.
 -- In order: the number of questions 1 to 3, the links of a sound site, the three outcomes.
-use mathlib.Core.Path.{_≡_, refl, sym, ap, ap₂, _∙_}
-use mathlib.Core.Bool.{true}
-use mathlib.Core.List.{List, _++_, flatMap}
-use Prim.Native.Nat.{ℕ, _+_, _*_, _≤_, _<_}
-use native.Mathlib.Omega.{arith}
-use lib.ListN.{length, drop}
-use borrow.Author.Tests.{lt-leb}
-use Rattle.mesh.specs.Limits.{max-radios, max-neighbours, row-bytes}
-use Rattle.lists.specs.Lists.{range, overwrite}
-use Rattle.mesh.specs.Graph.{Link, Graph, graph}
-use Rattle.mesh.specs.Tables.{Tables, graph-in}
-use Rattle.mesh.specs.Sound.{within, few, sound}
-use Rattle.mesh.specs.Image.{block-bytes, blocks-for, order-blocks, block-count, block-at, image-of}
-use Rattle.mesh.proofs.Images.Of.{length-image-of}
-use Rattle.mesh.proofs.Images.Tables.{valid-graph-in}
-use Rattle.mesh.proofs.Tables.DegreeSum.{links-few}
-use Rattle.calls.specs.Questions.{ask, lengths-of, site-refusal, write-refusal, image-length, holds-image}
-use Rattle.calls.specs.Contracts.{Write-contract}
-use Rattle.calls.specs.Outcomes.{write-outcome}
-use Rattle.calls.proofs.ContractLaws.{listing-refused, listing-answered}
-use Rattle.calls.proofs.QuestionLaws.{ask-no}
-use Rattle.calls.proofs.ChainLaws.{Site-good, site-zero, site-yes, write-yes, site-stops}
+use Rattle.lists.specs.{Kit.{_≡_, sym, ap, ap₂, _∙_, true, List, _++_, flatMap, ℕ, _+_, _*_, _≤_, _<_, arith, length, drop, lt-leb}, Lists.{range, overwrite}}
+use Rattle.mesh.{specs.Limits.{max-radios, max-neighbours, row-bytes}, specs.Graph.{Link, Graph, graph}, specs.Tables.{Tables, graph-in}, specs.Sound.{within}}
+use Rattle.mesh.{specs.Sound.{few, sound}, specs.Image.{block-bytes, blocks-for, order-blocks, block-count, block-at, image-of}}
+use Rattle.mesh.{proofs.Images.Of.{length-image-of}, proofs.Images.Tables.{valid-graph-in}, proofs.Tables.DegreeSum.{links-few}}
+use Rattle.calls.{specs.Questions.{ask, lengths-of, site-refusal, write-refusal, image-length, holds-image}, specs.Contracts.{Write-contract}}
+use Rattle.calls.{specs.Outcomes.{write-outcome}, proofs.ContractLaws.{listing-refused, listing-answered}, proofs.QuestionLaws.{ask-no}}
+use Rattle.calls.{proofs.ChainLaws.{Site-good, site-zero, site-yes, write-yes, site-stops}}
 use Rattle.soundness.proofs.SoundSite.{Sound-site, sound-site}
-use Rattle.rows.specs.Links.{links-from, Rows-listed}
-use Rattle.rows.proofs.GraphLinks.{rows-listed-few, links-graph-in}
+use Rattle.rows.{specs.Links.{links-from, Rows-listed}, proofs.GraphLinks.{rows-listed-few, links-graph-in}}
 use Rattle.image_writer.specs.Blocks.{marked-graph, Links-fit, All-links-filled, front-block}
 use Rattle.image_writer.proofs.BlockFilling.{image-filled}
 

@@ -3,27 +3,14 @@
 --   Lowered       of nobody, of one radio, of one radio and then others
 --   Lowering      the listed radios from place i on are left
 --   Marking       the radios below v are marked where they pass a test
-use mathlib.Core.Path.{_≡_, refl, sym, ap, subst, _∙_}
-use mathlib.Core.Logic.{_⊎_, inl, inr}
-use mathlib.Core.Bool.{Bool, true, false, _&&_, _||_, not, cond}
-use mathlib.Core.List.{List, [], _∷_}
-use Prim.Native.Nat.{ℕ, zero, suc, _+_, _-_, _≤_, _<_}
-use native.Mathlib.Omega.{arith}
-use native.Mathlib.Numerals.{add-one}
-use lib.Dec.{ltb, leb, eqb}
-use lib.ListN.{length, getD, set, drop, replicate, length-set, length-replicate, drop-of-length-le}
-use lib.Seq.{getD-set-same, getD-set-other, drop-cons}
-use borrow.Author.Tests.{eqb-true, eqb-false, eq-eqb, ne-eqb, ltb-true, ltb-false, le-leb, lt-leb, lt-ltb, le-ltb}
-use Rattle.lists.specs.Lists.{In, member}
-use Rattle.lists.specs.Facts.{Distinct}
-use Rattle.lists.proofs.Tests.{bool-cases, cond-false, iff-eq}
-use Rattle.lists.proofs.Member.{not-member}
-use Rattle.lists.proofs.Parts.{getD-any}
-use Rattle.mesh.specs.Limits.{max-radios, row-bytes}
-use Rattle.mesh.specs.Tables.{marked, put-bit, byte-at}
-use Rattle.mesh.proofs.Tables.Laws.{marked-put-bit, marked-replicate, length-put-bit}
-use Rattle.lifting.specs.Peeling.{left}
-use Rattle.lifting.proofs.Peeling.{below-left, high-left}
+use Rattle.lists.{specs.Kit.{_≡_, refl, sym, ap, subst, _∙_, _⊎_, inl, inr, Bool, true, false, _&&_, _||_, not, cond, List, [], _∷_, ℕ, suc, _+_, _-_, _≤_}}
+use Rattle.lists.{specs.Kit.{_<_, arith, add-one, ltb, leb, eqb, length, getD, set, drop, replicate, length-set, length-replicate, drop-of-length-le}}
+use Rattle.lists.{specs.Kit.{getD-set-same, getD-set-other, drop-cons, eqb-true, eqb-false, eq-eqb, ne-eqb, ltb-true, ltb-false, le-leb, lt-leb, lt-ltb}}
+use Rattle.lists.{specs.Kit.{le-ltb}, specs.Lists.{In, member}, specs.Facts.{Distinct}, proofs.Tests.{bool-cases, cond-false, iff-eq}}
+use Rattle.lists.{proofs.Member.{not-member}, proofs.Parts.{getD-any}}
+use Rattle.mesh.{specs.Limits.{max-radios, row-bytes}, specs.Tables.{marked, put-bit, byte-at}, proofs.Tables.Laws.{marked-put-bit, marked-replicate}}
+use Rattle.mesh.{proofs.Tables.Laws.{length-put-bit}}
+use Rattle.lifting.{specs.Peeling.{left}, proofs.Peeling.{below-left, high-left}}
 use Rattle.lift.specs.Peels.{is-due, gone-of, Lowered}
 
 -- ---- tests

@@ -1,40 +1,23 @@
 -- Turns of the peel: a radio that is due is taken, and the counters say the same of the graph after as before.
 --   Sound-links    what sound links say of the graph that they mark
 --   state-takes    the state after a turn, and that fewer radios are left
-use mathlib.Core.Path.{_≡_, refl, sym, ap, subst, _∙_}
-use mathlib.Core.Logic.{_⊎_, inl, inr}
-use mathlib.Core.Bool.{Bool, true, false, _&&_, _||_, not, cond}
-use mathlib.Core.List.{List, [], _∷_}
-use Prim.Native.Nat.{ℕ, suc, _+_, _-_, _/_, _≤_, _<_, min}
-use native.Mathlib.Omega.{arith}
-use lib.Dec.{ltb, leb, eqb}
-use lib.ListN.{length, getD, set, take, length-set, List·getD-eq-default}
-use lib.Seq.{getD-set-same, getD-set-other}
-use borrow.Author.Tests.{eqb-true, eqb-false, eq-eqb, ne-eqb, ltb-true, ltb-false, lt-ltb, leb-true, leb-false, le-leb, lt-leb, not-true, not-false}
-use Rattle.lists.specs.Lists.{In, Entries-below, member, count, range, overwrite, head-or}
-use Rattle.lists.proofs.Tests.{bool-cases, never, and-left, and-right, and-both, or-cases, or-left, or-right, cond-false, cond-true}
-use Rattle.lists.proofs.Ascending.{head-or-lowest}
-use Rattle.lists.proofs.Member.{in-getD, member-in, head-or-below}
-use Rattle.mesh.specs.Limits.{max-radios, max-neighbours, row-bytes}
-use Rattle.mesh.specs.Graph.{linked}
-use Rattle.mesh.specs.Cores.{number}
-use Rattle.mesh.specs.Tables.{Tables, tables, marked, put-bit, byte-at, graph-in}
-use Rattle.mesh.specs.Sound.{sound}
-use Rattle.mesh.specs.Valid.{Valid}
-use Rattle.mesh.proofs.Tables.Laws.{marked-put-bit, length-put-bit}
-use Rattle.mesh.proofs.Tables.Rows.{few-of}
-use Rattle.mesh.proofs.Images.Tables.{valid-graph-in}
+use Rattle.lists.{specs.Kit.{_≡_, refl, sym, ap, subst, _∙_, _⊎_, inl, inr, Bool, true, false, _&&_, _||_, not, cond, List, ℕ, suc, _+_, _-_, _/_, _≤_, _<_}}
+use Rattle.lists.{specs.Kit.{min, arith, ltb, leb, eqb, length, getD, set, take, length-set, List·getD-eq-default, getD-set-same, getD-set-other, eqb-true}}
+use Rattle.lists.{specs.Kit.{eqb-false, eq-eqb, ne-eqb, ltb-true, ltb-false, lt-ltb, leb-true, leb-false, le-leb, lt-leb, not-true, not-false}}
+use Rattle.lists.{specs.Lists.{In, Entries-below, member, count, range, overwrite, head-or}, proofs.Tests.{bool-cases, never, and-left, and-right, and-both}}
+use Rattle.lists.{proofs.Tests.{or-cases, or-left, or-right, cond-false, cond-true}, proofs.Ascending.{head-or-lowest}, proofs.Member.{in-getD, member-in}}
+use Rattle.lists.{proofs.Member.{head-or-below}, proofs.Parts.{getD-any}}
+use Rattle.mesh.{specs.Limits.{max-radios, max-neighbours, row-bytes}, specs.Graph.{linked}, specs.Cores.{number}, specs.Tables.{Tables, tables, marked}}
+use Rattle.mesh.{specs.Tables.{put-bit, byte-at, graph-in}, specs.Sound.{sound}, specs.Valid.{Valid}, proofs.Tables.Laws.{marked-put-bit, length-put-bit}}
+use Rattle.mesh.{proofs.Tables.Rows.{few-of}, proofs.Images.Tables.{valid-graph-in}}
 use Rattle.calls.specs.Questions.{size-good, site-lengths, lengths-of}
-use Rattle.rows.specs.Rows.{neighbours-of, row-listed, row-count}
-use Rattle.rows.proofs.RowListLaws.{ascending-neighbours-of, in-neighbours-of, member-neighbours-of, length-neighbours-of, row-listed-fits}
-use Rattle.rows.proofs.RowWords.{row-listed-whole}
-use Rattle.soundness.specs.Checks.{fits-sound}
-use Rattle.soundness.proofs.SoundSite.{Sound-site, fits-sound-site, linked-marked, row-listed-neighbours}
-use Rattle.lifting.specs.Peeling.{left, stays, Taken}
-use Rattle.lifting.proofs.Peeling.{left-below, high-left, below-left, stays-above, stays-left, stays-cases, taken-fewer, peeling-near, peeling-takes}
+use Rattle.rows.{specs.Rows.{neighbours-of, row-listed, row-count}, proofs.RowListLaws.{ascending-neighbours-of, in-neighbours-of, member-neighbours-of}}
+use Rattle.rows.{proofs.RowListLaws.{length-neighbours-of, row-listed-fits}, proofs.RowWords.{row-listed-whole}}
+use Rattle.soundness.{specs.Checks.{fits-sound}, proofs.SoundSite.{Sound-site, fits-sound-site, linked-marked, row-listed-neighbours}}
+use Rattle.lifting.{specs.Peeling.{left, stays, Taken}, proofs.Peeling.{left-below, high-left, below-left, stays-above, stays-left, stays-cases, taken-fewer}}
+use Rattle.lifting.{proofs.Peeling.{peeling-near, peeling-takes}}
 use Rattle.lift.specs.Peels.{graph-of, Sound-links, is-due, Due, gone-of, Lowered, Peel-state, Peel-begin, Peel-end}
 use Rattle.lift.proofs.PeelLaws.{or-no}
-use Rattle.lists.proofs.Parts.{getD-any}
 
 -- ---- sound links
 

@@ -2,36 +2,17 @@
 --   is-free, may-lift     what each test of the code says of them
 --   checked-..            questions 1 to 3, and what the search reads
 --   answer-..             what the call answers
-use mathlib.Core.Path.{_≡_, refl, sym, ap, subst, _∙_}
-use mathlib.Core.Bool.{Bool, true, false, _&&_, _||_, not}
-use mathlib.Core.List.{List, []}
-use Prim.Native.Nat.{ℕ, _/_, _≤_, _<_}
-use native.Mathlib.Omega.{arith}
-use lib.Dec.{ltb, leb}
-use lib.ListN.{length, getD}
-use borrow.Author.Tests.{lt-ltb, le-ltb, le-leb, lt-leb, not-true, not-false}
-use Rattle.mesh.specs.Limits.{max-radios, max-neighbours, row-bytes}
-use Rattle.mesh.specs.Tables.{Tables, marked, graph-in}
-use Rattle.mesh.specs.Sound.{sound}
-use Rattle.mesh.specs.Graph.{link-of, neighbours-in}
-use Rattle.calls.specs.Questions.{lengths-of, tables-refusal, radio-refusal, ask}
-use Rattle.calls.specs.Lift.{lifting, first-pair, is-lifted}
-use Rattle.calls.specs.LiftOutcome.{pair}
-use Rattle.calls.specs.Contracts.{Lift-contract}
-use Rattle.calls.proofs.ChainLaws.{Site-good, site-zero}
-use Rattle.calls.proofs.LiftOutcome.{lift-refused, lift-unanswered, lift-answered}
+use Rattle.lists.specs.Kit.{_≡_, refl, sym, ap, subst, _∙_, Bool, true, false, _&&_, not, List, [], ℕ, _/_, _≤_, _<_, arith, ltb, leb, length, getD, lt-ltb}
+use Rattle.lists.specs.Kit.{le-ltb, le-leb, lt-leb, not-true, not-false}
+use Rattle.mesh.specs.{Limits.{max-radios, max-neighbours, row-bytes}, Tables.{Tables, marked, graph-in}, Sound.{sound}, Graph.{link-of, neighbours-in}}
+use Rattle.calls.{specs.Questions.{lengths-of, tables-refusal, radio-refusal, ask}, specs.Lift.{lifting, first-pair, is-lifted}, specs.LiftOutcome.{pair}}
+use Rattle.calls.{specs.Contracts.{Lift-contract}, proofs.ChainLaws.{Site-good, site-zero}, proofs.LiftOutcome.{lift-refused, lift-unanswered, lift-answered}}
 use Rattle.rows.specs.Rows.{row-count}
-use Rattle.soundness.specs.Checks.{fits-sound, examinable, Examined}
-use Rattle.soundness.proofs.ExamineLaws.{examinable-room, fits-sound-lent, site-refused, site-lent}
-use Rattle.soundness.proofs.RadioLaws.{radio-no, radio-four, radio-none}
-use Rattle.soundness.proofs.HighCounts.{examined-high}
-use Rattle.soundness.proofs.SoundSite.{fits-sound-site}
+use Rattle.soundness.{specs.Checks.{fits-sound, examinable, Examined}, proofs.ExamineLaws.{examinable-room, fits-sound-lent, site-refused, site-lent}}
+use Rattle.soundness.{proofs.RadioLaws.{radio-no, radio-four, radio-none}, proofs.HighCounts.{examined-high}, proofs.SoundSite.{fits-sound-site}}
 use Rattle.conditions.specs.Conditions.{Placed}
 use Rattle.lifting.specs.Tight.{first-end}
-use Rattle.lift.specs.Counters.{room-left}
-use Rattle.lift.specs.Peels.{graph-of}
-use Rattle.lift.specs.Tries.{Search-site}
-use Rattle.lift.specs.Search.{is-free, Search-places, place-in, may-lift, Checked}
+use Rattle.lift.specs.{Counters.{room-left}, Peels.{graph-of}, Tries.{Search-site}, Search.{is-free, Search-places, place-in, may-lift, Checked}}
 
 -- ---- is-free
 

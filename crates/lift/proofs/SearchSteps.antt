@@ -2,40 +2,20 @@
 --   trying-start    the marked radios are the higher ends of a's candidates
 --   end-..          the lower end a is done: no candidates, a pair that lifts, or all ruled out
 --   pair-..         the first pair, or none
-use mathlib.Core.Path.{_≡_, refl, sym, subst, _∙_}
-use mathlib.Core.Logic.{_⊎_, inl, inr}
-use mathlib.Core.Bool.{Bool, true, false, _&&_, not, cond}
-use mathlib.Core.List.{List}
-use Prim.Native.Nat.{ℕ, _+_, _/_, _≤_, _<_, min}
-use native.Mathlib.Omega.{arith}
-use lib.Dec.{ltb, leb, eqb}
-use lib.ListN.{length, getD, replicate, length-replicate}
-use borrow.Author.Tests.{eqb-true, eq-eqb, ltb-true, ltb-false, lt-ltb, le-leb, lt-leb, leb-true, leb-false, not-true}
-use Rattle.lists.proofs.Tests.{bool-cases, never, and-left, and-right, and-both}
-use Rattle.mesh.specs.Limits.{max-radios, max-neighbours, row-bytes}
-use Rattle.mesh.specs.Graph.{Graph, link-of, linked, degree}
-use Rattle.mesh.specs.Cores.{number}
-use Rattle.mesh.specs.Levels.{lower-level}
-use Rattle.mesh.specs.Tables.{tables, marked, byte-at}
-use Rattle.mesh.specs.Valid.{Valid}
-use Rattle.mesh.proofs.Tables.Laws.{marked-replicate}
-use Rattle.calls.specs.Questions.{can-switch, has-room}
-use Rattle.calls.specs.Lift.{lifts}
-use Rattle.lists.specs.Lists.{head-or}
+use Rattle.lists.{specs.Kit.{_≡_, refl, sym, subst, _∙_, _⊎_, inl, inr, Bool, true, false, _&&_, not, cond, List, ℕ, _+_, _/_, _≤_, _<_, min, arith, ltb, leb}}
+use Rattle.lists.{specs.Kit.{eqb, length, getD, replicate, length-replicate, eqb-true, eq-eqb, ltb-true, ltb-false, lt-ltb, le-leb, lt-leb, leb-true}}
+use Rattle.lists.{specs.Kit.{leb-false, not-true}, proofs.Tests.{bool-cases, never, and-left, and-right, and-both}, specs.Lists.{head-or}}
+use Rattle.mesh.{specs.Limits.{max-radios, max-neighbours, row-bytes}, specs.Graph.{Graph, link-of, linked, degree}, specs.Cores.{number}}
+use Rattle.mesh.{specs.Levels.{lower-level}, specs.Tables.{tables, marked, byte-at}, specs.Valid.{Valid}, proofs.Tables.Laws.{marked-replicate}}
+use Rattle.calls.specs.{Questions.{can-switch, has-room}, Lift.{lifts}}
 use Rattle.rows.specs.Rows.{row-listed, row-count}
 use Rattle.soundness.proofs.SoundSite.{linked-marked, degree-counted}
-use Rattle.lifting.specs.Search.{candidate, None-below}
-use Rattle.lifting.specs.Tight.{later, tight, first-end}
-use Rattle.lifting.proofs.Pairs.{candidate-refutes, candidate-allowed}
-use Rattle.lifting.proofs.Tight.{tight-refutes}
-use Rattle.lifting.proofs.Search.{none-next, first-found, none-found}
-use Rattle.lift.specs.Counters.{room-left}
-use Rattle.lift.specs.Peels.{graph-of}
-use Rattle.lift.specs.Tries.{Search-site, Trying, Settling, Settled, Tried}
-use Rattle.lift.specs.Search.{is-free, Free, Search-places, place-in, Tight, may-lift, Marked, Higher-end, Pair-found}
-use Rattle.lift.proofs.PeelSteps.{links-site, links-valid, first-due, none-before}
-use Rattle.lift.proofs.OrderLaws.{places-ordered, tight-is}
-use Rattle.lift.proofs.TrySteps.{candidate-level, site-links, site-radios, graph-radios, site-small, number-is, level-is}
+use Rattle.lifting.{specs.Search.{candidate, None-below}, specs.Tight.{later, tight, first-end}, proofs.Pairs.{candidate-refutes, candidate-allowed}}
+use Rattle.lifting.{proofs.Tight.{tight-refutes}, proofs.Search.{none-next, first-found, none-found}}
+use Rattle.lift.specs.{Counters.{room-left}, Peels.{graph-of}, Tries.{Search-site, Trying, Settling, Settled, Tried}, Search.{is-free, Free}}
+use Rattle.lift.specs.{Search.{Search-places, place-in, Tight, may-lift, Marked, Higher-end, Pair-found}}
+use Rattle.lift.proofs.{PeelSteps.{links-site, links-valid, first-due, none-before}, OrderLaws.{places-ordered, tight-is}, TrySteps.{candidate-level}}
+use Rattle.lift.proofs.{TrySteps.{site-links, site-radios, graph-radios, site-small, number-is, level-is}}
 
 -- a candidate, from its parts
 candidate-made : (g : Graph) (k a c : ℕ) → min (number g a) (number g c) ≡ k → linked g a c ≡ false → degree g a < max-neighbours → degree g c < max-neighbours

@@ -4,44 +4,23 @@
 --   settled-..     the peel with all untried radios held
 --   tried-found    the pair lifts the radio
 --   tried-not      the pair does not, nor do the others that are ruled out
-use mathlib.Core.Path.{_≡_, refl, sym, ap, subst, _∙_}
-use mathlib.Core.Logic.{_⊎_, inl, inr}
-use mathlib.Core.Bool.{Bool, true, false, _&&_, _||_, not, cond, and-false}
-use mathlib.Core.List.{List}
-use Prim.Native.Nat.{ℕ, _+_, _/_, _≤_, _<_, min}
-use native.Mathlib.Omega.{arith}
-use native.Mathlib.Nat.{le-antisymm}
-use lib.Dec.{ltb, leb, eqb}
-use lib.ListN.{length, getD, replicate, List·getD-eq-default}
-use borrow.Author.Tests.{eqb-true, eqb-false, eq-eqb, ne-eqb, ltb-true, ltb-false, lt-ltb}
-use Rattle.lists.specs.Lists.{count, range, head-or}
-use Rattle.lists.proofs.Tests.{bool-cases, never, and-left}
-use Rattle.lists.proofs.Range.{in-range, range-in}
-use Rattle.lists.proofs.Count.{count-less, count-mono}
-use Rattle.mesh.specs.Limits.{max-radios, max-neighbours, row-bytes}
-use Rattle.mesh.specs.Graph.{Graph, link-of, neighbours-in}
-use Rattle.mesh.specs.Cores.{number}
-use Rattle.mesh.specs.Levels.{lower-level}
-use Rattle.mesh.specs.Tables.{tables, marked, put-bit, byte-at, graph-in}
-use Rattle.mesh.specs.Valid.{Valid}
-use Rattle.mesh.proofs.GraphLaws.{neighbours-in-subset, degree-in}
-use Rattle.mesh.proofs.Cores.Certificate.{core-enough}
-use Rattle.mesh.proofs.Cores.Peeling.{number-core}
-use Rattle.mesh.proofs.Tables.Laws.{marked-put-bit, length-put-bit}
-use Rattle.calls.specs.Questions.{can-switch, has-room}
-use Rattle.calls.specs.Lift.{lifts}
+use Rattle.lists.{specs.Kit.{_≡_, refl, sym, ap, subst, _∙_, _⊎_, inl, inr, Bool, true, false, _&&_, _||_, not, cond, and-false, List, ℕ, _+_, _/_, _≤_, _<_}}
+use Rattle.lists.{specs.Kit.{min, arith, le-antisymm, ltb, leb, eqb, length, getD, replicate, List·getD-eq-default, eqb-true, eqb-false, eq-eqb, ne-eqb}}
+use Rattle.lists.{specs.Kit.{ltb-true, ltb-false, lt-ltb}, specs.Lists.{count, range, head-or}, proofs.Tests.{bool-cases, never, and-left}}
+use Rattle.lists.{proofs.Range.{in-range, range-in}, proofs.Count.{count-less, count-mono}}
+use Rattle.mesh.{specs.Limits.{max-radios, max-neighbours, row-bytes}, specs.Graph.{Graph, link-of, neighbours-in}, specs.Cores.{number}}
+use Rattle.mesh.{specs.Levels.{lower-level}, specs.Tables.{tables, marked, put-bit, byte-at, graph-in}, specs.Valid.{Valid}}
+use Rattle.mesh.{proofs.GraphLaws.{neighbours-in-subset, degree-in}, proofs.Cores.Certificate.{core-enough}, proofs.Cores.Peeling.{number-core}}
+use Rattle.mesh.{proofs.Tables.Laws.{marked-put-bit, length-put-bit}}
+use Rattle.calls.specs.{Questions.{can-switch, has-room}, Lift.{lifts}}
 use Rattle.soundness.proofs.SoundSite.{number-entry}
-use Rattle.lifting.specs.Peeling.{left, stays, Peeling}
-use Rattle.lifting.specs.Search.{candidate}
-use Rattle.lifting.proofs.Peeling.{below-left, stays-above, stays-left, stays-cases, peeling-starts}
-use Rattle.lifting.proofs.Pairs.{candidate-allowed, radio-refutes, few-refutes, low-refutes, peeling-lifts}
-use Rattle.lifting.proofs.Search.{untried-next}
+use Rattle.lifting.{specs.Peeling.{left, stays, Peeling}, specs.Search.{candidate}, proofs.Peeling.{below-left, stays-above, stays-left, stays-cases}}
+use Rattle.lifting.{proofs.Peeling.{peeling-starts}, proofs.Pairs.{candidate-allowed, radio-refutes, few-refutes, low-refutes, peeling-lifts}}
+use Rattle.lifting.{proofs.Search.{untried-next}}
 use Rattle.rows.specs.Rows.{row-listed}
-use Rattle.lift.specs.Peels.{graph-of, Sound-links, gone-of, Peel-begin, Peel-end}
-use Rattle.lift.specs.Counters.{rules-out}
-use Rattle.lift.specs.Tries.{Search-site, Started, ruled-out, Ruled-out, Trying, Settling, Settled-at, Settled, Tried}
-use Rattle.lift.proofs.PeelSteps.{links-site, links-valid, first-due, none-before, inside-left}
-use Rattle.lift.proofs.TryLaws.{start-past, start-other, start-own, held-at}
+use Rattle.lift.specs.{Peels.{graph-of, Sound-links, gone-of, Peel-begin, Peel-end}, Counters.{rules-out}, Tries.{Search-site, Started, ruled-out}}
+use Rattle.lift.specs.{Tries.{Ruled-out, Trying, Settling, Settled-at, Settled, Tried}}
+use Rattle.lift.proofs.{PeelSteps.{links-site, links-valid, first-due, none-before, inside-left}, TryLaws.{start-past, start-other, start-own, held-at}}
 
 -- the lower number of a candidate is the level
 pub candidate-level : (g : Graph) (k a c : ℕ) → candidate g k a c ≡ true → min (number g a) (number g c) ≡ k

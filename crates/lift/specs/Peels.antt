@@ -11,17 +11,8 @@
 --   Peel-begin         what a peel begins with
 --   Peel-end           what the peel comes back with
 -- A set of radios is one row. Definitions only.
-use mathlib.Core.Path.{_≡_}
-use mathlib.Core.Logic.{_⊎_}
-use mathlib.Core.Bool.{Bool, true, false, _&&_, _||_, not, cond}
-use mathlib.Core.List.{List}
-use Prim.Native.Nat.{ℕ, _+_, _-_, _/_, _≤_, _<_}
-use lib.Dec.{ltb, leb, eqb}
-use lib.ListN.{length, getD}
-use Rattle.lists.specs.Lists.{member}
-use Rattle.mesh.specs.Limits.{max-radios, row-bytes}
-use Rattle.mesh.specs.Graph.{Graph}
-use Rattle.mesh.specs.Tables.{tables, marked, graph-in}
+use Rattle.lists.specs.{Kit.{_≡_, _⊎_, Bool, true, false, _&&_, _||_, not, cond, List, ℕ, _+_, _-_, _/_, _≤_, _<_, ltb, leb, eqb, length, getD}, Lists.{member}}
+use Rattle.mesh.specs.{Limits.{max-radios, row-bytes}, Graph.{Graph}, Tables.{tables, marked, graph-in}}
 use Rattle.soundness.specs.Checks.{fits-sound}
 use Rattle.lifting.specs.Peeling.{left, stays, Peeling}
 

@@ -11,24 +11,13 @@
 --   Settled            what the peel with all untried radios held comes back with
 --   Tried              what trying a pair comes back with
 -- Definitions only.
-use mathlib.Core.Path.{_≡_}
-use mathlib.Core.Bool.{Bool, true, false, _&&_, _||_, not, cond}
-use mathlib.Core.List.{List}
-use Prim.Native.Nat.{ℕ, _+_, _/_, _≤_, _<_}
-use lib.Dec.{ltb, leb, eqb}
-use lib.ListN.{length, getD}
-use Rattle.lists.specs.Lists.{count, range, head-or}
-use Rattle.mesh.specs.Limits.{max-radios, row-bytes}
-use Rattle.mesh.specs.Graph.{link-of, neighbours-in}
-use Rattle.mesh.specs.Cores.{number}
-use Rattle.mesh.specs.Tables.{tables, marked}
+use Rattle.lists.specs.{Kit.{_≡_, Bool, true, false, _&&_, not, cond, List, ℕ, _/_, _≤_, _<_, ltb, leb, eqb, length, getD}, Lists.{count, range, head-or}}
+use Rattle.mesh.specs.{Limits.{max-radios, row-bytes}, Graph.{link-of, neighbours-in}, Cores.{number}, Tables.{tables, marked}}
 use Rattle.calls.specs.Lift.{lifts}
 use Rattle.soundness.specs.Checks.{fits-sound}
-use Rattle.lifting.specs.Peeling.{stays}
-use Rattle.lifting.specs.Search.{candidate, Untried}
+use Rattle.lifting.specs.{Peeling.{stays}, Search.{candidate, Untried}}
 use Rattle.rows.specs.Rows.{row-listed}
-use Rattle.lift.specs.Counters.{rules-out}
-use Rattle.lift.specs.Peels.{graph-of, Kept, Base}
+use Rattle.lift.specs.{Counters.{rules-out}, Peels.{graph-of, Kept, Base}}
 
 -- the order is the one of the tables
 pub record Search-site (links numbers highs : List ℕ) : Type 0 where

@@ -2,8 +2,7 @@
 // the radio's core number. Only pairs can whose lower number is the radio's own, K, and whose first end in the order has exactly K later
 // neighbours and stands no later than the radio. A peel of level K that shows that a pair does not lift the radio rules others out too.
 // Refused: 1 to 4, and 20 where there is no such pair. Tables are only read.
-ghost use mathlib.Core.Path.{_≡_};
-ghost use lib.ListN.{length};
+ghost use Rattle.lists.specs.Kit.{_≡_, length};
 ghost use Rattle.mesh.specs.Limits.{max-radios};
 ghost use Rattle.mesh.specs.Lent.{lent};
 ghost use Rattle.calls.specs.Contracts.{Lift-contract};

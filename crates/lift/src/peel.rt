@@ -1,11 +1,7 @@
 // The peel of a level, without any new link: radios with at most K neighbours that are left or above are taken, never a, the lower end of
 // the pairs tried, and a held radio only with fewer than K, where the link of its pair would not keep it. A counter below 128 is of a radio
 // that is left, 128 more of one that is taken, as it was when it was taken; 255 stands for no radio of the level.
-ghost use mathlib.Core.Path.{_≡_};
-ghost use mathlib.Core.Bool.{true, _||_, not};
-ghost use Prim.Native.Nat.{_≤_, _<_, _-_};
-ghost use mathlib.Core.List.{[], _∷_};
-ghost use lib.ListN.{length, take, replicate};
+ghost use Rattle.lists.specs.Kit.{_≡_, true, _||_, not, _≤_, _<_, _-_, [], _∷_, length, take, replicate};
 ghost use Rattle.mesh.specs.Limits.{max-radios, row-bytes};
 ghost use Rattle.lists.specs.Facts.{Distinct};
 ghost use Rattle.lists.specs.Lists.{Entries-below, range, count};

@@ -1,8 +1,6 @@
 // The search over pairs, by lower and then higher radio: for each lower end the pairs that may lift the radio are tried, the lowest higher
 // end first, until one lifts it or all are ruled out.
-ghost use mathlib.Core.Path.{_≡_};
-ghost use Prim.Native.Nat.{_/_, _≤_, _<_};
-ghost use lib.ListN.{length, getD, take};
+ghost use Rattle.lists.specs.Kit.{_≡_, _/_, _≤_, _<_, length, getD, take};
 ghost use Rattle.lists.specs.Lists.{Entries-below};
 ghost use Rattle.mesh.specs.Limits.{max-radios, max-neighbours, row-bytes};
 ghost use Rattle.mesh.specs.Tables.{marked};

@@ -1,11 +1,7 @@
 // Pairs of one lower end tried: the radio's level is peeled with that end and all untried higher ends left alone, and from there, for each pair
 // tried, with its two ends. Where the radio is left and both ends have enough, the pair lifts it; else what was taken rules this pair out, and
 // others of the same lower end.
-ghost use mathlib.Core.Path.{_≡_};
-ghost use mathlib.Core.Bool.{cond};
-ghost use Prim.Native.Nat.{_≤_, _<_};
-ghost use lib.Dec.{eqb};
-ghost use lib.ListN.{length, getD};
+ghost use Rattle.lists.specs.Kit.{_≡_, cond, _≤_, _<_, eqb, length, getD};
 ghost use Rattle.lists.specs.Lists.{count, range};
 ghost use Rattle.mesh.specs.Limits.{max-radios, row-bytes};
 ghost use Rattle.mesh.specs.Tables.{marked};

@@ -5,18 +5,9 @@
 --   Raises g v l       with the link l, which a link call would take up now, the core number of v by the largest group is greater
 --   Lift-right         l is the first pair that lifts v; it raises v; taking it up is accepted and lists v
 -- That they hold is `lift-core`, `lift-accepted`, `lift-right` in proofs/Answers.antt. Definitions only.
-use mathlib.Core.Path.{_≡_}
-use mathlib.Core.Bool.{true, false}
-use mathlib.Core.List.{List}
-use Prim.Native.Nat.{ℕ, _≤_, _<_}
-use lib.ListN.{length, take}
-use Rattle.lists.specs.Lists.{In}
-use Rattle.mesh.specs.Limits.{max-neighbours}
-use Rattle.mesh.specs.Graph.{Link, Graph, link-before, relinked, Allowed}
-use Rattle.mesh.specs.Cores.{Core}
-use Rattle.mesh.specs.Tables.{Tables, graph-in}
-use Rattle.calls.specs.Outcomes.{link-outcome}
-use Rattle.calls.specs.Lift.{lifts}
+use Rattle.lists.specs.{Kit.{_≡_, true, false, List, ℕ, _≤_, _<_, length, take}, Lists.{In}}
+use Rattle.mesh.specs.{Limits.{max-neighbours}, Graph.{Link, Graph, link-before, relinked, Allowed}, Cores.{Core}, Tables.{Tables, graph-in}}
+use Rattle.calls.specs.{Outcomes.{link-outcome}, Lift.{lifts}}
 
 -- ---- pairs that lift a radio
 

@@ -1,41 +1,18 @@
 -- A plan applied, on plain values: what is written is what an accepted link call comes to.
 -- In order: laws of lists, a bound on numbers, the changed radios, the numbers, the order, the call.
-use mathlib.Core.Path.{_≡_, sym, ap, ap₂, _∙_}
-use mathlib.Core.Logic.{_⊎_, inl, inr}
-use mathlib.Core.Bool.{Bool, true, false, _&&_, not}
-use mathlib.Core.List.{List, [], _∷_}
-use Prim.Native.Nat.{ℕ, suc, _+_, _-_, _≤_, _<_}
-use native.Mathlib.Omega.{arith}
-use native.Mathlib.Nat.{le-trans}
-use lib.Dec.{eqb}
-use borrow.Author.Tests.{le-leb}
-use lib.IntN.{ℤ}
-use lib.ListN.{length, getD, take, drop, length-drop}
-use lib.Seq.{length-take-le, take-all, ext-getD, getD-take, getD-drop}
-use Rattle.mesh.specs.Limits.{max-radios, max-neighbours}
-use Rattle.lists.specs.Lists.{range, count, filter, member, overwrite, In, Entries-below}
-use Rattle.lists.specs.Facts.{Distinct}
-use Rattle.mesh.specs.Graph.{Graph, radios, linked, degree, neighbours-among, neighbours-in, relinked, Allowed}
-use Rattle.mesh.specs.Cores.{Group, number, numbers}
-use Rattle.mesh.specs.Levels.{changed, step-of}
-use Rattle.mesh.specs.Tables.{Tables, graph-in}
-use Rattle.lists.proofs.Tests.{bool-cases, never, and-left}
-use Rattle.lists.proofs.Member.{in-member, member-in, not-member, getD-of-in}
-use Rattle.lists.proofs.Range.{range-in, length-range, distinct-range}
-use Rattle.lists.proofs.Count.{count-mono, count-le-length}
-use Rattle.lists.proofs.Filter.{length-filter, filter-ext, distinct-filter, filter-range-within, filter-member-filter}
-use Rattle.lists.proofs.Overwrite.{take-overwrite}
-use Rattle.mesh.proofs.Cores.Peeling.{number-core, length-numbers, getD-numbers}
-use Rattle.mesh.proofs.Links.Call.{unchanged-number}
-use Rattle.mesh.proofs.Links.Laws.{link-by-one, link-valid}
-use Rattle.mesh.specs.Valid.{Valid, smaller, larger}
-use Rattle.calls.specs.Switches.{switch, switched}
-use Rattle.calls.specs.Outcomes.{reply, linked-with}
-use Rattle.calls.specs.declared.Reply.{Reply}
-use Rattle.tables.specs.Steps.{stepped, all-stepped}
-use Rattle.tables.proofs.StepLaws.{length-all-stepped, getD-all-stepped-other, getD-all-stepped-listed}
-use Rattle.plan.specs.Plans.{Planned, Applicable}
-use Rattle.plan.specs.Planned.{changed-part}
+use Rattle.lists.{specs.Kit.{_≡_, sym, ap, ap₂, _∙_, _⊎_, inl, inr, Bool, true, false, _&&_, not, List, [], _∷_, ℕ, suc, _+_, _-_, _≤_, _<_, arith, le-trans}}
+use Rattle.lists.{specs.Kit.{eqb, le-leb, ℤ, length, getD, take, drop, length-drop, length-take-le, take-all, ext-getD, getD-take, getD-drop}}
+use Rattle.lists.{specs.Lists.{range, count, filter, member, overwrite, In, Entries-below}, specs.Facts.{Distinct}, proofs.Tests.{bool-cases, never, and-left}}
+use Rattle.lists.{proofs.Member.{in-member, member-in, not-member, getD-of-in}, proofs.Range.{range-in, length-range, distinct-range}}
+use Rattle.lists.{proofs.Count.{count-mono, count-le-length}, proofs.Filter.{length-filter, filter-ext, distinct-filter, filter-range-within}}
+use Rattle.lists.{proofs.Filter.{filter-member-filter}, proofs.Overwrite.{take-overwrite}}
+use Rattle.mesh.{specs.Limits.{max-radios, max-neighbours}, specs.Graph.{Graph, radios, linked, degree, neighbours-among, neighbours-in, relinked, Allowed}}
+use Rattle.mesh.{specs.Cores.{Group, number, numbers}, specs.Levels.{changed, step-of}, specs.Tables.{Tables, graph-in}, proofs.Cores.Peeling.{number-core}}
+use Rattle.mesh.{proofs.Cores.Peeling.{length-numbers, getD-numbers}, proofs.Links.Call.{unchanged-number}, proofs.Links.Laws.{link-by-one, link-valid}}
+use Rattle.mesh.{specs.Valid.{Valid, smaller, larger}}
+use Rattle.calls.specs.{Switches.{switch, switched}, Outcomes.{reply, linked-with}, declared.Reply.{Reply}}
+use Rattle.tables.{specs.Steps.{stepped, all-stepped}, proofs.StepLaws.{length-all-stepped, getD-all-stepped-other, getD-all-stepped-listed}}
+use Rattle.plan.specs.{Plans.{Planned, Applicable}, Planned.{changed-part}}
 use Rattle.links.specs.Changes.{in-order, counted-step, plan-fits, Applied}
 use Rattle.links.proofs.ChangeLaws.{counted-step-length}
 

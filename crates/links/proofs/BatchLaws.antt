@@ -1,29 +1,13 @@
 -- A batch meets its contract, on plain values: its questions, its loop, the call.
-use mathlib.Core.Path.{_≡_, refl, sym, ap, subst, _∙_}
-use mathlib.Core.Bool.{Bool, true, false}
-use mathlib.Core.List.{List, _∷_}
-use Prim.Native.Nat.{ℕ, suc, _+_, _*_, _%_, _≤_, _<_}
-use native.Mathlib.Omega.{arith}
-use mir.Syntax.{w32, w64}
-use mir.Val.{Fits}
-use lib.ListN.{length, getD, drop, drop-of-length-le}
-use lib.Seq.{drop-cons}
-use borrow.Author.Tests.{eqb-true, eq-eqb, ne-eqb}
-use Rattle.mesh.specs.Limits.{max-radios}
-use Rattle.mesh.specs.Tables.{Tables}
-use Rattle.mesh.specs.Sound.{sound}
-use Rattle.calls.specs.Questions.{ask, lengths-of, tables-refusal}
-use Rattle.calls.specs.Batches.{list-length, batch-refusal}
-use Rattle.calls.specs.Outcomes.{batched, value, links-taken, batch-outcome}
-use Rattle.calls.specs.Contracts.{Batch-contract}
-use Rattle.calls.specs.declared.Value.{Value}
-use Rattle.calls.proofs.ChainLaws.{site-zero}
-use Rattle.calls.proofs.ContractLaws.{by-accepted, by-refused}
-use Rattle.calls.proofs.Batches.{Batch-left, batch-first, batch-next, batch-ended, batch-halted, batch-few}
-use Rattle.soundness.specs.Checks.{Examined}
-use Rattle.soundness.proofs.ExamineLaws.{site-refused, site-lent, fits-sound-lent, examinable-room}
-use Rattle.links.specs.Steps.{Prepared, Stepped}
-use Rattle.links.specs.Batched.{Batch-asked}
+use Rattle.lists.specs.Kit.{_≡_, refl, sym, ap, subst, _∙_, Bool, true, false, List, _∷_, ℕ, suc, _+_, _*_, _%_, _≤_, _<_, arith, length, getD, drop}
+use Rattle.lists.specs.Kit.{drop-of-length-le, drop-cons, eqb-true, eq-eqb, ne-eqb}
+use mir.{Syntax.{w32, w64}, Val.{Fits}}
+use Rattle.mesh.specs.{Limits.{max-radios}, Tables.{Tables}, Sound.{sound}}
+use Rattle.calls.{specs.Questions.{ask, lengths-of, tables-refusal}, specs.Batches.{list-length, batch-refusal}, specs.Outcomes.{batched, value, links-taken}}
+use Rattle.calls.{specs.Outcomes.{batch-outcome}, specs.Contracts.{Batch-contract}, specs.declared.Value.{Value}, proofs.ChainLaws.{site-zero}}
+use Rattle.calls.{proofs.ContractLaws.{by-accepted, by-refused}, proofs.Batches.{Batch-left, batch-first, batch-next, batch-ended, batch-halted, batch-few}}
+use Rattle.soundness.{specs.Checks.{Examined}, proofs.ExamineLaws.{site-refused, site-lent, fits-sound-lent, examinable-room}}
+use Rattle.links.specs.{Steps.{Prepared, Stepped}, Batched.{Batch-asked}}
 use Rattle.links.proofs.StepLaws.{fits-good}
 
 -- ---- the questions

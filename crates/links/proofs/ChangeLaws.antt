@@ -1,34 +1,15 @@
 -- Laws of what applying a plan writes. In order: the changed radios, a plan that fits, the stretch in the order, the step, the calls.
-use mathlib.Core.Path.{_≡_, refl, sym, ap, ap₂, _∙_}
-use mathlib.Core.Logic.{_⊎_, inl, inr}
-use mathlib.Core.Bool.{Bool, true, false, _&&_, cond}
-use mathlib.Core.List.{List, [], _∷_, _++_, append-assoc}
-use Prim.Native.Nat.{ℕ, zero, suc, _+_, _-_, _≤_, _<_, min}
-use native.Mathlib.Omega.{arith}
-use mir.Syntax.{w8}
-use mir.Val.{SFits, toZ, ofZ}
-use mir.Facts.{toZ-ofZ}
-use lib.Dec.{leb}
-use lib.IntN.{ℤ, pos, negsuc}
-use lib.ListN.{length, take, drop, length-drop}
-use lib.Seq.{length-take-le, take-all, take-take, take-add, drop-drop, paste, take-paste, drop-paste}
-use borrow.Author.Tests.{leb-true, leb-false, le-leb, lt-leb}
-use borrow.Rule.Slice.PartMut.{midOf, putMid, mid-len, post-is}
-use Rattle.mesh.specs.Limits.{max-radios}
-use Rattle.lists.specs.Lists.{range, member, overwrite}
-use Rattle.mesh.specs.Levels.{step-of}
-use Rattle.mesh.specs.Tables.{Tables}
+use Rattle.lists.{specs.Kit.{_≡_, refl, sym, ap, ap₂, _∙_, _⊎_, inl, inr, Bool, true, false, _&&_, List, [], _∷_, _++_, append-assoc, ℕ, zero, suc, _+_, _-_}}
+use Rattle.lists.{specs.Kit.{_≤_, _<_, min, arith, leb, ℤ, pos, negsuc, length, take, drop, length-drop, length-take-le, take-take, take-add, drop-drop, paste}}
+use Rattle.lists.{specs.Kit.{take-paste, drop-paste, leb-true, leb-false, le-leb, lt-leb}, specs.Lists.{range, member}, proofs.Tests.{bool-cases, never}}
+use Rattle.lists.{proofs.Tests.{and-left, and-right}, proofs.Count.{count-le-length}, proofs.Filter.{length-filter}, proofs.Range.{length-range}}
+use Rattle.lists.{proofs.Parts.{take-min, drop-take}}
+use mir.{Syntax.{w8}, Val.{SFits, toZ, ofZ}, Facts.{toZ-ofZ}}
+use Rattle.mesh.specs.{Limits.{max-radios}, Levels.{step-of}, Tables.{Tables}}
 use Rattle.calls.specs.declared.Reply.{Reply}
 use Rattle.tables.specs.Steps.{all-stepped}
-use Rattle.lists.proofs.Tests.{bool-cases, never, and-left, and-right}
-use Rattle.lists.proofs.Count.{count-le-length}
-use Rattle.lists.proofs.Filter.{length-filter}
-use Rattle.lists.proofs.Range.{length-range}
-use Rattle.lists.proofs.Overwrite.{overwrite-take}
 use Rattle.plan.specs.Planned.{changed-part}
 use Rattle.links.specs.Changes.{in-order, counted-step, plan-fits, Plan-put, Write-contract, Applied, Apply-contract}
-use Rattle.lists.proofs.Parts.{take-min, drop-take}
-use Rattle.plan.proofs.Pasted.{put-part}
 
 -- ---- the changed radios of a plan
 

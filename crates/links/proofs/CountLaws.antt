@@ -1,35 +1,18 @@
 -- The not-lower counts after a link: the loops that count radios anew, and which radios keep theirs.
 -- In order: a counted list, a listed row, radios put into a set, the touched radios, counts anew, of a word, of a set.
-use mathlib.Core.Path.{_≡_, refl, sym, ap, subst, _∙_}
-use mathlib.Core.Logic.{_⊎_, inl, inr}
-use mathlib.Core.Bool.{Bool, true, false, _||_, cond, or-false}
-use mathlib.Core.List.{List, [], _∷_, _++_}
-use Prim.Native.Nat.{ℕ, suc, _+_, _*_, _-_, _/_, _%_, _^_, _≤_, _<_, min}
-use native.Mathlib.Omega.{arith}
-use native.Mathlib.Numerals.{add-one}
+use Rattle.lists.{specs.Kit.{_≡_, refl, sym, ap, subst, _∙_, _⊎_, inl, inr, Bool, true, false, _||_, cond, or-false, List, [], _∷_, _++_, ℕ, suc, _+_, _*_}}
+use Rattle.lists.{specs.Kit.{_-_, _/_, _%_, _^_, _≤_, _<_, min, arith, add-one, bitAnd, and-le-l, trailingZeros, leb, eqb, length, getD, set, take, drop}}
+use Rattle.lists.{specs.Kit.{replicate, length-set, drop-of-length-le, length-take-le, getD-take, getD-set-same, getD-set-other, drop-cons, eqb-true}}
+use Rattle.lists.{specs.Kit.{eqb-false, eq-eqb}, specs.Facts.{folded}, specs.Lists.{range, count, filter, member, overwrite, In}, proofs.Tests.{bool-cases}}
+use Rattle.lists.{proofs.Tests.{or-cases, or-left, or-right}, proofs.Member.{in-getD, getD-of-in, member-in, in-member, member-append, in-left, in-right}}
+use Rattle.lists.{proofs.Member.{in-cases}, proofs.Filter.{in-filter, member-filter, filter-ext}, proofs.Range.{in-range}, proofs.Loops.{Counted-from}}
+use Rattle.lists.{proofs.Loops.{counted-turn, folded-append, length-folded}}
 use mir.Val.{boolByte}
-use lib.Bits.{bitAnd, and-le-l}
-use lib.Count.{trailingZeros}
-use lib.Dec.{leb, eqb}
-use lib.ListN.{length, getD, set, take, drop, replicate, length-set, drop-of-length-le}
-use lib.Seq.{length-take-le, getD-take, getD-set-same, getD-set-other, drop-cons}
-use borrow.Author.Tests.{eqb-true, eqb-false, eq-eqb}
-use Rattle.mesh.specs.Limits.{max-radios, max-neighbours, row-bytes}
-use Rattle.lists.specs.Facts.{folded}
-use Rattle.lists.specs.Lists.{range, count, filter, member, overwrite, In}
-use Rattle.lists.proofs.Tests.{bool-cases, or-cases, or-left, or-right}
-use Rattle.lists.proofs.Member.{in-getD, getD-of-in, member-in, in-member, member-append, in-left, in-right, in-cases}
-use Rattle.lists.proofs.Filter.{in-filter, member-filter, filter-ext}
-use Rattle.lists.proofs.Range.{in-range}
-use Rattle.lists.proofs.Loops.{Counted-from, counted-turn, folded-append, length-folded}
-use Rattle.mesh.specs.Tables.{digit}
-use Rattle.rows.specs.Rows.{neighbours-of, row-listed, row-count, set-bits}
-use Rattle.rows.proofs.RowListLaws.{row-listed-fits}
-use Rattle.rows.proofs.RowWords.{row-listed-whole, words-from, words-end}
-use Rattle.rows.proofs.WordLaws.{set-bits-nothing, set-bits-lowest}
+use Rattle.mesh.specs.{Limits.{max-radios, max-neighbours, row-bytes}, Tables.{digit}}
+use Rattle.rows.{specs.Rows.{neighbours-of, row-listed, row-count, set-bits}, proofs.RowListLaws.{row-listed-fits}, proofs.RowWords.{row-listed-whole}}
+use Rattle.rows.{proofs.RowWords.{words-from, words-end}, proofs.WordLaws.{set-bits-nothing, set-bits-lowest}, specs.Sets.{in-set, put-in, Row-joined}}
+use Rattle.rows.{proofs.SetLaws.{in-set-zeros, in-put-in, length-put-in}}
 use Rattle.conditions.specs.Conditions.{high-count}
-use Rattle.rows.specs.Sets.{in-set, put-in, Row-joined}
-use Rattle.rows.proofs.SetLaws.{in-set-zeros, in-put-in, length-put-in}
 use Rattle.links.specs.Steps.{around, all-around, Joined, set-radios, touched, recounted, Rows-known}
 
 -- ---- a counted list

@@ -1,26 +1,11 @@
 -- A link call meets its contract, on plain values: refused and accepted, by the plan that was made.
-use mathlib.Core.Path.{_≡_, sym, _∙_}
-use mathlib.Core.Bool.{Bool, true}
-use mathlib.Core.List.{List}
-use Prim.Native.Nat.{ℕ, _≤_}
-use native.Mathlib.Omega.{arith}
-use lib.IntN.{pos}
-use lib.ListN.{length}
-use Rattle.mesh.specs.Limits.{max-radios, max-neighbours}
-use Rattle.lists.specs.Lists.{overwrite}
-use Rattle.mesh.specs.Levels.{changed, step-of}
-use Rattle.mesh.specs.Tables.{Tables, graph-in}
-use Rattle.mesh.specs.Sound.{sound}
-use Rattle.calls.specs.Questions.{answer-length, lengths-of, ends-refusal, link-refusal}
-use Rattle.calls.specs.Switches.{switch, switched}
-use Rattle.calls.specs.Outcomes.{reply, linked-with, link-outcome}
-use Rattle.calls.specs.Contracts.{Link-contract}
-use Rattle.calls.specs.declared.Reply.{Reply}
-use Rattle.calls.proofs.ContractLaws.{by-accepted, by-refused}
-use Rattle.calls.proofs.ChainLaws.{site-zero}
+use Rattle.lists.specs.{Kit.{_≡_, sym, _∙_, Bool, true, List, ℕ, _≤_, arith, pos, length}, Lists.{overwrite}}
+use Rattle.mesh.specs.{Limits.{max-radios, max-neighbours}, Levels.{changed, step-of}, Tables.{Tables, graph-in}, Sound.{sound}}
+use Rattle.calls.{specs.Questions.{answer-length, lengths-of, ends-refusal, link-refusal}, specs.Switches.{switch, switched}, specs.Outcomes.{reply}}
+use Rattle.calls.{specs.Outcomes.{linked-with, link-outcome}, specs.Contracts.{Link-contract}, specs.declared.Reply.{Reply}, proofs.ContractLaws.{by-accepted}}
+use Rattle.calls.{proofs.ContractLaws.{by-refused}, proofs.ChainLaws.{site-zero}}
 use Rattle.links.specs.Changes.{plan-fits, Applied, Apply-contract}
-use Rattle.plan.specs.Asked.{Plan-contract}
-use Rattle.plan.proofs.Asking.{link-room, asked-applicable}
+use Rattle.plan.{specs.Asked.{Plan-contract}, proofs.Asking.{link-room, asked-applicable}}
 use Rattle.links.proofs.Applied.{planned-fits, applied-accepted}
 
 module _ (up : Bool) (n a b : ℕ) (t : Tables) (w lent : List ℕ) (q start size taken : ℕ) (stretch : List ℕ)

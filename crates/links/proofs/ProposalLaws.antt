@@ -1,40 +1,19 @@
 -- Asking and committing meet their contracts, on plain values. In order: a plan's changed radios, asking, a proposal held against a plan,
 -- committing.
-use mathlib.Core.Path.{_≡_, refl, sym, ap, subst, _∙_}
-use mathlib.Core.Bool.{Bool, true, false, _&&_}
-use mathlib.Core.List.{List}
-use Prim.Native.Nat.{ℕ, _≤_, min}
-use native.Mathlib.Omega.{arith}
-use mir.Syntax.{w8}
-use mir.Val.{SFits, toZ, ofZ}
-use mir.Facts.{toZ-ofZ}
-use lib.IntN.{ℤ, pos}
-use lib.ListN.{length, take, replicate, length-replicate}
-use lib.Seq.{length-take-le, take-all}
-use Rattle.mesh.specs.Limits.{max-radios}
-use Rattle.lists.specs.Lists.{same, overwrite}
-use Rattle.mesh.specs.Graph.{Graph}
-use Rattle.mesh.specs.Levels.{changed, step-of}
-use Rattle.mesh.specs.Tables.{Tables, graph-in}
-use Rattle.mesh.specs.Sound.{sound}
-use Rattle.lists.proofs.Parts.{take-min}
-use Rattle.lists.proofs.Overwrite.{take-overwrite}
-use Rattle.calls.specs.Questions.{ask, lengths-of, same-step, is-proposal, link-refusal, commit-refusal}
-use Rattle.calls.specs.Outcomes.{Linked, committed-with, ask-outcome, commit-outcome}
-use Rattle.calls.specs.Contracts.{Ask-contract, Commit-contract}
-use Rattle.calls.specs.declared.Reply.{Reply}
-use Rattle.calls.proofs.QuestionLaws.{ask-yes, ask-no}
-use Rattle.calls.proofs.ContractLaws.{by-accepted, by-refused}
-use Rattle.calls.proofs.Proposals.{commit-numbered, proposal-iff, same-step-eq, same-step-refl}
+use Rattle.lists.{specs.Kit.{_≡_, refl, sym, ap, subst, _∙_, Bool, true, false, _&&_, List, ℕ, _≤_, min, arith, ℤ, pos, length, take, replicate}}
+use Rattle.lists.{specs.Kit.{length-replicate, length-take-le, take-all}, specs.Lists.{same, overwrite}, proofs.Parts.{take-min}}
+use Rattle.lists.{proofs.Overwrite.{take-overwrite}}
+use mir.{Syntax.{w8}, Val.{SFits, toZ, ofZ}, Facts.{toZ-ofZ}}
+use Rattle.mesh.specs.{Limits.{max-radios}, Graph.{Graph}, Levels.{changed, step-of}, Tables.{Tables, graph-in}, Sound.{sound}}
+use Rattle.calls.{specs.Questions.{ask, lengths-of, same-step, is-proposal, link-refusal, commit-refusal}, specs.Outcomes.{Linked, committed-with, ask-outcome}}
+use Rattle.calls.{specs.Outcomes.{commit-outcome}, specs.Contracts.{Ask-contract, Commit-contract}, specs.declared.Reply.{Reply}, proofs.QuestionLaws.{ask-yes}}
+use Rattle.calls.{proofs.QuestionLaws.{ask-no}, proofs.ContractLaws.{by-accepted, by-refused}, proofs.Proposals.{commit-numbered, proposal-iff, same-step-eq}}
+use Rattle.calls.{proofs.Proposals.{same-step-refl}}
 use Rattle.tables.specs.Steps.{all-stepped}
-use Rattle.plan.specs.Planned.{changed-part}
-use Rattle.links.specs.Changes.{in-order, counted-step, Reported, Plan-put, Write-contract, Applied}
-use Rattle.links.proofs.ChangeLaws.{counted-step-length, counted-step-held, length-in-order}
-use Rattle.plan.specs.Asked.{Plan-contract}
-use Rattle.plan.proofs.Asking.{asked-applicable}
-use Rattle.links.proofs.Applied.{in-order-planned, fits-answer}
-use Rattle.links.proofs.LinkCalls.{number-decided, fits-decided, link-applied}
-use Rattle.links.specs.Proposed.{plan-proposes}
+use Rattle.plan.{specs.Planned.{changed-part}, specs.Asked.{Plan-contract}, proofs.Asking.{asked-applicable}}
+use Rattle.links.specs.{Changes.{in-order, counted-step, Reported, Plan-put, Write-contract, Applied}, Proposed.{plan-proposes}}
+use Rattle.links.proofs.{ChangeLaws.{counted-step-length, counted-step-held, length-in-order}, Applied.{in-order-planned, fits-answer}}
+use Rattle.links.proofs.{LinkCalls.{number-decided, fits-decided, link-applied}}
 
 -- ---- a plan in a stretch for as many radios as a site may have; w is the answer table
 

@@ -1,52 +1,25 @@
 -- A link taken up or down on tables that are known to be sound, on plain values.
 -- In order: what is known of prepared tables, the plan, what it is applied to, the counts that stay, the tables after.
-use mathlib.Core.Path.{_≡_, refl, sym, ap, subst, _∙_}
-use mathlib.Core.Logic.{_⊎_, inl, inr}
-use mathlib.Core.Bool.{Bool, true, false, _&&_, cond}
-use mathlib.Core.List.{List}
-use Prim.Native.Nat.{ℕ, _+_, _*_, _≤_, _<_}
-use native.Mathlib.Omega.{arith}
-use lib.Dec.{ltb, leb}
-use lib.ListN.{length, getD, take}
-use borrow.Author.Tests.{ltb-true, ltb-false}
-use Rattle.mesh.specs.Limits.{max-radios, max-neighbours, row-bytes}
-use Rattle.lists.specs.Lists.{range, count, member, In}
-use Rattle.lists.specs.Facts.{Each-once}
-use Rattle.lists.proofs.Tests.{bool-cases, never, and-left, and-right}
-use Rattle.lists.proofs.Member.{in-getD, in-member, not-member, member-in}
-use Rattle.lists.proofs.Count.{count-ext}
-use Rattle.lists.proofs.Range.{once-below, once-distinct}
-use Rattle.lists.proofs.Overwrite.{take-overwrite}
-use Rattle.mesh.specs.Graph.{Graph, relinked, Allowed}
-use Rattle.mesh.specs.Cores.{number, numbers}
-use Rattle.mesh.specs.Levels.{changed}
-use Rattle.mesh.specs.Tables.{Tables, tables, marked, graph-in}
-use Rattle.mesh.specs.Sound.{number-in, rows-proper, sound}
-use Rattle.mesh.proofs.Cores.Peeling.{getD-numbers}
-use Rattle.mesh.proofs.Cores.KOrders.{k-order-certificate}
-use Rattle.mesh.proofs.Links.Call.{changed-below, unchanged-number}
-use Rattle.mesh.proofs.Tables.Rows.{symmetric-of, within-of, few-of}
-use Rattle.calls.specs.Questions.{lengths-of, size-good, site-lengths, ends-refusal}
-use Rattle.calls.specs.Switches.{switch, switched}
-use Rattle.calls.specs.declared.Reply.{Reply}
-use Rattle.calls.proofs.QuestionLaws.{size-good-true, site-lengths-true}
-use Rattle.calls.proofs.ChainLaws.{ends-zero}
-use Rattle.calls.specs.Outcomes.{Linked}
-use Rattle.calls.proofs.SoundSwitches.{Good, good-valid, switched-good}
-use Rattle.rows.specs.Rows.{neighbours-of}
-use Rattle.rows.proofs.RowListLaws.{in-neighbours-of, member-neighbours-of, length-neighbours-of}
+use Rattle.lists.{specs.Kit.{_≡_, refl, sym, ap, subst, _∙_, _⊎_, inl, inr, Bool, true, false, _&&_, cond, List, ℕ, _+_, _*_, _≤_, _<_, arith, ltb, leb}}
+use Rattle.lists.{specs.Kit.{length, getD, take, ltb-true, ltb-false}, specs.Lists.{range, count, member, In}, specs.Facts.{Each-once}}
+use Rattle.lists.{proofs.Tests.{bool-cases, never, and-left, and-right}, proofs.Member.{in-getD, in-member, not-member, member-in}, proofs.Count.{count-ext}}
+use Rattle.lists.{proofs.Range.{once-below, once-distinct}, proofs.Overwrite.{take-overwrite}}
+use Rattle.mesh.{specs.Limits.{max-radios, max-neighbours, row-bytes}, specs.Graph.{Graph, relinked, Allowed}, specs.Cores.{number, numbers}}
+use Rattle.mesh.{specs.Levels.{changed}, specs.Tables.{Tables, tables, marked, graph-in}, specs.Sound.{number-in, rows-proper, sound}}
+use Rattle.mesh.{proofs.Cores.Peeling.{getD-numbers}, proofs.Cores.KOrders.{k-order-certificate}, proofs.Links.Call.{changed-below, unchanged-number}}
+use Rattle.mesh.{proofs.Tables.Rows.{symmetric-of, within-of, few-of}}
+use Rattle.calls.{specs.Questions.{lengths-of, size-good, site-lengths, ends-refusal}, specs.Switches.{switch, switched}, specs.declared.Reply.{Reply}}
+use Rattle.calls.{proofs.QuestionLaws.{size-good-true, site-lengths-true}, proofs.ChainLaws.{ends-zero}, specs.Outcomes.{Linked}, proofs.SoundSwitches.{Good}}
+use Rattle.calls.{proofs.SoundSwitches.{good-valid, switched-good}}
+use Rattle.rows.{specs.Rows.{neighbours-of}, proofs.RowListLaws.{in-neighbours-of, member-neighbours-of, length-neighbours-of}}
 use Rattle.conditions.specs.Conditions.{Placed, Highs, high-count}
-use Rattle.soundness.specs.Checks.{fits-sound}
-use Rattle.soundness.proofs.HighCounts.{high-count-neighbours-in}
-use Rattle.soundness.proofs.SoundSite.{Sound-site, fits-sound-site, site-good-fits, site-good-sound, number-entry}
-use Rattle.links.specs.Changes.{Apply-contract}
-use Rattle.plan.specs.Plans.{Ready, Planned, Applicable}
-use Rattle.links.specs.Steps.{Prepared, Step-ready, Changed-by, Carried, Stepped, places-put, around, touched, recounted, Rows-known}
-use Rattle.plan.proofs.Asking.{right-of, high-numbers}
-use Rattle.plan.proofs.NearLaws.{neighbours-of-other}
-use Rattle.links.proofs.Applied.{planned-fits, applied-accepted}
-use Rattle.links.proofs.PlacesLaws.{getD-paste-outside, length-places-put, placed-again}
-use Rattle.links.proofs.CountLaws.{touched-ends, touched-around, getD-recounted, length-recounted}
+use Rattle.soundness.{specs.Checks.{fits-sound}, proofs.HighCounts.{high-count-neighbours-in}, proofs.SoundSite.{Sound-site, fits-sound-site, site-good-fits}}
+use Rattle.soundness.{proofs.SoundSite.{site-good-sound, number-entry}}
+use Rattle.links.specs.{Changes.{Apply-contract}, Steps.{Prepared, Step-ready, Changed-by, Carried, Stepped, places-put, around, touched, recounted}}
+use Rattle.links.specs.{Steps.{Rows-known}}
+use Rattle.plan.{specs.Plans.{Ready, Planned, Applicable}, proofs.Asking.{right-of, high-numbers}, proofs.NearLaws.{neighbours-of-other}}
+use Rattle.links.proofs.{Applied.{planned-fits, applied-accepted}, PlacesLaws.{getD-paste-outside, length-places-put, placed-again}}
+use Rattle.links.proofs.{CountLaws.{touched-ends, touched-around, getD-recounted, length-recounted}}
 
 -- ---- what is known of prepared tables
 

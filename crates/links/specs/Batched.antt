@@ -1,13 +1,9 @@
 -- What asking a batch comes back with.
 --   Batch-asked     the refusal number of questions 1 to 3, and where it is 0 what the first link is taken up with
 -- Definitions only.
-use mathlib.Core.Path.{_≡_}
-use mathlib.Core.List.{List}
-use Prim.Native.Nat.{ℕ}
-use Rattle.mesh.specs.Tables.{Tables}
-use Rattle.mesh.specs.Sound.{sound}
-use Rattle.calls.specs.Questions.{lengths-of}
-use Rattle.calls.specs.Batches.{batch-refusal}
+use Rattle.lists.specs.Kit.{_≡_, List, ℕ}
+use Rattle.mesh.specs.{Tables.{Tables}, Sound.{sound}}
+use Rattle.calls.specs.{Questions.{lengths-of}, Batches.{batch-refusal}}
 use Rattle.links.specs.Steps.{Prepared}
 
 -- `list` is the list's length

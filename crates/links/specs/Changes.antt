@@ -10,18 +10,9 @@
 --   Unapplied            what is written of any other: nothing
 --   Apply-contract       one or the other
 -- Laws are in proofs/ChangeLaws.antt and proofs/Marking.antt. Definitions only.
-use mathlib.Core.Path.{_≡_}
-use mathlib.Core.Bool.{Bool, true, false, _&&_, cond}
-use mathlib.Core.List.{List}
-use Prim.Native.Nat.{ℕ, zero, suc, _+_}
-use lib.Dec.{leb}
-use lib.IntN.{ℤ, pos, negsuc}
-use lib.ListN.{length, take, drop}
-use lib.Seq.{paste}
-use Rattle.mesh.specs.Limits.{max-radios}
-use Rattle.lists.specs.Facts.{folded}
-use Rattle.lists.specs.Lists.{range, filter, member, overwrite}
-use Rattle.mesh.specs.Tables.{Tables, put-bit, put-link}
+use Rattle.lists.specs.{Kit.{_≡_, Bool, true, false, _&&_, cond, List, ℕ, zero, suc, _+_, leb, ℤ, pos, negsuc, length, take, paste}, Facts.{folded}}
+use Rattle.lists.specs.{Lists.{range, filter, member, overwrite}}
+use Rattle.mesh.specs.{Limits.{max-radios}, Tables.{Tables, put-bit, put-link}}
 use Rattle.calls.specs.declared.Reply.{Reply}
 use Rattle.tables.specs.Steps.{all-stepped}
 use Rattle.plan.specs.Planned.{changed-part}

@@ -13,24 +13,13 @@
 --   recounted        the not-lower counts, some radios counted anew
 --   Rows-known       rows that can be counted
 -- Laws are in proofs/CountLaws.antt and proofs/StepLaws.antt. Definitions only.
-use mathlib.Core.Path.{_≡_}
-use mathlib.Core.Logic.{_⊎_}
-use mathlib.Core.Bool.{Bool, true, _||_}
-use mathlib.Core.List.{List, [], _∷_, _++_}
-use Prim.Native.Nat.{ℕ, _+_, _*_, _≤_, _<_}
-use lib.Dec.{eqb}
-use lib.ListN.{length, getD, set, take}
-use Rattle.mesh.specs.Limits.{max-radios, max-neighbours, row-bytes}
-use Rattle.lists.specs.Facts.{folded}
-use Rattle.lists.specs.Lists.{range, filter, member, In}
-use Rattle.mesh.specs.Levels.{changed}
-use Rattle.mesh.specs.Tables.{Tables, graph-in}
-use Rattle.calls.specs.Questions.{ends-refusal}
-use Rattle.calls.specs.Switches.{switch, switched}
-use Rattle.rows.specs.Rows.{neighbours-of}
+use Rattle.lists.specs.{Kit.{_≡_, _⊎_, Bool, true, _||_, List, [], _∷_, _++_, ℕ, _+_, _*_, _≤_, _<_, eqb, length, getD, set, take}, Facts.{folded}}
+use Rattle.lists.specs.{Lists.{range, filter, member, In}}
+use Rattle.mesh.specs.{Limits.{max-radios, max-neighbours, row-bytes}, Levels.{changed}, Tables.{Tables, graph-in}}
+use Rattle.calls.specs.{Questions.{ends-refusal}, Switches.{switch, switched}}
+use Rattle.rows.specs.{Rows.{neighbours-of}, Sets.{in-set}}
 use Rattle.conditions.specs.Conditions.{Placed, Highs, high-count}
 use Rattle.soundness.specs.Checks.{fits-sound}
-use Rattle.rows.specs.Sets.{in-set}
 
 -- ---- one link
 

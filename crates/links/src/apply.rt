@@ -1,9 +1,5 @@
 // A planned link call, written into the tables. A plan that the tables are too short for is not applied at all.
-ghost use mathlib.Core.Bool.{true};
-ghost use mathlib.Core.Path.{_≡_};
-ghost use Prim.Native.Nat.{_+_, _-_, _≤_};
-ghost use lib.ListN.{length, take, drop};
-ghost use lib.Seq.{paste};
+ghost use Rattle.lists.specs.Kit.{true, _≡_, _+_, _-_, _≤_, length, take, drop, paste};
 ghost use Rattle.lists.specs.Lists.{overwrite};
 ghost use Rattle.mesh.specs.Lent.{lent};
 ghost use Rattle.plan.specs.Planned.{changed-part};

@@ -1,7 +1,5 @@
 // A batch: links taken up one by one, until one is refused. The tables are checked once.
-ghost use mathlib.Core.Path.{_≡_};
-ghost use mathlib.Core.Bool.{true};
-ghost use lib.ListN.{length};
+ghost use Rattle.lists.specs.Kit.{_≡_, true, length};
 ghost use Rattle.mesh.specs.Limits.{max-radios};
 ghost use Rattle.mesh.specs.Lent.{lent};
 ghost use Rattle.mesh.specs.Tables.{graph-in};

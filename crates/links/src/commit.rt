@@ -1,6 +1,5 @@
 // Committing: a link call that is carried out where a proposal is true.
-ghost use mathlib.Core.Path.{_≡_};
-ghost use lib.IntN.{pos};
+ghost use Rattle.lists.specs.Kit.{_≡_, pos};
 ghost use Rattle.mesh.specs.Lent.{lent};
 ghost use Rattle.calls.specs.Contracts.{Commit-contract};
 ghost use Rattle.links.specs.Proposed.{plan-proposes};

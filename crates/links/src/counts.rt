@@ -1,9 +1,6 @@
 // The not-lower counts brought up to date after a link: only radios whose own number, neighbours or neighbours' numbers changed are
 // counted anew.
-ghost use mathlib.Core.Path.{_≡_};
-ghost use Prim.Native.Nat.{ℕ, _+_, _*_, _≤_, _<_};
-ghost use lib.Dec.{leb};
-ghost use lib.ListN.{length, getD, take};
+ghost use Rattle.lists.specs.Kit.{_≡_, ℕ, _+_, _*_, _≤_, _<_, leb, length, getD, take};
 ghost use Rattle.lists.specs.Lists.{count, In};
 ghost use Rattle.mesh.specs.Limits.{max-radios, max-neighbours, row-bytes};
 ghost use Rattle.rows.specs.Rows.{neighbours-of, set-bits};

@@ -1,8 +1,6 @@
 // One link of a list taken up or down on tables that are known to be sound. What the check finds of them, the place and the not-lower
 // count of each radio, is kept up to date from link to link, so that the next one needs no check.
-ghost use mathlib.Core.Path.{_≡_};
-ghost use Prim.Native.Nat.{ℕ, _≤_, _<_, _+_};
-ghost use lib.ListN.{length, getD};
+ghost use Rattle.lists.specs.Kit.{_≡_, ℕ, _≤_, _<_, _+_, length, getD};
 ghost use Rattle.lists.specs.Lists.{range};
 ghost use Rattle.mesh.specs.Limits.{max-radios};
 ghost use Rattle.mesh.specs.Lent.{lent};

@@ -1,16 +1,8 @@
 -- Laws of `all` and `same`: tests of every entry, and equality of two lists.
-use mathlib.Core.Path.{_≡_, refl, ap₂, ap, sym, _∙_}
-use mathlib.Core.Logic.{inl, inr, _⊎_}
-use mathlib.Core.Bool.{Bool, _&&_, true, false}
-use mathlib.Core.List.{List, _∷_, [], _++_}
-use Prim.Native.Nat.{ℕ, _<_}
-use native.Mathlib.Omega.{arith}
-use lib.ListN.{length}
-use lib.Dec.{eqb}
-use borrow.Author.Tests.{eq-eqb, eqb-true}
+use Rattle.lists.specs.Kit.{_≡_, refl, ap₂, ap, sym, _∙_, inl, inr, _⊎_, Bool, _&&_, true, false, List, _∷_, [], _++_, ℕ, _<_, arith, length, eqb, eq-eqb}
+use Rattle.lists.specs.Kit.{eqb-true}
 use Rattle.lists.specs.Lists.{all, In, range, same}
-use Rattle.lists.proofs.Tests.{and-left, and-right, and-both, never, bool-cases, iff-eq}
-use Rattle.lists.proofs.Range.{in-range, range-in}
+use Rattle.lists.proofs.{Tests.{and-left, and-right, and-both, never, bool-cases, iff-eq}, Range.{in-range, range-in}}
 
 pub all-in : (f : ℕ → Bool) (xs : List ℕ) → all f xs ≡ true → (v : ℕ) → In v xs → f v ≡ true
 unfolding all

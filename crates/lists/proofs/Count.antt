@@ -1,12 +1,6 @@
 -- Laws of `count`: parts, other tests, tests that pass nowhere or somewhere.
-use mathlib.Core.Path.{_≡_, sym, _∙_, refl, ap}
-use mathlib.Core.Logic.{inl, inr, _⊎_}
-use mathlib.Core.Bool.{Bool, true, false, _||_, cond, not, _&&_, and-comm}
-use mathlib.Core.List.{List, [], _∷_, _++_, map}
-use Prim.Native.Nat.{ℕ, suc, _+_, _<_, _≤_, zero}
-use native.Mathlib.Nat.{le-antisymm}
-use native.Mathlib.Omega.{arith}
-use lib.ListN.{length}
+use Rattle.lists.specs.Kit.{_≡_, sym, _∙_, refl, ap, inl, inr, _⊎_, Bool, true, false, _||_, cond, not, _&&_, and-comm, List, [], _∷_, _++_, map, ℕ, suc}
+use Rattle.lists.specs.Kit.{_+_, _<_, _≤_, zero, le-antisymm, arith, length}
 use Rattle.lists.specs.Lists.{count, In}
 use Rattle.lists.proofs.Tests.{never, bit-one, bit-le, bit-true, bool-cases, bit-false}
 

@@ -1,17 +1,8 @@
 -- Laws of `filter`: membership, counts, parts, tests one after the other.
-use mathlib.Core.Path.{_≡_, sym, ap, _∙_, refl}
-use mathlib.Core.Logic.{_⊎_, inl, inr}
-use mathlib.Core.Bool.{Bool, true, false, cond, _&&_, not}
-use mathlib.Core.List.{List, [], _∷_, _++_, append-nil}
-use Prim.Native.Nat.{ℕ, _+_, _-_, _≤_}
-use native.Mathlib.Omega.{arith}
-use lib.ListN.{length}
-use Rattle.lists.specs.Lists.{filter, In, member, count, range}
-use Rattle.lists.specs.Facts.{Distinct}
-use Rattle.lists.proofs.Tests.{bool-cases, never}
-use Rattle.lists.proofs.Member.{in-member, not-member}
-use Rattle.lists.proofs.Range.{range-in, range-append}
-use Rattle.lists.proofs.Count.{count-le-length}
+use Rattle.lists.specs.Kit.{_≡_, sym, ap, _∙_, refl, _⊎_, inl, inr, Bool, true, false, cond, _&&_, not, List, [], _∷_, _++_, append-nil, ℕ, _+_, _-_, _≤_}
+use Rattle.lists.specs.Kit.{arith, length}
+use Rattle.lists.specs.{Lists.{filter, In, member, count, range}, Facts.{Distinct}}
+use Rattle.lists.proofs.{Tests.{bool-cases, never}, Member.{in-member, not-member}, Range.{range-in, range-append}, Count.{count-le-length}}
 
 pub filter-none : (f : ℕ → Bool) (xs : List ℕ) → ((v : ℕ) → In v xs → f v ≡ false) → filter f xs ≡ []
 unfolding filter

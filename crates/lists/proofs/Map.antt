@@ -1,12 +1,7 @@
 -- Laws of `map` and `flatMap`, and of tables given by a rule: map f over a range.
-use mathlib.Core.Path.{_≡_, ap, _∙_, refl, ap₂, sym}
-use mathlib.Core.Logic.{_⊎_, inl, inr}
-use mathlib.Core.List.{map, List, [], _∷_, List·Memᴰ, List·Memᴰ·cases-cons, List·Memᴰ·not-nil, List·Memᴰ·head, List·Memᴰ·tail, flatMap, List·Memᴰ·append-cases}
-use mathlib.Core.List.{Memᴰ·append-left, Memᴰ·append-right, _++_, append-assoc}
-use Prim.Native.Nat.{ℕ, zero, suc, _+_, _<_, _≤_}
-use native.Mathlib.Omega.{arith}
-use lib.ListN.{getD, length, drop, take, replicate}
-use lib.Seq.{drop-cons}
+use Rattle.lists.specs.Kit.{_≡_, ap, _∙_, refl, ap₂, sym, _⊎_, inl, inr, map, List, [], _∷_, List·Memᴰ, List·Memᴰ·cases-cons, List·Memᴰ·not-nil}
+use Rattle.lists.specs.Kit.{List·Memᴰ·head, List·Memᴰ·tail, flatMap, List·Memᴰ·append-cases, Memᴰ·append-left, Memᴰ·append-right, _++_, append-assoc, ℕ}
+use Rattle.lists.specs.Kit.{zero, suc, _+_, _<_, _≤_, arith, getD, length, drop, take, replicate, drop-cons}
 use Rattle.lists.specs.Lists.{range, In, head-or}
 
 pub getD-map-range : {A : Type 0} (d : A) (f : ℕ → A) (i k v : ℕ) → v < k → getD (map f (range i k)) v d ≡ f (i + v)

@@ -1,13 +1,6 @@
 -- Laws of membership, as a type (`In`) and as a test (`member`), and of the first entry.
-use mathlib.Core.Path.{_≡_, refl, ap}
-use mathlib.Core.Logic.{inl, inr, _⊎_}
-use mathlib.Core.Bool.{Bool, true, false, _||_, or-true}
-use mathlib.Core.List.{List, [], _∷_, _++_}
-use Prim.Native.Nat.{ℕ, zero, suc, _<_}
-use native.Mathlib.Omega.{arith}
-use lib.Dec.{eqb}
-use lib.ListN.{length, getD}
-use borrow.Author.Tests.{eqb-true, eq-eqb}
+use Rattle.lists.specs.Kit.{_≡_, refl, ap, inl, inr, _⊎_, Bool, true, false, _||_, or-true, List, [], _∷_, _++_, ℕ, zero, suc, _<_, arith, eqb, length}
+use Rattle.lists.specs.Kit.{getD, eqb-true, eq-eqb}
 use Rattle.lists.specs.Lists.{member, In, head-or}
 use Rattle.lists.proofs.Tests.{never, bool-cases}
 

@@ -1,20 +1,10 @@
 -- Laws of stores: entries in front (`overwrite`), one after the other (`sets`), inside a table given by a rule.
-use mathlib.Core.Path.{_≡_, refl, ap, _∙_, sym, ap₂}
-use mathlib.Core.Logic.{_⊎_, inl, inr}
-use mathlib.Core.Bool.{cond, true, false}
-use mathlib.Core.List.{List, [], _∷_, _++_, map, append-nil, append-assoc}
-use Prim.Native.Nat.{ℕ, zero, suc, _+_, _-_, _<_, _≤_, min}
-use native.Mathlib.Omega.{arith}
-use native.Mathlib.Nat.{zero-add}
-use lib.ListN.{length, take, drop, set, drop-of-length-le, getD, length-append, take-append-drop}
-use lib.Seq.{take-at, take-all, drop-cons, set-at, set-append-left, getD-take, sets, set-out, drop-nil, drop-at, drop-drop}
-use lib.Dec.{eqb, ltb}
-use borrow.Author.Tests.{eq-eqb, ne-eqb, ltb-true, ltb-false}
+use Rattle.lists.specs.Kit.{_≡_, refl, ap, _∙_, sym, ap₂, _⊎_, inl, inr, cond, true, false, List, [], _∷_, _++_, map, append-nil, append-assoc, ℕ, zero}
+use Rattle.lists.specs.Kit.{suc, _+_, _-_, _<_, _≤_, min, arith, zero-add, length, take, drop, set, drop-of-length-le, getD, length-append}
+use Rattle.lists.specs.Kit.{take-append-drop, take-at, take-all, drop-cons, set-at, set-append-left, getD-take, sets, set-out, drop-nil, drop-at}
+use Rattle.lists.specs.Kit.{drop-drop, eqb, ltb, eq-eqb, ne-eqb, ltb-true, ltb-false}
 use Rattle.lists.specs.Lists.{overwrite, range}
-use Rattle.lists.proofs.Map.{map-range-ext, length-map, getD-map-range}
-use Rattle.lists.proofs.Range.{length-range}
-use Rattle.lists.proofs.Parts.{drop-take}
-use Rattle.lists.proofs.Tests.{bool-cases}
+use Rattle.lists.proofs.{Map.{map-range-ext, length-map, getD-map-range}, Range.{length-range}, Parts.{drop-take}, Tests.{bool-cases}}
 
 pub take-overwrite : {A : Type 0} (new old : List A) → take (length new) (overwrite new old) ≡ new
 unfolding overwrite

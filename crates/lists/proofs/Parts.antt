@@ -1,19 +1,10 @@
 -- Laws of parts: parts of equal length joined, a part of a part, lists of bytes, zeros.
-use mathlib.Core.Path.{_≡_, sym, ap, _∙_, refl, ap₂}
-use mathlib.Core.Logic.{_⊎_, inl, inr}
-use mathlib.Core.Bool.{Bool, true, false, cond}
-use mathlib.Core.List.{List, [], _∷_, _++_, flatMap}
-use Prim.Native.Nat.{ℕ, zero, suc, _+_, _*_, _<_, _≤_, min, _-_}
-use native.Mathlib.Omega.{arith}
-use native.Mathlib.Nat.{mul-suc, zero-min, suc-min-suc, sub-zero, zero-sub, suc-sub-suc}
-use native.Mathlib.Numerals.{add-one}
-use lib.ListN.{replicate, length-replicate, getD-replicate, length, getD, take, drop, length-append, List·getD-append, length-drop, take-append-drop}
-use lib.ListN.{List·getD-eq-default}
-use lib.Seq.{getD-append-add, drop-append-add, take-at, drop-drop, take-take, getD-drop, take-nil, drop-cons}
-use lib.Dec.{ltb}
-use borrow.Author.Tests.{ltb-true, ltb-false}
-use Rattle.lists.specs.Facts.{Bytes}
-use Rattle.lists.specs.Lists.{range}
+use Rattle.lists.specs.Kit.{_≡_, sym, ap, _∙_, refl, ap₂, _⊎_, inl, inr, Bool, true, false, cond, List, [], _∷_, _++_, flatMap, ℕ, zero, suc, _+_, _*_}
+use Rattle.lists.specs.Kit.{_<_, _≤_, min, _-_, arith, mul-suc, zero-min, suc-min-suc, sub-zero, zero-sub, suc-sub-suc, add-one, replicate}
+use Rattle.lists.specs.Kit.{length-replicate, getD-replicate, length, getD, take, drop, length-append, List·getD-append, length-drop, take-append-drop}
+use Rattle.lists.specs.Kit.{List·getD-eq-default, getD-append-add, drop-append-add, take-at, drop-drop, take-take, getD-drop, take-nil, drop-cons, ltb}
+use Rattle.lists.specs.Kit.{ltb-true, ltb-false}
+use Rattle.lists.specs.{Facts.{Bytes}, Lists.{range}}
 use Rattle.lists.proofs.Tests.{bool-cases}
 
 -- an entry that is there is the same whatever stands for none

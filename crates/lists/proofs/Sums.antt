@@ -1,12 +1,5 @@
 -- Laws of `total`: the sum of a function over a list.
-use mathlib.Core.Path.{refl, _≡_}
-use mathlib.Core.Logic.{inl, inr}
-use mathlib.Core.Bool.{Bool, cond}
-use mathlib.Core.List.{List, [], _∷_, flatMap}
-use Prim.Native.Nat.{ℕ, _*_, _≤_, _+_}
-use native.Mathlib.Omega.{arith}
-use native.Mathlib.Nat.{mul-suc}
-use lib.ListN.{length, length-append}
+use Rattle.lists.specs.Kit.{refl, _≡_, inl, inr, Bool, cond, List, [], _∷_, flatMap, ℕ, _*_, _≤_, _+_, arith, mul-suc, length, length-append}
 use Rattle.lists.specs.Lists.{In, total, count}
 
 pub total-le : (f : ℕ → ℕ) (most : ℕ) (xs : List ℕ) → ((x : ℕ) → In x xs → f x ≤ most) → total f xs ≤ most * length xs

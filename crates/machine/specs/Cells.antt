@@ -20,20 +20,11 @@
 --                     cell of the memory, and each block's length and alignment, is as it was
 --   Runs              from every memory that is ready the routine runs so
 -- Definitions only.
-use mathlib.Core.Path.{_≡_}
-use mathlib.Core.Option.{Option, some}
-use mathlib.Core.List.{List, [], _∷_, map}
+use mathlib.Core.{Path.{_≡_}, Option.{Option, some}, List.{List, [], _∷_, map}}
 use Prim.Native.Nat.{ℕ, suc, _+_, _*_, _<_, _≤_, _^_}
-use lib.ListN.{length, getElem?}
-use lib.IntN.{ℤ}
-use lib.Signed.{mag}
-use lib.Dec.{T}
-use mir.Mem.{Cell}
-use mir.Syntax.{Width, w64, Ty, tyInt, tyArray}
-use mir.Val.{Val, vint, vptr, vstruct, vnil, vcons, ofList, bits, hbits, ofZ}
-use prog.Memory.{Memory, Block, entryAt, align, aligned, size, enc, bind}
-use prog.Machine.{done}
-use prog.Routine.{Routine}
+use lib.{ListN.{length, getElem?}, IntN.{ℤ}, Signed.{mag}, Dec.{T}}
+use mir.{Mem.{Cell}, Syntax.{Width, w64, Ty, tyInt, tyArray}, Val.{Val, vint, vptr, vstruct, vnil, vcons, ofList, bits, hbits, ofZ}}
+use prog.{Memory.{Memory, Block, entryAt, align, aligned, size, enc, bind}, Machine.{done}, Routine.{Routine}}
 
 -- ---- types, as the machine holds their values
 

@@ -3,12 +3,11 @@
 --   blocks      the memory
 --   placed      what is passed, each list at the start of its block; the first block is the given one
 -- Definitions only.
-use mathlib.Core.Option.{some}
-use mathlib.Core.List.{List, [], _∷_}
+use mathlib.Core.{Option.{some}, List.{List, [], _∷_}}
 use Prim.Native.Nat.{ℕ, suc}
 use lib.ListN.{length}
 use prog.Memory.{Memory, align}
-use Rattle.machine.specs.Cells.{Form, Param, by-value, lent, lent-with, Inputs, All-held, Sized, cells-of}
+use Rattle.machine.specs.Cells.{Param, by-value, lent, lent-with, Inputs, All-held, Sized, cells-of}
 
 abbrev pub Fitting : (ps : List Param) → Inputs ps → Type 0
 Fitting [] i = Unit {0}

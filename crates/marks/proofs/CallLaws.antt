@@ -4,42 +4,21 @@
 --   set-again, set-full, set-new   setting: the name is there; it is new and there are 8 marks; it is new
 --   removed, remove-absent      removing; 18
 --   returned, return-absent     coming back; 18
-use mathlib.Core.Path.{_≡_, refl, sym, ap, ap₂, subst, _∙_}
-use mathlib.Core.Logic.{_⊎_, inl, inr}
-use mathlib.Core.Bool.{Bool, true, false, _&&_, _||_}
-use mathlib.Core.List.{List, [], _∷_, _++_}
-use Prim.Native.Nat.{ℕ, suc, _+_, _*_, _-_, _≤_, _<_}
-use native.Mathlib.Omega.{arith}
-use lib.Dec.{ltb, leb, eqb}
-use lib.ListN.{length, take, drop, replicate, length-drop}
-use lib.Seq.{drop-drop, take-all, length-take-le}
-use borrow.Author.Tests.{eqb-true, leb-true, leb-false, lt-ltb, le-ltb}
-use Rattle.lists.proofs.Parts.{take-drop-take}
-use Rattle.lists.proofs.Tests.{never, bool-cases, trichotomy}
-use Rattle.mesh.specs.Limits.{size-good}
-use Rattle.mesh.specs.Tables.{Tables, graph-in}
-use Rattle.mesh.specs.Sound.{sound}
-use Rattle.mesh.specs.Image.{image-of, is-image}
-use Rattle.mesh.specs.Marks.{name-bytes, place-bytes, places, store-bytes, image-size, image-in, place-of, marks-in, store-of, has-mark, found}
-use Rattle.mesh.specs.Marks.{with-mark, place-at}
-use Rattle.mesh.specs.MarkPlaces.{rank, heads, moved-up, moved-down}
-use Rattle.mesh.proofs.Images.Of.{length-image-of}
-use Rattle.mesh.proofs.Images.Tables.{is-image-sound}
-use Rattle.mesh.proofs.Marks.Laws.{Sized, rising-sized, Place-mark, place-mark, image-fits, length-is-image}
-use Rattle.mesh.proofs.Marks.Ranks.{rank-most, ranked, found-at, with-at, with-new, without-at}
-use Rattle.mesh.proofs.Marks.Rules.{mark-at}
-use Rattle.mesh.proofs.Marks.Bytes.{replaced, inserted, taken-out}
-use Rattle.calls.specs.Questions.{ask, Lengths, lengths-of, site-lengths, site-refusal, lent-refusal, image-length}
-use Rattle.calls.specs.Outcomes.{read-outcome}
-use Rattle.calls.specs.MarkOutcomes.{stored, store-outcome, set-outcome, remove-outcome, return-outcome}
-use Rattle.calls.specs.Marks.{store-length, marks-good, is-marked, has-place, mark-refusal, set-refusal, named-refusal, set-store, removed-store, mark-image}
-use Rattle.calls.specs.Contracts.{Read-contract, Set-contract, Remove-contract, Return-contract}
-use Rattle.calls.proofs.QuestionLaws.{ask-yes, ask-no, ask-zero}
-use Rattle.calls.proofs.ChainLaws.{site-zero, site-yes, write-yes}
-use Rattle.calls.proofs.ContractLaws.{by-accepted, by-refused, by-zero}
-use Rattle.calls.proofs.MarkCalls.{Mark-asked, mark-zero, mark-is-image, mark-read}
-use Rattle.marks.specs.Store.{Located}
-use Rattle.marks.specs.Placing.{Markable, mark-place, put-place}
+use Rattle.lists.{specs.Kit.{_≡_, refl, sym, ap, ap₂, subst, _∙_, _⊎_, inl, inr, Bool, true, false, _&&_, _||_, List, [], _∷_, _++_, ℕ, suc, _+_, _*_, _-_}}
+use Rattle.lists.{specs.Kit.{_≤_, _<_, arith, ltb, leb, eqb, length, take, drop, replicate, length-drop, drop-drop, take-all, length-take-le, eqb-true}}
+use Rattle.lists.{specs.Kit.{leb-true, leb-false, lt-ltb, le-ltb}, proofs.Parts.{take-drop-take}, proofs.Tests.{never, bool-cases, trichotomy}}
+use Rattle.mesh.{specs.Limits.{size-good}, specs.Tables.{Tables, graph-in}, specs.Sound.{sound}, specs.Image.{image-of, is-image}, specs.Marks.{name-bytes}}
+use Rattle.mesh.{specs.Marks.{place-bytes, places, store-bytes, image-size, image-in, place-of, marks-in, store-of, has-mark, found, with-mark, place-at}}
+use Rattle.mesh.{specs.MarkPlaces.{rank, heads, moved-up, moved-down}, proofs.Images.Of.{length-image-of}, proofs.Images.Tables.{is-image-sound}}
+use Rattle.mesh.{proofs.Marks.Laws.{Sized, rising-sized, Place-mark, place-mark, image-fits, length-is-image}, proofs.Marks.Ranks.{rank-most, ranked, found-at}}
+use Rattle.mesh.{proofs.Marks.Ranks.{with-at, with-new, without-at}, proofs.Marks.Rules.{mark-at}, proofs.Marks.Bytes.{replaced, inserted, taken-out}}
+use Rattle.calls.{specs.Questions.{ask, Lengths, lengths-of, site-lengths, site-refusal, lent-refusal, image-length}, specs.Outcomes.{read-outcome}}
+use Rattle.calls.{specs.MarkOutcomes.{stored, store-outcome, set-outcome, remove-outcome, return-outcome}, specs.Marks.{store-length, marks-good, is-marked}}
+use Rattle.calls.{specs.Marks.{has-place, mark-refusal, set-refusal, named-refusal, set-store, removed-store, mark-image}, specs.Contracts.{Read-contract}}
+use Rattle.calls.{specs.Contracts.{Set-contract, Remove-contract, Return-contract}, proofs.QuestionLaws.{ask-yes, ask-no, ask-zero}}
+use Rattle.calls.{proofs.ChainLaws.{site-zero, site-yes, write-yes}, proofs.ContractLaws.{by-accepted, by-refused, by-zero}, proofs.MarkCalls.{Mark-asked}}
+use Rattle.calls.{proofs.MarkCalls.{mark-zero, mark-is-image, mark-read}}
+use Rattle.marks.specs.{Store.{Located}, Placing.{Markable, mark-place, put-place}}
 
 -- ---- 1, 2, 3 or 17 got no
 

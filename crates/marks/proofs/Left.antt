@@ -1,17 +1,8 @@
 -- What is left of a list decides as the whole does: laws of one step for each loop that passes over a list.
-use mathlib.Core.Path.{_≡_, refl, sym, ap, ap₂, _∙_}
-use mathlib.Core.Logic.{_⊎_, inl, inr}
-use mathlib.Core.Bool.{Bool, true, false, _&&_, _||_, or-false, and-true, and-assoc}
-use mathlib.Core.List.{List, [], _∷_}
-use Prim.Native.Nat.{ℕ, zero, suc, _+_, _-_, _≤_, _<_}
-use native.Mathlib.Omega.{arith}
-use lib.Dec.{ltb, leb, eqb}
-use lib.ListN.{length, getD, take, drop, length-drop, drop-of-length-le}
-use lib.Seq.{drop-cons, take-all}
-use lib.Bits.{bitOr, or-zero-l, or-add-and, and-le-r}
-use borrow.Author.Tests.{eqb-true, eqb-false, ltb-true, lt-ltb, le-ltb, eq-eqb, ne-eqb, le-leb, lt-leb}
-use Rattle.lists.specs.Lists.{all}
-use Rattle.lists.proofs.Tests.{iff-eq, or-right, bool-cases, and-both}
+use Rattle.lists.{specs.Kit.{_≡_, refl, sym, ap, ap₂, _∙_, _⊎_, inl, inr, Bool, true, false, _&&_, _||_, or-false, and-true, and-assoc, List, [], _∷_, ℕ, zero}}
+use Rattle.lists.{specs.Kit.{suc, _+_, _-_, _≤_, _<_, arith, ltb, leb, eqb, length, getD, take, drop, length-drop, drop-of-length-le, drop-cons, take-all}}
+use Rattle.lists.{specs.Kit.{bitOr, or-zero-l, or-add-and, and-le-r, eqb-true, eqb-false, ltb-true, lt-ltb, le-ltb, eq-eqb, ne-eqb, le-leb, lt-leb}}
+use Rattle.lists.{specs.Lists.{all}, proofs.Tests.{iff-eq, or-right, bool-cases, and-both}}
 use Rattle.mesh.specs.Marks.{is-alphanumeric, alphanumerics-then-spaces, is-zeros, before}
 
 next : (i : ℕ) → suc i ≡ i + 1

@@ -1,22 +1,11 @@
 -- The size of a place's image; a place tested part by part: name, image, zeros.
-use mathlib.Core.Path.{_≡_, sym, ap, _∙_}
-use mathlib.Core.Logic.{_⊎_, inl, inr}
-use mathlib.Core.Bool.{Bool, true, false, _&&_}
-use mathlib.Core.List.{List}
-use Prim.Native.Nat.{ℕ, _+_, _*_, _-_, _^_, _≤_, _<_}
-use native.Mathlib.Omega.{arith}
-use lib.ListN.{length, take, drop, length-drop}
-use lib.Seq.{take-all, drop-drop}
-use Rattle.mesh.specs.Limits.{size-good}
-use Rattle.mesh.specs.Image.{block-bytes, block-count, order-blocks, blocks-for, word-at, is-image}
-use Rattle.mesh.specs.Marks.{name-bytes, place-bytes, is-name, is-zeros, name-in, image-size, image-in, is-mark}
-use Rattle.lists.proofs.Tests.{bool-cases}
-use Rattle.mesh.proofs.Marks.Laws.{mark-place, length-is-image}
-use Rattle.calls.specs.Questions.{image-refusal}
+use Rattle.lists.{specs.Kit.{_≡_, sym, ap, _∙_, _⊎_, inl, inr, Bool, true, false, _&&_, List, ℕ, _+_, _*_, _-_, _^_, _≤_, _<_, arith, length, take, drop}}
+use Rattle.lists.{specs.Kit.{length-drop, take-all, drop-drop}, proofs.Tests.{bool-cases}}
+use Rattle.mesh.{specs.Limits.{size-good}, specs.Image.{block-bytes, block-count, order-blocks, blocks-for, word-at, is-image}, specs.Marks.{name-bytes}}
+use Rattle.mesh.{specs.Marks.{place-bytes, is-name, is-zeros, name-in, image-size, image-in, is-mark}, proofs.Marks.Laws.{mark-place, length-is-image}}
+use Rattle.calls.{specs.Questions.{image-refusal}, proofs.QuestionLaws.{ask-yes, size-good-true}, proofs.ChainLaws.{image-zero, image-yes}}
+use Rattle.calls.{proofs.MarkCalls.{image-blocks}}
 use Rattle.image_reader.specs.Reading.{alone-refusal}
-use Rattle.calls.proofs.QuestionLaws.{ask-yes, size-good-true}
-use Rattle.calls.proofs.ChainLaws.{image-zero, image-yes}
-use Rattle.calls.proofs.MarkCalls.{image-blocks}
 use Rattle.marks.proofs.Left.{rest-part}
 
 -- ---- the size of a place's image

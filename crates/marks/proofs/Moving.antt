@@ -1,14 +1,10 @@
 -- Bytes being moved by one place: laws of one step of both loops.
 --   up-none, up-turn       from the last byte on: the bytes from i on are moved
 --   down-none, down-turn   from the first byte on: the bytes before i are moved
-use mathlib.Core.Path.{_≡_, refl, sym, ap, ap₂, subst, _∙_}
-use mathlib.Core.List.{List, [], _∷_, _++_, append-assoc}
-use Prim.Native.Nat.{ℕ, zero, suc, _+_, _-_, _≤_, _<_}
-use native.Mathlib.Omega.{arith}
-use lib.ListN.{length, getD, take, drop, set, length-append, length-take, length-drop, length-set, take-append-drop}
-use lib.Seq.{take-suc, drop-cons, length-take-le, getD-take, getD-drop, set-at, paste, paste-zero, paste-suc, length-paste-head, getD-append-add}
-use Rattle.mesh.specs.Marks.{place-bytes}
-use Rattle.mesh.specs.MarkPlaces.{moved-up, moved-down}
+use Rattle.lists.specs.Kit.{_≡_, refl, sym, ap, ap₂, subst, _∙_, List, [], _∷_, _++_, append-assoc, ℕ, zero, suc, _+_, _-_, _≤_, _<_, arith, length, getD, take}
+use Rattle.lists.specs.Kit.{drop, set, length-append, length-drop, length-set, take-append-drop, take-suc, drop-cons, length-take-le, getD-drop, set-at, paste}
+use Rattle.lists.specs.Kit.{paste-suc, getD-append-add}
+use Rattle.mesh.specs.{Marks.{place-bytes}, MarkPlaces.{moved-up, moved-down}}
 
 -- ---- up
 

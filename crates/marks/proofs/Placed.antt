@@ -1,25 +1,14 @@
 -- A mark put into its place: zeros, the name in front, then the image in front of the rest.
 --   placed       so the place is the mark of the name and the tables
 --   placed-at    put into place i of a store
-use mathlib.Core.Path.{_≡_, ap, ap₂, _∙_}
-use mathlib.Core.List.{List, [], _++_, append-nil}
-use Prim.Native.Nat.{ℕ, _+_, _*_, _-_, _≤_}
-use native.Mathlib.Omega.{arith}
-use lib.ListN.{length, take, drop, replicate, length-append, length-drop, length-replicate, drop-of-length-le}
-use lib.Seq.{take-at, drop-at, drop-drop, take-all}
+use Rattle.lists.{specs.Kit.{_≡_, ap, ap₂, _∙_, List, [], _++_, append-nil, ℕ, _+_, _*_, _-_, _≤_, arith, length, take, drop, replicate, length-append}}
+use Rattle.lists.{specs.Kit.{length-drop, length-replicate, drop-of-length-le, take-at, drop-at, drop-drop, take-all}, specs.Lists.{overwrite}}
+use Rattle.lists.{proofs.Parts.{drop-replicate}}
 use borrow.Rule.Slice.PartMut.{putMid}
-use Rattle.lists.specs.Lists.{overwrite}
-use Rattle.lists.proofs.Parts.{drop-replicate}
-use Rattle.mesh.specs.Tables.{Tables, graph-in}
-use Rattle.mesh.specs.Sound.{sound}
-use Rattle.mesh.specs.Image.{image-of}
-use Rattle.mesh.specs.Marks.{name-bytes, place-bytes, place-of}
-use Rattle.mesh.proofs.Marks.Laws.{length-name}
-use Rattle.calls.specs.Questions.{lengths-of, write-refusal}
-use Rattle.calls.specs.Outcomes.{Listing, listing-outcome, write-outcome}
-use Rattle.calls.specs.Contracts.{Write-contract}
-use Rattle.calls.specs.declared.Value.{Value}
-use Rattle.calls.proofs.ContractLaws.{by-zero}
+use Rattle.mesh.{specs.Tables.{Tables, graph-in}, specs.Sound.{sound}, specs.Image.{image-of}, specs.Marks.{name-bytes, place-bytes, place-of}}
+use Rattle.mesh.{proofs.Marks.Laws.{length-name}}
+use Rattle.calls.{specs.Questions.{lengths-of, write-refusal}, specs.Outcomes.{Listing, listing-outcome, write-outcome}, specs.Contracts.{Write-contract}}
+use Rattle.calls.{specs.declared.Value.{Value}, proofs.ContractLaws.{by-zero}}
 use Rattle.marks.specs.Placing.{Markable, mark-place, put-place}
 
 module _ (n : ℕ) (t : Tables) (x : List ℕ) (k : Markable n t x) (len : ℕ) (long : len ≡ place-bytes) (z y : List ℕ) (zeros : z ≡ replicate len 0)

@@ -1,22 +1,11 @@
 -- Laws of one step of each loop over the store.
-use mathlib.Core.Path.{_≡_, refl, sym, ap, ap₂, _∙_}
-use mathlib.Core.Bool.{Bool, true, false, _&&_, cond}
-use mathlib.Core.List.{List, [], _∷_}
-use Prim.Native.Nat.{ℕ, zero, suc, _+_, _*_, _-_, _≤_, _<_}
-use native.Mathlib.Omega.{arith}
-use lib.ListN.{length, take, drop, drop-of-length-le}
-use lib.Seq.{drop-cons, drop-drop}
-use borrow.Author.Tests.{eqb-true}
-use Rattle.lists.specs.Lists.{same}
-use Rattle.mesh.specs.Limits.{size-good}
-use Rattle.mesh.specs.Marks.{name-bytes, place-bytes, places, store-bytes, before, is-name, is-zeros, name-in, is-mark, places-of, used, marks-in, are-marks, is-store}
-use Rattle.mesh.specs.MarkPlaces.{rank, heads}
-use Rattle.mesh.specs.Marks.{place-at, name-at}
-use Rattle.mesh.proofs.Marks.Rules.{mark-at, name-of-place}
-use Rattle.calls.specs.Questions.{ask, Lengths, site-refusal}
-use Rattle.calls.specs.Marks.{store-length, marks-good, mark-refusal}
-use Rattle.calls.proofs.QuestionLaws.{true-size-good}
-use Rattle.calls.proofs.ChainLaws.{Site-good, site-zero, site-yes, site-stops}
+use Rattle.lists.specs.{Kit.{_≡_, refl, sym, ap, ap₂, _∙_, Bool, true, false, _&&_, cond, List, [], _∷_, ℕ, zero, suc, _+_, _*_, _-_, _≤_, _<_, arith, length}}
+use Rattle.lists.specs.{Kit.{take, drop, drop-of-length-le, drop-cons, drop-drop, eqb-true}, Lists.{same}}
+use Rattle.mesh.{specs.Limits.{size-good}, specs.Marks.{name-bytes, place-bytes, places, store-bytes, before, is-name, is-zeros, name-in, is-mark, places-of}}
+use Rattle.mesh.{specs.Marks.{used, marks-in, are-marks, is-store, place-at, name-at}, specs.MarkPlaces.{rank, heads}, proofs.Marks.Rules.{mark-at}}
+use Rattle.mesh.{proofs.Marks.Rules.{name-of-place}}
+use Rattle.calls.{specs.Questions.{ask, Lengths, site-refusal}, specs.Marks.{store-length, marks-good, mark-refusal}, proofs.QuestionLaws.{true-size-good}}
+use Rattle.calls.{proofs.ChainLaws.{Site-good, site-zero, site-yes, site-stops}}
 use Rattle.marks.specs.Store.{last-name, Counted, Located}
 use Rattle.marks.proofs.Left.{rest-part}
 

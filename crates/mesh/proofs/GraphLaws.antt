@@ -1,25 +1,12 @@
 -- Laws of links and neighbours.
 -- In order: what a list of links joins, a link put in or taken out, proper links, graphs one link apart, neighbours in a set.
-use mathlib.Core.Path.{_≡_, refl, sym, ap, _∙_}
-use mathlib.Core.Logic.{_⊎_, inl, inr}
-use mathlib.Core.Bool.{Bool, true, false, _&&_, _||_, not, cond, and-true, and-false, or-comm, or-true}
-use mathlib.Core.List.{List, [], _∷_}
-use Prim.Native.Nat.{ℕ, _≤_, _<_}
-use native.Mathlib.Omega.{arith}
-use native.Mathlib.Nat.{le-antisymm}
-use lib.Dec.{ltb, eqb}
-use borrow.Author.Tests.{ltb-true, ltb-false, lt-ltb, eqb-true, eq-eqb}
-use Rattle.lists.specs.Lists.{range, count, filter, member, In}
-use Rattle.lists.specs.Facts.{Distinct, Each-once}
-use Rattle.mesh.specs.Graph.{Link, Graph, radios, other-ends, linked, neighbours-in, degree, neighbours-among, link, link-before, same-link, with-link}
-use Rattle.mesh.specs.Graph.{without-link, new-links, relinked, proper}
-use Rattle.lists.proofs.Tests.{bool-cases, never, and-left, and-right, and-both, or-cases, or-left, or-right, iff-eq, swap-or}
-use Rattle.lists.proofs.Member.{member-in, in-member}
-use Rattle.lists.proofs.Range.{in-range, range-in, distinct-range}
-use Rattle.lists.proofs.Count.{count-mono, count-both}
-use Rattle.lists.proofs.Distinct.{count-sub}
-use Rattle.lists.proofs.Filter.{count-filter}
-use Rattle.mesh.specs.Valid.{smaller, larger}
+use Rattle.lists.{specs.Kit.{_≡_, refl, sym, ap, _∙_, _⊎_, inl, inr, Bool, true, false, _&&_, _||_, not, cond, and-true, and-false, or-comm, or-true, List, []}}
+use Rattle.lists.{specs.Kit.{_∷_, ℕ, _≤_, _<_, arith, le-antisymm, ltb, eqb, ltb-true, ltb-false, lt-ltb, eqb-true, eq-eqb}, specs.Lists.{range, count, filter}}
+use Rattle.lists.{specs.Lists.{member, In}, specs.Facts.{Distinct, Each-once}, proofs.Tests.{bool-cases, never, and-left, and-right, and-both, or-cases}}
+use Rattle.lists.{proofs.Tests.{or-left, or-right, iff-eq, swap-or}, proofs.Member.{member-in, in-member}, proofs.Range.{in-range, range-in, distinct-range}}
+use Rattle.lists.{proofs.Count.{count-mono, count-both}, proofs.Distinct.{count-sub}, proofs.Filter.{count-filter}}
+use Rattle.mesh.specs.{Graph.{Link, Graph, radios, other-ends, linked, neighbours-in, degree, neighbours-among, link, link-before, same-link, with-link}}
+use Rattle.mesh.specs.{Graph.{without-link, new-links, relinked, proper}, Valid.{smaller, larger}}
 
 -- ---- what links join
 

@@ -1,36 +1,16 @@
 -- The questions of a link call, asked of the tables: what each outcome of the code gives, on plain values.
 -- In order: sound tables, the number of each outcome, what a plan is made from, each outcome, what a plan is applied to.
-use mathlib.Core.Path.{_≡_, refl, sym, ap, subst, _∙_}
-use mathlib.Core.Logic.{_⊎_, inl, inr}
-use mathlib.Core.Bool.{Bool, true, false, _&&_}
-use mathlib.Core.List.{List}
-use Prim.Native.Nat.{ℕ, _≤_, _<_, min}
-use native.Mathlib.Omega.{arith}
-use native.Mathlib.Nat.{le-trans, le-of-eq}
-use lib.Dec.{leb}
-use lib.ListN.{length, getD}
-use borrow.Author.Tests.{leb-true, leb-false, le-leb, lt-leb}
-use Rattle.mesh.specs.Limits.{max-radios, max-neighbours}
-use Rattle.lists.specs.Lists.{range}
-use Rattle.mesh.specs.Graph.{Graph, radios, linked, neighbours-in}
-use Rattle.mesh.specs.Cores.{number, numbers}
-use Rattle.mesh.specs.Tables.{Tables, graph-in}
-use Rattle.mesh.specs.Sound.{number-in, rows-proper, sound}
-use Rattle.lists.proofs.Tests.{bool-cases}
-use Rattle.lists.proofs.Range.{range-in}
-use Rattle.lists.proofs.Filter.{length-filter, filter-ext}
-use Rattle.mesh.proofs.Cores.Peeling.{getD-numbers}
-use Rattle.mesh.proofs.Tables.Rows.{few-of}
-use Rattle.mesh.proofs.Tables.ReadBack.{proper-graph-in, ascending-graph-in, degree-graph-in}
-use Rattle.mesh.proofs.Tables.Soundness.{Right, sound-right}
-use Rattle.calls.specs.Questions.{ask, Lengths, lengths-of, size-good, site-lengths, answer-length, lent-refusal, site-refusal, ends-refusal, link-refusal}
-use Rattle.calls.proofs.QuestionLaws.{ask-no, ask-later, size-good-true, true-size-good, true-site-lengths, answer-length-true, true-answer-length}
-use Rattle.calls.proofs.ChainLaws.{Lent-good, lent-zero, lent-yes, lent-later, site-yes, ends-zero, link-zero}
-use Rattle.soundness.specs.Checks.{examinable, Examined}
-use Rattle.soundness.proofs.HighCounts.{examined-high}
-use Rattle.plan.specs.Plans.{Ready}
-use Rattle.plan.specs.Asked.{Asked}
-use Rattle.plan.specs.Plans.{Applicable}
+use Rattle.lists.{specs.Kit.{_≡_, refl, sym, ap, subst, _∙_, _⊎_, inl, inr, Bool, true, false, _&&_, List, ℕ, _≤_, _<_, min, arith, le-trans, le-of-eq, leb}}
+use Rattle.lists.{specs.Kit.{length, getD, leb-true, leb-false, le-leb, lt-leb}, specs.Lists.{range}, proofs.Tests.{bool-cases}, proofs.Range.{range-in}}
+use Rattle.lists.{proofs.Filter.{length-filter, filter-ext}}
+use Rattle.mesh.{specs.Limits.{max-radios, max-neighbours}, specs.Graph.{Graph, radios, linked, neighbours-in}, specs.Cores.{number, numbers}}
+use Rattle.mesh.{specs.Tables.{Tables, graph-in}, specs.Sound.{number-in, rows-proper, sound}, proofs.Cores.Peeling.{getD-numbers}, proofs.Tables.Rows.{few-of}}
+use Rattle.mesh.{proofs.Tables.ReadBack.{proper-graph-in, ascending-graph-in, degree-graph-in}, proofs.Tables.Soundness.{Right, sound-right}}
+use Rattle.calls.{specs.Questions.{Lengths, lengths-of, size-good, answer-length, lent-refusal, site-refusal, ends-refusal, link-refusal}}
+use Rattle.calls.{proofs.QuestionLaws.{ask-no, ask-later, size-good-true, true-size-good, true-site-lengths, answer-length-true, true-answer-length}}
+use Rattle.calls.{proofs.ChainLaws.{Lent-good, lent-zero, lent-yes, lent-later, site-yes, ends-zero, link-zero}}
+use Rattle.soundness.{specs.Checks.{examinable, Examined}, proofs.HighCounts.{examined-high}}
+use Rattle.plan.specs.{Plans.{Ready, Applicable}, Asked.{Asked}}
 use Rattle.plan.proofs.EndsLaws.{proper-rows}
 
 -- ---- sound tables

@@ -1,22 +1,9 @@
 -- What stands before the first turn: the counters of both ends brought to the graph after the call, and the places that fit.
-use mathlib.Core.Path.{_≡_, refl, sym, ap, _∙_}
-use mathlib.Core.Logic.{_⊎_, inl, inr}
-use mathlib.Core.Bool.{Bool, true, false, _&&_, _||_, cond, or-true, or-false, and-false}
-use mathlib.Core.List.{List, [], _∷_}
-use Prim.Native.Nat.{ℕ, _+_, _-_, _≤_, _<_}
-use native.Mathlib.Omega.{arith}
-use lib.Dec.{leb, eqb}
-use lib.ListN.{length, getD, set}
-use lib.Seq.{getD-set-same, getD-set-other}
-use borrow.Author.Tests.{eqb-true, eq-eqb}
-use Rattle.mesh.specs.Limits.{max-radios, row-bytes}
-use Rattle.lists.specs.Lists.{member, In}
-use Rattle.mesh.specs.Tables.{marked, put-bit}
-use Rattle.lists.proofs.Tests.{bool-cases}
-use Rattle.mesh.proofs.Tables.Laws.{length-put-bit}
-use Rattle.mesh.specs.Peel.{bound}
+use Rattle.lists.{specs.Kit.{_≡_, refl, sym, ap, _∙_, _⊎_, inl, inr, Bool, true, false, _&&_, _||_, cond, or-true, or-false, and-false, List, [], _∷_, ℕ, _+_}}
+use Rattle.lists.{specs.Kit.{_-_, _≤_, _<_, arith, leb, eqb, length, getD, set, getD-set-same, getD-set-other, eqb-true, eq-eqb}, specs.Lists.{member, In}}
+use Rattle.lists.{proofs.Tests.{bool-cases}}
+use Rattle.mesh.{specs.Limits.{max-radios, row-bytes}, specs.Tables.{marked, put-bit}, proofs.Tables.Laws.{length-put-bit}, specs.Peel.{bound}}
 use Rattle.plan.specs.Turns.{end-counted, ends-counted, places-fitting, Begin-ready}
-use Rattle.plan.proofs.TurnLoops.{length-end-counted}
 use Rattle.plan.proofs.TurnLaws.{marked-put}
 
 -- ---- the bound of the peel

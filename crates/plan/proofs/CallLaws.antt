@@ -1,13 +1,7 @@
 -- A plan with its questions asked, on plain values: what it is made from, the plan made and refused.
-use mathlib.Core.Path.{_≡_, refl, sym, subst}
-use mathlib.Core.Bool.{Bool}
-use mathlib.Core.List.{List}
-use Prim.Native.Nat.{ℕ, min}
-use lib.ListN.{length}
-use Rattle.mesh.specs.Graph.{Graph}
-use Rattle.mesh.specs.Tables.{Tables, graph-in}
-use Rattle.plan.specs.Plans.{Ready, Planned}
-use Rattle.plan.specs.Asked.{Asked, Plan-contract}
+use Rattle.lists.specs.Kit.{_≡_, refl, sym, subst, Bool, List, ℕ, min, length}
+use Rattle.mesh.specs.{Graph.{Graph}, Tables.{Tables, graph-in}}
+use Rattle.plan.specs.{Plans.{Ready, Planned}, Asked.{Asked, Plan-contract}}
 
 -- ---- the plan: q is the refusal number of its questions, room the shorter of the answer table and the lent stretch
 

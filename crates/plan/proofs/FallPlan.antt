@@ -1,34 +1,15 @@
 -- The plan of a link going down: both ends are released. Before the call each radio of the level has K neighbours or more that are not
 -- below it, so that only an end's place can fit before the first turn. So the peel is ready.
-use mathlib.Core.Path.{_≡_, refl, sym, ap, _∙_}
-use mathlib.Core.Logic.{_⊎_, inl, inr}
-use mathlib.Core.Bool.{Bool, true, false, _&&_, _||_}
-use mathlib.Core.List.{List, [], _∷_}
-use Prim.Native.Nat.{ℕ, _+_, _-_, _≤_, _<_, min}
-use native.Mathlib.Omega.{arith}
-use lib.Dec.{leb, eqb}
-use lib.ListN.{length, getD, replicate, length-replicate}
-use borrow.Author.Tests.{lt-leb}
-use Rattle.mesh.specs.Limits.{max-radios, row-bytes}
-use Rattle.lists.specs.Lists.{member, In}
-use Rattle.lists.proofs.Tests.{never}
-use Rattle.lists.proofs.Member.{in-member}
-use Rattle.mesh.specs.Graph.{Graph}
-use Rattle.mesh.specs.Cores.{number}
-use Rattle.mesh.specs.Tables.{tables, byte-at, marked, graph-in}
-use Rattle.mesh.specs.Peel.{bound, none}
-use Rattle.mesh.proofs.Tables.Laws.{marked-replicate}
-use Rattle.plan.specs.Plans.{Ready, Planned}
-use Rattle.plan.specs.Turns.{end-counted, ends-counted, counter-less, released, places-released, Releasable}
-use Rattle.plan.specs.Places.{level-start, level-size}
-use Rattle.plan.specs.Peels.{stretch, linked-after, Level, Turning, Peel-ready, Peel-done}
-use Rattle.plan.proofs.TurnLoops.{length-released, length-places-released}
-use Rattle.plan.proofs.TurnLaws.{getD-released-level, fits-released, marked-released, marked-released-place}
-use Rattle.plan.proofs.LevelLaws.{stretch-stands, place-apart, place-small}
-use Rattle.plan.proofs.PlanLevel.{a-below, b-below, certified, number-is, level-is, is-level}
-use Rattle.plan.proofs.PlanStart.{begin-ready, counted-stretch, turning-ready}
-use Rattle.plan.proofs.PlanEnd.{plan-unmoved}
-use Rattle.plan.proofs.PlanCall.{plan-level}
+use Rattle.lists.{specs.Kit.{_≡_, refl, sym, ap, _∙_, _⊎_, inl, inr, Bool, true, false, _&&_, _||_, List, [], _∷_, ℕ, _+_, _-_, _≤_, _<_, min, arith, leb, eqb}}
+use Rattle.lists.{specs.Kit.{length, getD, replicate, length-replicate, lt-leb}, specs.Lists.{member, In}, proofs.Tests.{never}, proofs.Member.{in-member}}
+use Rattle.mesh.{specs.Limits.{max-radios, row-bytes}, specs.Graph.{Graph}, specs.Cores.{number}, specs.Tables.{tables, byte-at, marked, graph-in}}
+use Rattle.mesh.{specs.Peel.{bound, none}, proofs.Tables.Laws.{marked-replicate}}
+use Rattle.plan.specs.{Plans.{Ready, Planned}, Turns.{end-counted, ends-counted, counter-less, released, places-released, Releasable}}
+use Rattle.plan.specs.{Places.{level-start, level-size}, Peels.{stretch, linked-after, Level, Turning, Peel-ready, Peel-done}}
+use Rattle.plan.proofs.{TurnLoops.{length-released, length-places-released}, TurnLaws.{getD-released-level, fits-released, marked-released}}
+use Rattle.plan.proofs.{TurnLaws.{marked-released-place}, LevelLaws.{stretch-stands, place-apart, place-small}, PlanLevel.{a-below, b-below, certified}}
+use Rattle.plan.proofs.{PlanLevel.{number-is, level-is, is-level}, PlanStart.{begin-ready, counted-stretch, turning-ready}, PlanEnd.{plan-unmoved}}
+use Rattle.plan.proofs.{PlanCall.{plan-level}}
 
 module _ {a b : ℕ} {ts ns os ps cs : List ℕ} (r : Ready false (length os) a b (tables ts ns os) ps cs) where
   abbrev n : ℕ

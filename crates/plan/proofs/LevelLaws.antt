@@ -1,23 +1,12 @@
 -- The stretch of a level: which radios stand in it, and in which order their places are.
 -- In order: laws of lists, the radios of the stretch, places along what is left of it.
-use mathlib.Core.Path.{_≡_, refl, sym, ap, _∙_}
-use mathlib.Core.Logic.{_⊎_, inl, inr}
-use mathlib.Core.Bool.{Bool, true, false}
-use mathlib.Core.List.{List, [], _∷_}
-use Prim.Native.Nat.{ℕ, suc, _+_, _-_, _≤_, _<_}
-use native.Mathlib.Omega.{arith}
-use lib.ListN.{length, getD}
-use Rattle.mesh.specs.Limits.{max-radios}
-use Rattle.lists.specs.Lists.{member, head-or, In}
-use Rattle.lists.specs.Facts.{Distinct, Rising}
-use Rattle.mesh.specs.Tables.{marked}
-use Rattle.lists.proofs.Tests.{bool-cases}
-use Rattle.lists.proofs.Member.{member-in, in-getD, getD-of-in, head-or-below}
-use Rattle.rows.specs.Rows.{neighbours-of}
-use Rattle.rows.proofs.RowListLaws.{ascending-neighbours-of, in-neighbours-of, member-neighbours-of}
+use Rattle.lists.{specs.Kit.{_≡_, sym, ap, _∙_, _⊎_, inl, inr, Bool, true, false, List, [], _∷_, ℕ, suc, _+_, _-_, _≤_, _<_, arith, length, getD}}
+use Rattle.lists.{specs.Lists.{member, head-or, In}, specs.Facts.{Distinct, Rising}, proofs.Tests.{bool-cases}, proofs.Member.{member-in, in-getD, getD-of-in}}
+use Rattle.lists.{proofs.Member.{head-or-below}, proofs.Ascending.{head-or-lowest, rising-index}}
+use Rattle.mesh.specs.{Limits.{max-radios}, Tables.{marked}}
+use Rattle.rows.{specs.Rows.{neighbours-of}, proofs.RowListLaws.{ascending-neighbours-of, in-neighbours-of, member-neighbours-of}}
 use Rattle.plan.specs.Peels.{stretch, Level}
 use Rattle.plan.proofs.StretchLoops.{length-stretch, getD-stretch}
-use Rattle.lists.proofs.Ascending.{head-or-lowest, rising-index}
 
 -- ---- the lowest marked place
 

@@ -1,28 +1,13 @@
 -- The neighbours of a radio after a link went up or down: by the row's own bits where the radio is no end of the link, else by
 -- a copy of the row with one bit put.
-use mathlib.Core.Path.{_≡_, refl, sym, ap, _∙_}
-use mathlib.Core.Logic.{_⊎_, inl, inr}
-use mathlib.Core.Bool.{Bool, true, false, _&&_, cond}
-use mathlib.Core.List.{List}
-use Prim.Native.Nat.{ℕ, suc, _+_, _*_, _-_, _/_, _≤_, _<_, min}
-use native.Mathlib.Omega.{arith}
-use lib.Dec.{eqb}
-use lib.ListN.{length, take, drop, length-drop}
-use lib.Seq.{take-all, getD-take, getD-drop, length-take-le}
-use borrow.Author.Tests.{eqb-true, eqb-false, eq-eqb, ne-eqb}
-use Rattle.mesh.specs.Limits.{max-radios, max-neighbours, row-bytes}
-use Rattle.lists.specs.Lists.{range, overwrite}
-use Rattle.mesh.specs.Tables.{byte-at, marked, put-bit, put-link}
-use Rattle.lists.proofs.Tests.{bool-cases}
-use Rattle.lists.proofs.Range.{range-in}
-use Rattle.lists.proofs.Filter.{filter-ext}
-use Rattle.lists.proofs.Overwrite.{overwrite-all}
-use Rattle.mesh.proofs.Tables.Laws.{length-put-bit, marked-put-bit}
-use Rattle.rows.specs.Rows.{neighbours-of, row-listed, row-count}
-use Rattle.rows.proofs.RowListLaws.{row-listed-fits}
-use Rattle.rows.proofs.RowWords.{row-listed-whole}
-use Rattle.plan.specs.Places.{other-end}
-use Rattle.plan.specs.Turns.{released, places-released, near-left, Releasable, Row-ready, Near-ready, Lists-neighbours}
+use Rattle.lists.{specs.Kit.{_≡_, refl, sym, ap, _∙_, _⊎_, inl, inr, Bool, true, false, _&&_, cond, List, ℕ, suc, _+_, _*_, _/_, _≤_, _<_, min, arith, eqb}}
+use Rattle.lists.{specs.Kit.{length, take, drop, length-drop, take-all, getD-take, getD-drop, length-take-le, eqb-true, eqb-false, eq-eqb, ne-eqb}}
+use Rattle.lists.{specs.Lists.{range, overwrite}, proofs.Tests.{bool-cases}, proofs.Range.{range-in}, proofs.Filter.{filter-ext}}
+use Rattle.lists.{proofs.Overwrite.{overwrite-all}}
+use Rattle.mesh.{specs.Limits.{max-radios, max-neighbours, row-bytes}, specs.Tables.{byte-at, marked, put-bit, put-link}, proofs.Tables.Laws.{length-put-bit}}
+use Rattle.mesh.{proofs.Tables.Laws.{marked-put-bit}}
+use Rattle.rows.{specs.Rows.{neighbours-of, row-listed, row-count}, proofs.RowListLaws.{row-listed-fits}, proofs.RowWords.{row-listed-whole}}
+use Rattle.plan.specs.{Places.{other-end}, Turns.{released, places-released, near-left, Releasable, Row-ready, Near-ready, Lists-neighbours}}
 
 -- rows that mark alike list alike
 pub neighbours-of-ext : (ts us : List ℕ) (v w : ℕ) → ((x : ℕ) → x < max-radios → marked ts v x ≡ marked us w x) → neighbours-of ts v ≡ neighbours-of us w

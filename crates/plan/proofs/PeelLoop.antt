@@ -1,32 +1,15 @@
 -- The loop of the peel, as its invariant: the entries written so far are taken, and p is the lowest place that fits.
-use mathlib.Core.Path.{_≡_, refl, sym, ap, _∙_}
-use mathlib.Core.Logic.{_⊎_, inl, inr}
-use mathlib.Core.Bool.{Bool, true, false, not, cond}
-use mathlib.Core.List.{List, [], _∷_, _++_}
-use Prim.Native.Nat.{ℕ, _+_, _-_, _/_, _%_, _≤_, _<_}
-use native.Mathlib.Omega.{arith}
-use native.Mathlib.Numerals.{add-one}
-use lib.Dec.{eqb}
-use lib.ListN.{length, getD, set, take, replicate, length-set, length-replicate, getD-replicate}
-use lib.Seq.{length-take-le, take-suc-set}
-use borrow.Author.Tests.{eqb-true, eqb-false}
-use Rattle.mesh.specs.Limits.{max-radios, row-bytes}
-use Rattle.lists.specs.Lists.{head-or, member, all, range, In}
-use Rattle.mesh.specs.Tables.{digit, marked, put-bit, put-link}
-use Rattle.lists.proofs.All.{all-in}
-use Rattle.lists.proofs.Tests.{bool-cases, never}
-use Rattle.lists.proofs.Member.{in-left, in-right, in-cases, member-in, in-member, not-member}
-use Rattle.lists.proofs.Range.{in-range}
-use Rattle.rows.specs.Rows.{neighbours-of, row-listed}
-use Rattle.rows.proofs.RowWords.{row-listed-whole}
-use Rattle.rows.specs.Sets.{in-set, take-out}
-use Rattle.rows.proofs.SetLaws.{length-take-out, in-take-out}
-use Rattle.plan.specs.Turns.{released, places-released, near-left, Releasable, Row-ready}
-use Rattle.plan.specs.Places.{level-start, level-size}
-use Rattle.plan.specs.Peels.{linked-after, Turning, Whole-counted, Left-set, Peel-ready, Peel-done}
-use Rattle.plan.proofs.TurnLoops.{length-released}
-use Rattle.plan.proofs.LevelLaws.{first-marked-least}
-use Rattle.plan.proofs.PeelTurns.{turns-end, taken-below, taken-room, whole-none, taken-releasable, whole-turns, whole-after, left-releasable, left-turns}
+use Rattle.lists.{specs.Kit.{_≡_, refl, sym, ap, _∙_, _⊎_, inl, inr, Bool, true, false, not, cond, List, [], _∷_, _++_, ℕ, _+_, _/_, _%_, _≤_, _<_, arith}}
+use Rattle.lists.{specs.Kit.{add-one, eqb, length, getD, set, take, replicate, length-set, length-replicate, getD-replicate, length-take-le, take-suc-set}}
+use Rattle.lists.{specs.Kit.{eqb-true, eqb-false}, specs.Lists.{head-or, member, all, range, In}, proofs.All.{all-in}, proofs.Tests.{bool-cases, never}}
+use Rattle.lists.{proofs.Member.{in-left, in-right, in-cases, member-in, in-member, not-member}, proofs.Range.{in-range}}
+use Rattle.mesh.specs.{Limits.{max-radios, row-bytes}, Tables.{digit, marked, put-bit, put-link}}
+use Rattle.rows.{specs.Rows.{neighbours-of, row-listed}, proofs.RowWords.{row-listed-whole}, specs.Sets.{in-set, take-out}, proofs.SetLaws.{length-take-out}}
+use Rattle.rows.{proofs.SetLaws.{in-take-out}}
+use Rattle.plan.specs.{Turns.{released, places-released, near-left, Releasable, Row-ready}, Places.{level-start, level-size}, Peels.{linked-after}}
+use Rattle.plan.specs.{Peels.{Turning, Whole-counted, Left-set, Peel-ready, Peel-done}}
+use Rattle.plan.proofs.{TurnLoops.{length-released}, LevelLaws.{first-marked-least}, PeelTurns.{turns-end, taken-below, taken-room, whole-none}}
+use Rattle.plan.proofs.{PeelTurns.{taken-releasable, whole-turns, whole-after, left-releasable, left-turns}}
 
 pub record Peel-from (up : Bool) (a b k m : ℕ) (links numbers order places cs0 fs0 list0 cs fs list : List ℕ) (taken p : ℕ) : Type 0 where
   pub long-counters : length cs ≡ length cs0

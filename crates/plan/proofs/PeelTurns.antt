@@ -1,38 +1,19 @@
 -- A turn of the peel, on plain values: the lowest fitting place is that of the radio that the peel takes next, and after its
 -- neighbours are released counters and fitting places tell of what is left then. At the end the radios whose counter is above
 -- the bound are the stuck ones.
-use mathlib.Core.Path.{_≡_, refl, sym, ap, _∙_}
-use mathlib.Core.Logic.{_⊎_, inl, inr}
-use mathlib.Core.Bool.{Bool, true, false, not, _&&_, _||_, cond}
-use mathlib.Core.List.{List, [], _∷_, _++_}
-use Prim.Native.Nat.{ℕ, _+_, _-_, _≤_, _<_}
-use native.Mathlib.Omega.{arith}
-use lib.Dec.{ltb, leb, eqb}
-use lib.ListN.{length, getD, length-append}
-use borrow.Author.Tests.{eqb-true, eqb-false, ne-eqb, leb-true, leb-false, lt-ltb, le-ltb}
-use Rattle.mesh.specs.Limits.{max-radios, row-bytes}
-use Rattle.lists.specs.Lists.{count, filter, member, head-or, In}
-use Rattle.lists.specs.Facts.{Distinct, Rising}
-use Rattle.mesh.specs.Tables.{marked, put-bit}
-use Rattle.lists.proofs.Tests.{bool-cases, never, and-left, and-right, bit-false}
-use Rattle.lists.proofs.Member.{in-left, in-right, in-cases, in-drop, member-in, in-member, not-member, split-in}
-use Rattle.lists.proofs.Count.{count-append, count-mid, count-pos, count-all}
-use Rattle.lists.proofs.Distinct.{permutation-in, distinct-mid, distinct-right, distinct-apart, permutation-distinct}
-use Rattle.lists.proofs.Filter.{filter-ext, in-filter, filter-in, distinct-filter}
-use Rattle.mesh.proofs.Tables.Laws.{length-put-bit}
-use Rattle.mesh.specs.Peel.{Peels}
-use Rattle.mesh.proofs.Links.Peel.{takes-more, takes-permutation, takes-now-in, takes-taken-in, takes-now-filter}
-use Rattle.rows.specs.Rows.{neighbours-of}
-use Rattle.rows.proofs.RowListLaws.{distinct-neighbours-of, in-neighbours-of, member-neighbours-of}
-use Rattle.rows.specs.Sets.{in-set}
-use Rattle.plan.specs.Turns.{released, places-released, near-left, Releasable}
-use Rattle.plan.specs.Peels.{stretch, above, Level, Turning, Whole-counted, Left-set}
-use Rattle.plan.proofs.TurnLaws.{marked-put, getD-released-level, fits-released, marked-released, marked-released-place}
-use Rattle.plan.proofs.TurnLoops.{length-released, length-places-released}
-use Rattle.plan.proofs.StretchLoops.{length-stretch}
-use Rattle.lists.proofs.Ascending.{rising-filter, rising-before}
-use Rattle.plan.proofs.LevelLaws.{first-marked-in, first-marked-least, place-level, level-stretch, Stands, stretch-stands, place-apart, place-small}
-use Rattle.plan.proofs.LevelLaws.{rising-stretch, distinct-stretch}
+use Rattle.lists.{specs.Kit.{_≡_, refl, sym, ap, _∙_, _⊎_, inl, inr, Bool, true, false, not, _&&_, _||_, cond, List, [], _∷_, _++_, ℕ, _+_, _≤_, _<_, arith}}
+use Rattle.lists.{specs.Kit.{ltb, leb, eqb, length, getD, length-append, eqb-true, eqb-false, ne-eqb, leb-true, leb-false, lt-ltb, le-ltb}, specs.Lists.{count}}
+use Rattle.lists.{specs.Lists.{filter, member, head-or, In}, specs.Facts.{Distinct, Rising}, proofs.Tests.{bool-cases, never, and-left, and-right, bit-false}}
+use Rattle.lists.{proofs.Member.{in-left, in-right, in-cases, in-drop, member-in, in-member, not-member, split-in}, proofs.Count.{count-append, count-mid}}
+use Rattle.lists.{proofs.Count.{count-pos, count-all}, proofs.Distinct.{permutation-in, distinct-mid, distinct-right, distinct-apart, permutation-distinct}}
+use Rattle.lists.{proofs.Filter.{filter-ext, in-filter, filter-in, distinct-filter}, proofs.Ascending.{rising-filter, rising-before}}
+use Rattle.mesh.{specs.Limits.{max-radios, row-bytes}, specs.Tables.{marked, put-bit}, proofs.Tables.Laws.{length-put-bit}, specs.Peel.{Peels}}
+use Rattle.mesh.{proofs.Links.Peel.{takes-more, takes-permutation, takes-now-in, takes-taken-in, takes-now-filter}}
+use Rattle.rows.{specs.Rows.{neighbours-of}, proofs.RowListLaws.{distinct-neighbours-of, in-neighbours-of, member-neighbours-of}, specs.Sets.{in-set}}
+use Rattle.plan.specs.{Turns.{released, places-released, near-left, Releasable}, Peels.{stretch, above, Level, Turning, Whole-counted, Left-set}}
+use Rattle.plan.proofs.{TurnLaws.{marked-put, getD-released-level, fits-released, marked-released, marked-released-place}, TurnLoops.{length-released}}
+use Rattle.plan.proofs.{TurnLoops.{length-places-released}, StretchLoops.{length-stretch}, LevelLaws.{first-marked-in, first-marked-least, place-level}}
+use Rattle.plan.proofs.{LevelLaws.{level-stretch, Stands, stretch-stands, place-apart, place-small, rising-stretch, distinct-stretch}}
 
 module _ {f : ℕ → ℕ → Bool} {ns os ps : List ℕ} {k start size : ℕ} (lv : Level f ns os ps k start size) (m : ℕ) where
   abbrev level : List ℕ

@@ -1,14 +1,7 @@
 -- Where the next turn of a walk is, by what `first_marked` says of a whole row; the beginning end, branch by branch.
-use mathlib.Core.Path.{_≡_, ap, _∙_}
-use mathlib.Core.List.{List}
-use Prim.Native.Nat.{ℕ, _+_, _≤_, _<_}
-use native.Mathlib.Omega.{arith}
-use lib.ListN.{length, getD}
-use borrow.Author.Tests.{lt-ltb, le-ltb, le-leb, lt-leb}
+use Rattle.lists.specs.{Kit.{_≡_, ap, _∙_, List, ℕ, _+_, _≤_, _<_, arith, length, getD, lt-ltb, le-ltb, le-leb, lt-leb}, Lists.{head-or}}
 use Rattle.mesh.specs.Limits.{max-radios, row-bytes}
-use Rattle.lists.specs.Lists.{head-or}
-use Rattle.rows.specs.Rows.{neighbours-of, row-listed}
-use Rattle.rows.proofs.RowWords.{row-listed-whole}
+use Rattle.rows.{specs.Rows.{neighbours-of, row-listed}, proofs.RowWords.{row-listed-whole}}
 use Rattle.plan.specs.Places.{stop-place, next-place, beginning-end}
 
 module _ (first size front taken : ℕ) (ds : List ℕ) where

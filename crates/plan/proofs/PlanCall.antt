@@ -1,27 +1,12 @@
 -- The facts that a plan's code hands from call to call, as the code names its values.
-use mathlib.Core.Path.{_≡_, ap, _∙_}
-use mathlib.Core.Bool.{Bool, true, false, not}
-use mathlib.Core.List.{List}
-use Prim.Native.Nat.{ℕ, _+_, _≤_, _<_, min}
-use native.Mathlib.Omega.{arith}
-use lib.Dec.{ltb}
-use lib.ListN.{length, getD, replicate, length-replicate}
-use lib.Seq.{sets}
-use Rattle.mesh.specs.Limits.{max-radios, row-bytes}
-use Rattle.lists.specs.Lists.{range, filter}
-use Rattle.mesh.specs.Graph.{linked}
-use Rattle.mesh.specs.Tables.{tables, byte-at, graph-in}
-use Rattle.mesh.proofs.GraphLaws.{linked-sym}
-use Rattle.mesh.proofs.Links.Call.{linked-positive}
-use Rattle.mesh.specs.Peel.{bound}
-use Rattle.mesh.proofs.Tables.Laws.{marked-replicate}
-use Rattle.plan.specs.Plans.{Ready, Planned}
-use Rattle.plan.specs.Turns.{ends-counted, places-fitting, Begin-ready}
-use Rattle.plan.specs.Places.{level-start, level-size}
-use Rattle.plan.specs.Peels.{stretch, Peel-ready, Peel-done}
-use Rattle.plan.proofs.PlanLevel.{a-below, b-below, number-is, order-radios, level-is, stretch-fits}
-use Rattle.plan.proofs.PlanStart.{begin-ready, peel-ready}
-use Rattle.plan.proofs.PlanEnd.{plan-end}
+use Rattle.lists.specs.{Kit.{_≡_, ap, _∙_, Bool, true, false, not, List, ℕ, _+_, _≤_, _<_, min, arith, ltb, length, getD, replicate, length-replicate, sets}}
+use Rattle.lists.specs.{Lists.{range, filter}}
+use Rattle.mesh.{specs.Limits.{max-radios, row-bytes}, specs.Graph.{linked}, specs.Tables.{tables, byte-at, graph-in}, proofs.GraphLaws.{linked-sym}}
+use Rattle.mesh.{proofs.Links.Call.{linked-positive}, specs.Peel.{bound}, proofs.Tables.Laws.{marked-replicate}}
+use Rattle.plan.specs.{Plans.{Ready, Planned}, Turns.{ends-counted, places-fitting, Begin-ready}, Places.{level-start, level-size}, Peels.{stretch}}
+use Rattle.plan.specs.{Peels.{Peel-ready, Peel-done}}
+use Rattle.plan.proofs.{PlanLevel.{a-below, b-below, number-is, order-radios, level-is, stretch-fits}, PlanStart.{begin-ready, peel-ready}}
+use Rattle.plan.proofs.{PlanEnd.{plan-end}}
 
 module _ {u : Bool} {a b : ℕ} {ts ns os ps cs : List ℕ} (r : Ready u (length os) a b (tables ts ns os) ps cs) where
   abbrev lower : ℕ

@@ -1,30 +1,13 @@
 -- What a plan comes to: the taken, then the stuck, are document 01's layout of the stretch, and one part of them the changed radios.
-use mathlib.Core.Path.{_≡_, refl, sym, ap, ap₂, subst, _∙_}
-use mathlib.Core.Logic.{_⊎_, inl, inr}
-use mathlib.Core.Bool.{Bool, true, false, cond}
-use mathlib.Core.List.{List, [], _++_, append-assoc}
-use Prim.Native.Nat.{ℕ, _+_, _≤_, _<_}
-use native.Mathlib.Omega.{arith}
-use lib.Dec.{ltb}
-use lib.ListN.{length, getD, take, drop, length-append, take-append-drop}
-use lib.Seq.{paste, paste-zero, drop-drop, sets, sets-eq, length-sets, take-at, drop-at, take-take, getD-take, length-take-le}
-use Rattle.mesh.specs.Limits.{max-neighbours, max-radios}
-use Rattle.lists.specs.Lists.{filter, member, In}
-use Rattle.mesh.specs.Graph.{Graph, linked, relinked}
-use Rattle.mesh.specs.Cores.{number}
-use Rattle.mesh.specs.Levels.{changed, lower-level, new-stretch, with-stretch, new-order}
-use Rattle.mesh.specs.Tables.{tables, graph-in}
-use Rattle.lists.proofs.Member.{in-cases, in-getD}
-use Rattle.lists.proofs.Count.{count-all}
-use Rattle.mesh.proofs.Links.LevelCut.{mids, highs}
-use Rattle.mesh.specs.Peel.{bound, Takes, none, Peels}
-use Rattle.mesh.proofs.Links.Peel.{Peeling, takes-permutation, takes-taken-in, takes-now-in}
-use Rattle.plan.specs.Plans.{Ready, Planned}
-use Rattle.plan.specs.Planned.{changed-part}
-use Rattle.plan.specs.Places.{level-start, level-size}
-use Rattle.plan.specs.Peels.{stretch, above, Peel-done}
-use Rattle.plan.proofs.StretchLoops.{length-stretch}
-use Rattle.plan.proofs.PlanLevel.{is-valid, start-is, size-is, stretch-is, above-is, stretch-fits, stretch-number}
+use Rattle.lists.{specs.Kit.{_≡_, refl, sym, ap, ap₂, subst, _∙_, _⊎_, inl, inr, Bool, true, false, cond, List, [], _++_, append-assoc, ℕ, _+_, _≤_, _<_}}
+use Rattle.lists.{specs.Kit.{arith, ltb, length, getD, take, drop, length-append, take-append-drop, paste, paste-zero, drop-drop, sets, sets-eq, length-sets}}
+use Rattle.lists.{specs.Kit.{take-at, drop-at, take-take, getD-take, length-take-le}, specs.Lists.{filter, member, In}, proofs.Member.{in-cases, in-getD}}
+use Rattle.lists.{proofs.Count.{count-all}}
+use Rattle.mesh.{specs.Limits.{max-neighbours, max-radios}, specs.Graph.{Graph, linked, relinked}, specs.Cores.{number}, specs.Levels.{changed, lower-level}}
+use Rattle.mesh.{specs.Levels.{new-stretch, with-stretch, new-order}, specs.Tables.{tables, graph-in}, proofs.Links.LevelCut.{mids, highs}, specs.Peel.{bound}}
+use Rattle.mesh.{specs.Peel.{Takes, none, Peels}, proofs.Links.Peel.{Peeling, takes-permutation, takes-taken-in, takes-now-in}}
+use Rattle.plan.specs.{Plans.{Ready, Planned}, Planned.{changed-part}, Places.{level-start, level-size}, Peels.{stretch, above, Peel-done}}
+use Rattle.plan.proofs.{StretchLoops.{length-stretch}, PlanLevel.{is-valid, start-is, size-is, stretch-is, above-is, stretch-fits, stretch-number}}
 use Rattle.mesh.proofs.Links.Call as link-call
 
 module _ {u : Bool} {a b : ℕ} {ts ns os ps cs : List ℕ} (r : Ready u (length os) a b (tables ts ns os) ps cs) where

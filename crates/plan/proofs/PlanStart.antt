@@ -1,40 +1,19 @@
 -- What a plan starts from: the level's not-lower counts, changed at both ends, count the neighbours after the call among the level
 -- and above; the marked places are the ones that fit. So the peel is ready.
-use mathlib.Core.Path.{_≡_, refl, sym, ap, _∙_}
-use mathlib.Core.Logic.{_⊎_, inl, inr}
-use mathlib.Core.Bool.{Bool, true, false, not, _&&_, _||_, cond}
-use mathlib.Core.List.{List, [], _++_}
-use Prim.Native.Nat.{ℕ, _+_, _-_, _≤_, _<_, min}
-use native.Mathlib.Omega.{arith}
-use lib.Dec.{ltb, leb, eqb}
-use lib.ListN.{length, getD}
-use borrow.Author.Tests.{ltb-true, eqb-true, eqb-false, le-leb, lt-leb}
-use Rattle.mesh.specs.Limits.{max-radios, max-neighbours, row-bytes}
-use Rattle.lists.specs.Lists.{range, count, member, In}
-use Rattle.lists.specs.Facts.{Distinct}
-use Rattle.mesh.specs.Graph.{Graph, radios, linked, neighbours-in, relinked}
-use Rattle.mesh.specs.Cores.{number}
-use Rattle.mesh.specs.Levels.{lower-level}
-use Rattle.mesh.specs.Tables.{tables, marked, graph-in}
-use Rattle.lists.proofs.Tests.{bool-cases, and-left, and-both}
-use Rattle.lists.proofs.Member.{in-cases, member-in, in-member}
-use Rattle.lists.proofs.Count.{count-append, count-pos, count-none, count-ext}
-use Rattle.lists.proofs.Filter.{in-filter}
-use Rattle.lists.proofs.Range.{in-range, range-in, once-in, once-distinct}
-use Rattle.lists.proofs.Distinct.{distinct-right, count-plus-one}
-use Rattle.mesh.proofs.GraphLaws.{ends, ends-of, of-ends, linked-sym, neighbours-in-list, neighbours-in-subset, degree-in}
-use Rattle.mesh.proofs.Links.LevelCut.{lows, mids, highs, level-cut}
-use Rattle.mesh.specs.Peel.{none}
-use Rattle.mesh.proofs.Tables.Relinked.{linked-relinked}
-use Rattle.plan.specs.Plans.{Ready}
-use Rattle.plan.specs.Turns.{end-counted, ends-counted, places-fitting, Begin-ready}
-use Rattle.plan.specs.Places.{level-start, level-size}
-use Rattle.plan.specs.Peels.{stretch, above, linked-after, Turning, Peel-ready}
-use Rattle.plan.proofs.TurnLoops.{length-end-counted, length-places-fitting}
-use Rattle.plan.proofs.BeginLaws.{getD-end-other, getD-end-same, marked-fitting}
-use Rattle.plan.proofs.LevelLaws.{stretch-stands}
-use Rattle.plan.proofs.PlanLevel.{a-below, b-below, is-valid, certified, is-once, number-is, order-radios, level-is, stretch-is, above-is, stretch-fits, stretch-number}
-use Rattle.plan.proofs.PlanLevel.{is-level, row-is}
+use Rattle.lists.{specs.Kit.{_≡_, refl, sym, ap, _∙_, _⊎_, inl, inr, Bool, true, false, not, _&&_, _||_, cond, List, [], _++_, ℕ, _+_, _-_, _≤_, _<_, min}}
+use Rattle.lists.{specs.Kit.{arith, ltb, leb, eqb, length, getD, ltb-true, eqb-true, eqb-false, le-leb, lt-leb}, specs.Lists.{range, count, member, In}}
+use Rattle.lists.{specs.Facts.{Distinct}, proofs.Tests.{bool-cases, and-left, and-both}, proofs.Member.{in-cases, member-in, in-member}}
+use Rattle.lists.{proofs.Count.{count-append, count-pos, count-none, count-ext}, proofs.Filter.{in-filter}, proofs.Range.{in-range, range-in, once-in}}
+use Rattle.lists.{proofs.Range.{once-distinct}, proofs.Distinct.{distinct-right, count-plus-one}}
+use Rattle.mesh.{specs.Limits.{max-radios, max-neighbours, row-bytes}, specs.Graph.{Graph, radios, linked, neighbours-in, relinked}, specs.Cores.{number}}
+use Rattle.mesh.{specs.Levels.{lower-level}, specs.Tables.{tables, marked, graph-in}, proofs.GraphLaws.{ends, ends-of, of-ends, linked-sym, neighbours-in-list}}
+use Rattle.mesh.{proofs.GraphLaws.{neighbours-in-subset, degree-in}, proofs.Links.LevelCut.{lows, mids, highs, level-cut}, specs.Peel.{none}}
+use Rattle.mesh.{proofs.Tables.Relinked.{linked-relinked}}
+use Rattle.plan.specs.{Plans.{Ready}, Turns.{end-counted, ends-counted, places-fitting, Begin-ready}, Places.{level-start, level-size}, Peels.{stretch}}
+use Rattle.plan.specs.{Peels.{above, linked-after, Turning, Peel-ready}}
+use Rattle.plan.proofs.{TurnLoops.{length-end-counted, length-places-fitting}, BeginLaws.{getD-end-other, getD-end-same, marked-fitting}}
+use Rattle.plan.proofs.{LevelLaws.{stretch-stands}, PlanLevel.{a-below, b-below, is-valid, certified, is-once, number-is, order-radios, level-is}}
+use Rattle.plan.proofs.{PlanLevel.{stretch-is, above-is, stretch-fits, stretch-number, is-level, row-is}}
 
 -- ---- laws of lists
 

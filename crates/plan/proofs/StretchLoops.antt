@@ -1,14 +1,7 @@
 -- The loops over a level's stretch, as invariants over what is left of their lists.
 -- In order: what stands at a place of the stretch; its radios that a test passes, listed; whether all of them pass it.
-use mathlib.Core.Path.{_≡_, refl, ap, _∙_}
-use mathlib.Core.Bool.{Bool, true, false}
-use mathlib.Core.List.{List, _∷_}
-use Prim.Native.Nat.{ℕ, _+_, _-_, _≤_, _<_}
-use native.Mathlib.Omega.{arith}
-use native.Mathlib.Numerals.{add-one}
-use lib.ListN.{length, getD, set, drop, length-drop, length-set}
-use lib.Seq.{sets, drop-cons, drop-length, getD-take, getD-drop, length-take-le}
-use Rattle.lists.specs.Lists.{all, filter}
+use Rattle.lists.specs.{Kit.{_≡_, refl, ap, _∙_, Bool, true, false, List, _∷_, ℕ, _+_, _≤_, _<_, arith, add-one, length, getD, set, drop, length-drop}}
+use Rattle.lists.specs.{Kit.{length-set, sets, drop-cons, drop-length, getD-take, getD-drop, length-take-le}, Lists.{all, filter}}
 use Rattle.plan.specs.Peels.{stretch}
 
 -- ---- what stands at a place

@@ -1,21 +1,9 @@
 -- What releasing listed radios comes to: each radio of the level that is listed has a counter one less, and its place is marked
 -- if that counter is then the bound; no other place of the level changes.
-use mathlib.Core.Path.{_≡_, refl, sym, ap, _∙_}
-use mathlib.Core.Logic.{_⊎_, inl, inr}
-use mathlib.Core.Bool.{Bool, true, false, _&&_, _||_, cond, or-true, or-false, and-false}
-use mathlib.Core.List.{List, [], _∷_}
-use Prim.Native.Nat.{ℕ, _+_, _-_, _<_}
-use native.Mathlib.Omega.{arith}
-use lib.Dec.{leb, eqb}
-use lib.ListN.{length, getD, set}
-use lib.Seq.{getD-set-same, getD-set-other}
-use borrow.Author.Tests.{eqb-true, eqb-false, eq-eqb, ne-eqb, leb-true, leb-false, le-leb, lt-leb}
-use Rattle.mesh.specs.Limits.{max-radios, row-bytes}
-use Rattle.lists.specs.Lists.{member}
-use Rattle.mesh.specs.Tables.{byte-at, marked, put-bit}
-use Rattle.lists.proofs.Tests.{never, bool-cases, and-left}
-use Rattle.lists.proofs.Member.{not-member}
-use Rattle.mesh.proofs.Tables.Laws.{marked-put-bit}
+use Rattle.lists.{specs.Kit.{_≡_, refl, sym, ap, _∙_, _⊎_, inl, inr, Bool, true, false, _&&_, _||_, cond, or-true, or-false, and-false, List, [], _∷_, ℕ, _+_}}
+use Rattle.lists.{specs.Kit.{_-_, _<_, arith, leb, eqb, length, getD, set, getD-set-same, getD-set-other, eqb-true, eqb-false, eq-eqb, ne-eqb, leb-true}}
+use Rattle.lists.{specs.Kit.{leb-false, le-leb, lt-leb}, specs.Lists.{member}, proofs.Tests.{never, bool-cases, and-left}, proofs.Member.{not-member}}
+use Rattle.mesh.{specs.Limits.{max-radios, row-bytes}, specs.Tables.{byte-at, marked, put-bit}, proofs.Tables.Laws.{marked-put-bit}}
 use Rattle.plan.specs.Turns.{counter-less, released, place-marked, places-released, Releasable}
 use Rattle.plan.proofs.TurnLoops.{length-place-marked, releasable-tail}
 

@@ -1,32 +1,12 @@
 -- The loops of a turn, as invariants over what is left of their lists.
 -- In order: lengths, the places that fit at the start, radios released: one, of a list, of a word, of a row.
-use mathlib.Core.Path.{_≡_, refl, sym, ap, _∙_}
-use mathlib.Core.Logic.{_⊎_, inl, inr}
-use mathlib.Core.Bool.{Bool, true, false, _&&_, cond}
-use mathlib.Core.List.{List, [], _∷_, _++_}
-use Prim.Native.Nat.{ℕ, suc, _+_, _*_, _-_, _/_, _%_, _^_, _≤_, _<_}
-use native.Mathlib.Omega.{arith}
-use native.Mathlib.Numerals.{add-one}
-use lib.Bits.{bitAnd, and-le-l}
-use lib.Count.{trailingZeros}
-use lib.Dec.{leb, eqb}
-use lib.ListN.{length, getD, set, drop, length-set}
-use lib.Seq.{drop-cons, getD-set-other, drop-length}
-use borrow.Author.Tests.{eq-eqb, ne-eqb}
-use Rattle.mesh.specs.Limits.{max-radios, row-bytes}
-use Rattle.lists.specs.Lists.{range, filter}
-use Rattle.mesh.specs.Tables.{digit, marked, put-bit}
-use Rattle.lists.proofs.Tests.{bool-cases}
-use Rattle.lists.proofs.Member.{in-left}
-use Rattle.lists.proofs.Distinct.{distinct-left}
-use Rattle.lists.proofs.Filter.{filter-filter}
-use Rattle.lists.proofs.Parts.{length-cond}
-use Rattle.mesh.proofs.Tables.Laws.{length-put-bit}
-use Rattle.rows.specs.Rows.{row-from, set-bits, row-word, word-of}
-use Rattle.rows.proofs.WordLaws.{set-bits-nothing, set-bits-lowest}
-use Rattle.rows.proofs.RowWords.{row-from-zero, row-from-end, row-from-word, words-from, marked-word, word-of-whole}
-use Rattle.rows.specs.Sets.{in-set}
-use Rattle.rows.proofs.SetLaws.{digit-and}
+use Rattle.lists.{specs.Kit.{_≡_, refl, sym, ap, _∙_, _⊎_, inl, inr, Bool, true, false, _&&_, cond, List, [], _∷_, _++_, ℕ, suc, _+_, _*_, _-_, _/_, _%_, _^_}}
+use Rattle.lists.{specs.Kit.{_≤_, _<_, arith, add-one, bitAnd, and-le-l, trailingZeros, leb, eqb, length, getD, set, drop, length-set, drop-cons}}
+use Rattle.lists.{specs.Kit.{getD-set-other, drop-length, eq-eqb, ne-eqb}, specs.Lists.{range, filter}, proofs.Tests.{bool-cases}, proofs.Member.{in-left}}
+use Rattle.lists.{proofs.Distinct.{distinct-left}, proofs.Filter.{filter-filter}, proofs.Parts.{length-cond}}
+use Rattle.mesh.{specs.Limits.{max-radios, row-bytes}, specs.Tables.{digit, marked, put-bit}, proofs.Tables.Laws.{length-put-bit}}
+use Rattle.rows.{specs.Rows.{row-from, set-bits, row-word, word-of}, proofs.WordLaws.{set-bits-nothing, set-bits-lowest}, proofs.RowWords.{row-from-zero}}
+use Rattle.rows.{proofs.RowWords.{row-from-end, row-from-word, words-from, marked-word, word-of-whole}, specs.Sets.{in-set}, proofs.SetLaws.{digit-and}}
 use Rattle.plan.specs.Turns.{end-counted, counter-less, released, place-marked, places-released, places-fitting, near-left, Releasable}
 
 -- ---- lengths

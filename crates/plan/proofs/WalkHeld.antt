@@ -1,28 +1,13 @@
 -- What a turn of the walk that holds a radio writes into its tables, as the turns of crate walks ask it: its counter, and the places of its
 -- later neighbours.
-use mathlib.Core.Path.{_≡_, refl, sym, ap, _∙_}
-use mathlib.Core.Logic.{_⊎_, inl, inr}
-use mathlib.Core.Bool.{Bool, true, false, _&&_, _||_, cond}
-use mathlib.Core.List.{List, _∷_}
-use Prim.Native.Nat.{ℕ, _+_, _*_, _-_, _/_, _%_, _≤_, _<_}
-use native.Mathlib.Omega.{arith}
-use lib.Dec.{eqb}
-use lib.ListN.{length, getD, set}
-use borrow.Author.Tests.{eqb-false, ne-eqb}
-use Rattle.mesh.specs.Limits.{max-radios, row-bytes}
-use Rattle.lists.specs.Lists.{In}
-use Rattle.mesh.specs.Tables.{marked, put-bit}
-use Rattle.lists.proofs.Tests.{bool-cases, never}
-use Rattle.lists.proofs.Member.{member-in}
-use Rattle.mesh.proofs.Tables.Laws.{length-put-bit}
-use Rattle.rows.specs.Rows.{neighbours-of}
-use Rattle.rows.proofs.RowListLaws.{in-neighbours-of, member-neighbours-of}
-use Rattle.plan.proofs.TurnLaws.{marked-put, cleared-other}
+use Rattle.lists.{specs.Kit.{_≡_, refl, sym, _∙_, _⊎_, inl, inr, Bool, true, false, List, ℕ, _+_, _-_, _<_, arith, length, getD, set, ne-eqb, getD-set-same}}
+use Rattle.lists.{specs.Kit.{getD-set-other}, specs.Lists.{In}, proofs.Tests.{bool-cases}, proofs.Member.{member-in}}
+use Rattle.mesh.{specs.Limits.{max-radios, row-bytes}, specs.Tables.{marked, put-bit}, proofs.Tables.Laws.{length-put-bit}}
+use Rattle.rows.{specs.Rows.{neighbours-of}, proofs.RowListLaws.{in-neighbours-of, member-neighbours-of}}
+use Rattle.plan.proofs.{TurnLaws.{marked-put, cleared-other}, WalkLoops.{Small, length-touched, touched-keeps, touched-marks, touched-only}}
+use Rattle.plan.proofs.{WalkReleased.{marked-small}}
 use Rattle.walks.proofs.Turns.{Held}
 use Rattle.plan.specs.Walks.{is-later, places-touched}
-use Rattle.plan.proofs.WalkLoops.{Small, length-touched, touched-keeps, touched-marks, touched-only}
-use lib.Seq.{getD-set-same, getD-set-other}
-use Rattle.plan.proofs.WalkReleased.{marked-small}
 
 module _ (f : ℕ → ℕ → Bool) (most first : ℕ) (above part ns ps : List ℕ) (x p c : ℕ) (us : List ℕ)
     (row-is : (w : ℕ) → w < max-radios → marked us x w ≡ f x w) (within : (w : ℕ) → f x w ≡ true → w < max-radios) (cs fs : List ℕ)

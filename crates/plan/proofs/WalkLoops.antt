@@ -1,30 +1,14 @@
 -- The loops of the walk's leaves, and what touching listed radios comes to: places due are kept, and each new one is the place of a listed
 -- radio that stands later in the level.
-use mathlib.Core.Path.{_≡_, refl, sym, ap, _∙_}
-use mathlib.Core.Logic.{_⊎_, inl, inr}
-use mathlib.Core.Bool.{Bool, true, false, cond}
-use mathlib.Core.List.{List, [], _∷_, _++_}
-use Prim.Native.Nat.{ℕ, _+_, _-_, _≤_, _<_}
-use mir.Syntax.{w8}
-use mir.Val.{boolByte, Fits}
-use native.Mathlib.Omega.{arith}
-use lib.Dec.{eqb}
-use lib.ListN.{length, getD, take, drop}
-use lib.Seq.{length-take-le, getD-take, take-take, paste}
+use Rattle.lists.{specs.Kit.{_≡_, refl, sym, ap, _∙_, _⊎_, inl, inr, Bool, true, false, cond, List, [], _∷_, _++_, ℕ, _+_, _-_, _≤_, _<_, arith, eqb, length}}
+use Rattle.lists.{specs.Kit.{getD, take, drop, length-take-le, getD-take, take-take, paste, eqb-true, eq-eqb, ne-eqb, lt-ltb, le-ltb}, specs.Lists.{count}}
+use Rattle.lists.{specs.Lists.{overwrite, In}, specs.Facts.{folded}, proofs.Tests.{bool-cases}, proofs.Member.{in-getD}, proofs.Parts.{length-cond}}
+use Rattle.lists.{proofs.Loops.{Counted-from, counted-turn, counted-end, length-folded}}
+use mir.Val.{boolByte}
 use borrow.Rule.Slice.PartMut.{midOf, putMid, mid-len}
-use borrow.Author.Tests.{eqb-true, eq-eqb, ne-eqb, lt-ltb, le-ltb}
-use Rattle.mesh.specs.Limits.{max-radios, max-neighbours, row-bytes}
-use Rattle.lists.specs.Lists.{count, overwrite, In}
-use Rattle.lists.specs.Facts.{folded}
-use Rattle.mesh.specs.Tables.{marked, put-bit}
-use Rattle.lists.proofs.Tests.{bool-cases, bit-one, byte-bit}
-use Rattle.lists.proofs.Member.{in-getD}
-use Rattle.lists.proofs.Parts.{length-cond}
-use Rattle.lists.proofs.Loops.{Counted-from, counted-turn, counted-end, length-folded}
-use Rattle.mesh.proofs.Tables.Laws.{length-put-bit}
-use Rattle.plan.proofs.Pasted.{put-part}
+use Rattle.mesh.{specs.Limits.{max-radios, row-bytes}, specs.Tables.{marked, put-bit}, proofs.Tables.Laws.{length-put-bit}}
+use Rattle.plan.proofs.{Pasted.{put-part}, TurnLaws.{marked-put}}
 use Rattle.plan.specs.Walks.{is-later, place-touched, places-touched, Known}
-use Rattle.plan.proofs.TurnLaws.{marked-put}
 
 -- ---- listed radios
 

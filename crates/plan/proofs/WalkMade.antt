@@ -1,17 +1,9 @@
 -- The facts that the walk's code hands from call to call, as the code names its values.
-use mathlib.Core.Path.{_≡_, sym, ap, _∙_}
-use mathlib.Core.Bool.{true, false}
-use mathlib.Core.List.{List}
-use Prim.Native.Nat.{ℕ, _+_, _-_, _≤_, _<_}
-use native.Mathlib.Omega.{arith}
-use lib.ListN.{length, getD, set, take}
-use Rattle.mesh.specs.Limits.{max-radios, max-neighbours}
-use Rattle.lists.specs.Lists.{count, head-or}
-use Rattle.mesh.specs.Tables.{marked, put-bit, put-link}
-use Rattle.rows.specs.Rows.{neighbours-of}
-use Rattle.rows.specs.Sets.{put-in, take-out}
-use Rattle.plan.specs.Turns.{released, places-released, Releasable, Row-ready, Lists-neighbours}
-use Rattle.plan.specs.Walks.{is-left, places-touched, radios-of, Known, Walk-site, Walk-state}
+use Rattle.lists.specs.{Kit.{_≡_, sym, ap, _∙_, true, false, List, ℕ, _+_, _-_, _≤_, _<_, arith, length, getD, set, take}, Lists.{count, head-or}}
+use Rattle.mesh.specs.{Limits.{max-radios, max-neighbours}, Tables.{marked, put-bit, put-link}}
+use Rattle.rows.specs.{Rows.{neighbours-of}, Sets.{put-in, take-out}}
+use Rattle.plan.specs.{Turns.{released, places-released, Releasable, Row-ready, Lists-neighbours}, Walks.{is-left, places-touched, radios-of, Known}}
+use Rattle.plan.specs.{Walks.{Walk-site, Walk-state}}
 use Rattle.plan.proofs.WalkTurns as turned
 
 module _ {a b k first size : ℕ} {ts ns tail ps : List ℕ} (s : Walk-site a b k first size ts ns tail ps) where

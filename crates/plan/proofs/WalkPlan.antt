@@ -3,40 +3,21 @@
 --   site           what the walk is made from
 --   walked-plan    the plan of a walk
 --   settled-plan   the plan of the quick path
-use mathlib.Core.Path.{_≡_, refl, sym, ap, subst, _∙_}
-use mathlib.Core.Logic.{_⊎_, inl, inr}
-use mathlib.Core.Bool.{Bool, true, false, cond}
-use mathlib.Core.List.{List, [], _∷_, _++_, append-nil, append-assoc}
-use Prim.Native.Nat.{ℕ, suc, _+_, _*_, _-_, _≤_, _<_, min}
-use native.Mathlib.Omega.{arith}
-use lib.Dec.{ltb, leb, eqb}
-use lib.ListN.{length, getD, take, drop, length-drop, take-append-drop, drop-of-length-le}
-use lib.Seq.{length-take-le, getD-take, getD-drop, drop-cons, drop-drop, drop-append-le, take-take, take-all, paste, paste-zero}
-use borrow.Author.Tests.{ltb-true, ltb-false, lt-ltb, eq-eqb, ne-eqb, leb-true}
-use Rattle.mesh.specs.Limits.{max-radios, max-neighbours, row-bytes}
-use Rattle.lists.specs.Lists.{count, filter, member, In}
-use Rattle.lists.specs.Facts.{Distinct}
-use Rattle.mesh.specs.Graph.{Graph, linked, relinked}
-use Rattle.mesh.specs.Cores.{number}
-use Rattle.mesh.specs.Levels.{changed, lower-level, new-order}
-use Rattle.mesh.specs.Tables.{tables, marked, put-link, graph-in}
-use Rattle.mesh.specs.Peel.{Peels}
-use Rattle.lists.proofs.Tests.{bool-cases}
-use Rattle.lists.proofs.Member.{in-left, in-right, in-cases, in-getD, getD-of-in}
-use Rattle.lists.proofs.Count.{count-append}
-use Rattle.lists.proofs.Filter.{in-filter, filter-in, filter-all, filter-none, filter-append}
-use Rattle.lists.proofs.Range.{once-in, once-below, once-distinct}
-use Rattle.lists.proofs.Distinct.{distinct-right, distinct-apart, permutation-in}
-use Rattle.mesh.proofs.Links.LevelCut.{mids, highs}
-use Rattle.mesh.proofs.Links.Peel.{takes-permutation}
+use Rattle.lists.{specs.Kit.{_≡_, refl, sym, ap, subst, _∙_, _⊎_, inl, inr, Bool, true, false, cond, List, [], _∷_, _++_, append-nil, append-assoc, ℕ, suc}}
+use Rattle.lists.{specs.Kit.{_+_, _*_, _-_, _≤_, _<_, min, arith, ltb, leb, eqb, length, getD, take, drop, length-drop, take-append-drop, drop-of-length-le}}
+use Rattle.lists.{specs.Kit.{length-take-le, getD-take, getD-drop, drop-cons, drop-drop, drop-append-le, take-take, take-all, paste, paste-zero, ltb-true}}
+use Rattle.lists.{specs.Kit.{ltb-false, lt-ltb, eq-eqb, ne-eqb, leb-true}, specs.Lists.{count, filter, member, In}, proofs.Tests.{bool-cases}}
+use Rattle.lists.{proofs.Member.{in-left, in-right, in-cases, in-getD, getD-of-in}, proofs.Count.{count-append}, proofs.Filter.{in-filter, filter-in}}
+use Rattle.lists.{proofs.Filter.{filter-all, filter-none, filter-append}, proofs.Range.{once-in, once-below, once-distinct}, proofs.Distinct.{distinct-right}}
+use Rattle.lists.{proofs.Distinct.{distinct-apart, permutation-in}}
+use Rattle.mesh.{specs.Limits.{max-radios, max-neighbours, row-bytes}, specs.Graph.{Graph, linked, relinked}, specs.Cores.{number}, specs.Levels.{lower-level}}
+use Rattle.mesh.{specs.Levels.{new-order}, specs.Tables.{tables, graph-in}, specs.Peel.{Peels}, proofs.Links.LevelCut.{mids, highs}}
+use Rattle.mesh.{proofs.Links.Peel.{takes-permutation}}
 use Rattle.walks.specs.Walk.{Few-front}
+use Rattle.plan.specs.{Planned.{changed-part}, Plans.{Ready, Planned}, Places.{level-start, level-size, beginning-end}, Peels.{linked-after, Level}}
+use Rattle.plan.specs.{Walks.{radios-of, joined, Walk-site, Walk-done}}
+use Rattle.plan.proofs.PlanLevel.{a-below, b-below, is-valid, is-once, number-is, level-is, above-is, stretch-fits, is-level, row-is, row-few}
 use Rattle.walks.proofs.Beginning as beginning
-use Rattle.plan.specs.Planned.{changed-part}
-use Rattle.plan.specs.Plans.{Ready, Planned}
-use Rattle.plan.specs.Places.{level-start, level-size, beginning-end}
-use Rattle.plan.specs.Peels.{linked-after, Level}
-use Rattle.plan.specs.Walks.{radios-of, joined, Walk-site, Walk-done}
-use Rattle.plan.proofs.PlanLevel.{a-below, b-below, is-valid, is-once, number-is, order-radios, level-is, above-is, stretch-fits, is-level, row-is, row-few}
 
 -- ---- the beginning end
 

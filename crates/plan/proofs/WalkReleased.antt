@@ -1,26 +1,14 @@
 -- What a turn of the walk that takes a radio writes into its tables, as the turns of crate walks ask it: `turn::release` has the table of
 -- candidates in the place of the numbers.
-use mathlib.Core.Path.{_≡_, refl, sym, ap, _∙_}
-use mathlib.Core.Logic.{_⊎_, inl, inr}
-use mathlib.Core.Bool.{Bool, true, false, _&&_, _||_, cond, or-true}
-use mathlib.Core.List.{List, [], _∷_}
-use Prim.Native.Nat.{ℕ, _+_, _*_, _-_, _/_, _%_, _≤_, _<_}
-use native.Mathlib.Omega.{arith}
-use lib.Dec.{ltb, eqb}
-use lib.ListN.{length, getD, List·getD-eq-default}
-use borrow.Author.Tests.{eqb-true, eqb-false, eq-eqb, ne-eqb, ltb-true, ltb-false}
-use Rattle.mesh.specs.Limits.{max-radios, row-bytes}
-use Rattle.lists.specs.Lists.{member, In}
-use Rattle.mesh.specs.Tables.{digit, byte-at, marked, put-bit}
-use Rattle.lists.proofs.Tests.{bool-cases, never, and-left, and-right, or-cases}
-use Rattle.lists.proofs.Member.{member-in, in-member}
-use Rattle.mesh.proofs.Tables.Digits.{digit-nothing}
-use Rattle.mesh.proofs.Tables.Laws.{length-put-bit}
-use Rattle.rows.specs.Rows.{neighbours-of}
-use Rattle.rows.proofs.RowListLaws.{in-neighbours-of, member-neighbours-of}
+use Rattle.lists.{specs.Kit.{_≡_, refl, sym, ap, _∙_, _⊎_, inl, inr, Bool, true, false, _&&_, _||_, cond, or-true, List, [], _∷_, ℕ, _+_, _-_, _%_, _≤_, _<_}}
+use Rattle.lists.{specs.Kit.{arith, ltb, eqb, length, getD, List·getD-eq-default, eqb-true, eq-eqb, ne-eqb, ltb-true, ltb-false}, specs.Lists.{member, In}}
+use Rattle.lists.{proofs.Tests.{bool-cases, never, and-left, and-right, or-cases}, proofs.Member.{member-in, in-member}}
+use Rattle.mesh.{specs.Limits.{max-radios, row-bytes}, specs.Tables.{digit, byte-at, marked, put-bit}, proofs.Tables.Digits.{digit-nothing}}
+use Rattle.mesh.{proofs.Tables.Laws.{length-put-bit}}
+use Rattle.rows.{specs.Rows.{neighbours-of}, proofs.RowListLaws.{in-neighbours-of, member-neighbours-of}}
 use Rattle.plan.specs.Turns.{counter-less, released, place-marked, places-released, Releasable}
-use Rattle.plan.proofs.TurnLoops.{length-place-marked, length-places-released, releasable-tail}
-use Rattle.plan.proofs.TurnLaws.{marked-put, cleared-other, getD-released, marked-released, marked-released-place}
+use Rattle.plan.proofs.{TurnLoops.{length-place-marked, length-places-released, releasable-tail}, TurnLaws.{marked-put, cleared-other, getD-released}}
+use Rattle.plan.proofs.{TurnLaws.{marked-released, marked-released-place}}
 use Rattle.walks.proofs.Turns.{Released}
 
 -- a row has no bit past its bytes

@@ -3,37 +3,18 @@
 --   settled-is    the quick path's count
 --   Walk-from     the loop's invariant
 --   walk-end      what the loop and the listing of the candidates leave
-use mathlib.Core.Path.{_≡_, refl, sym, ap, _∙_}
-use mathlib.Core.Logic.{_⊎_, inl, inr}
-use mathlib.Core.Bool.{Bool, true, false, cond}
-use mathlib.Core.List.{List, [], _∷_, _++_, append-nil}
-use Prim.Native.Nat.{ℕ, zero, suc, _+_, _*_, _-_, _≤_, _<_, min}
-use native.Mathlib.Omega.{arith}
-use native.Mathlib.Nat.{add-zero}
-use lib.Dec.{ltb, leb, eqb}
-use lib.ListN.{length, getD, take, drop, replicate, length-replicate, length-append, drop-of-length-le, take-append-drop}
-use lib.Seq.{length-take-le, sets, sets-eq, length-sets, take-take, take-at, drop-at, drop-cons, paste}
-use borrow.Author.Tests.{leb-true, leb-false, ltb-true, ltb-false, le-ltb}
-use Rattle.mesh.specs.Limits.{max-radios, max-neighbours, row-bytes}
-use Rattle.lists.specs.Lists.{count, head-or, In}
-use Rattle.mesh.specs.Tables.{byte-at, marked, put-link}
-use Rattle.mesh.specs.Peel.{Peels}
-use Rattle.lists.proofs.Tests.{bool-cases, never}
-use Rattle.lists.proofs.Parts.{getD-zeros}
-use Rattle.lists.proofs.Count.{count-append}
-use Rattle.lists.proofs.Member.{in-getD}
-use Rattle.mesh.proofs.Tables.Laws.{marked-replicate}
-use Rattle.rows.specs.Rows.{neighbours-of}
-use Rattle.rows.proofs.RowListLaws.{in-neighbours-of}
-use Rattle.walks.specs.Walk.{Walking}
+use Rattle.lists.{specs.Kit.{_≡_, refl, sym, ap, _∙_, _⊎_, inl, inr, Bool, true, false, List, [], _∷_, _++_, append-nil, ℕ, _+_, _-_, _≤_, _<_, min, arith}}
+use Rattle.lists.{specs.Kit.{add-zero, ltb, leb, eqb, length, getD, take, drop, replicate, length-replicate, length-append, drop-of-length-le}}
+use Rattle.lists.{specs.Kit.{take-append-drop, length-take-le, sets, sets-eq, length-sets, take-take, take-at, drop-at, drop-cons, paste, leb-true, leb-false}}
+use Rattle.lists.{specs.Kit.{ltb-true, ltb-false}, specs.Lists.{count, head-or, In}, proofs.Tests.{bool-cases, never}, proofs.Parts.{getD-zeros}}
+use Rattle.lists.{proofs.Count.{count-append}}
+use Rattle.mesh.{specs.Limits.{max-radios, row-bytes}, specs.Tables.{byte-at, marked, put-link}, specs.Peel.{Peels}, proofs.Tables.Laws.{marked-replicate}}
+use Rattle.rows.{specs.Rows.{neighbours-of}, proofs.RowListLaws.{in-neighbours-of}}
+use Rattle.walks.{specs.Walk.{Walking}, proofs.Front.{few-from-one}}
+use Rattle.plan.specs.{Turns.{Lists-neighbours}, Places.{stop-place, next-place, set-places, entries-at, Stands, Marked-places}, Walks.{is-left}}
+use Rattle.plan.specs.{Walks.{radios-of, joined, Walk-site, Walk-state, Walk-done}}
+use Rattle.plan.proofs.{EntryLists.{marked-none, marked-stand, marked-listed}, LevelLaws.{first-marked-least}, WalkReleased.{marked-small}}
 use Rattle.walks.proofs.Turns as turns
-use Rattle.walks.proofs.Front.{few-from-one}
-use Rattle.plan.specs.Turns.{Lists-neighbours}
-use Rattle.plan.specs.Places.{stop-place, next-place, set-places, entries-at, Stands, Marked-places}
-use Rattle.plan.proofs.EntryLists.{marked-none, marked-stand, marked-listed}
-use Rattle.plan.specs.Walks.{is-left, radios-of, joined, Walk-site, Walk-state, Walk-done}
-use Rattle.plan.proofs.LevelLaws.{first-marked-least}
-use Rattle.plan.proofs.WalkReleased.{marked-small}
 use Rattle.plan.proofs.WalkTurns as turned
 
 -- a row of zeros marks nothing

@@ -3,45 +3,24 @@
 --   look-held, look-taken   the front is looked at
 --   back-done     a candidate is taken back
 --   pass-done     radios are passed
-use mathlib.Core.Path.{_≡_, refl, sym, ap, _∙_}
-use mathlib.Core.Logic.{_⊎_, inl, inr}
-use mathlib.Core.Bool.{Bool, true, false, cond, or-true}
-use mathlib.Core.List.{List, [], _∷_, _++_, append-assoc}
-use Prim.Native.Nat.{ℕ, suc, _+_, _-_, _≤_, _<_}
-use native.Mathlib.Omega.{arith}
-use native.Mathlib.Numerals.{add-one}
-use native.Mathlib.Nat.{le-antisymm}
-use lib.Dec.{ltb, eqb}
-use lib.ListN.{length, getD, set, take, drop, length-set, length-drop, take-append-drop}
-use lib.Seq.{length-take-le, getD-take, getD-drop, getD-set-same, getD-set-other, take-suc-set, drop-cons, paste, take-paste, length-paste}
-use borrow.Author.Tests.{eqb-true, eqb-false, eq-eqb, ne-eqb, lt-ltb, ltb-true}
-use Rattle.mesh.specs.Limits.{max-radios, max-neighbours, row-bytes}
-use Rattle.lists.specs.Lists.{count, head-or, In}
-use Rattle.lists.specs.Facts.{Distinct}
-use Rattle.mesh.specs.Tables.{marked, put-bit, put-link}
-use Rattle.lists.proofs.Tests.{bool-cases, never, and-left, and-right, or-cases}
-use Rattle.lists.proofs.Member.{in-left, in-right, in-cases, in-member, member-in, in-getD, getD-of-in}
-use Rattle.lists.proofs.Count.{count-append, count-pos}
-use Rattle.lists.proofs.Distinct.{count-sub, distinct-left, distinct-right, distinct-mid, permutation-distinct}
-use Rattle.lists.proofs.Ascending.{rising-index}
-use Rattle.lists.proofs.Parts.{take-drop-take}
-use Rattle.mesh.proofs.Tables.Laws.{length-put-bit}
-use Rattle.mesh.proofs.Links.Peel.{takes-permutation}
-use Rattle.rows.specs.Rows.{neighbours-of}
-use Rattle.rows.proofs.RowListLaws.{in-neighbours-of, member-neighbours-of, distinct-neighbours-of}
-use Rattle.rows.specs.Sets.{put-in, take-out}
+use Rattle.lists.{specs.Kit.{_≡_, refl, sym, ap, _∙_, _⊎_, inl, inr, Bool, true, false, cond, or-true, List, [], _∷_, _++_, append-assoc, ℕ, suc, _+_, _-_}}
+use Rattle.lists.{specs.Kit.{_≤_, _<_, arith, add-one, le-antisymm, ltb, eqb, length, getD, set, take, drop, length-set, length-drop, take-append-drop}}
+use Rattle.lists.{specs.Kit.{length-take-le, getD-take, getD-drop, getD-set-same, getD-set-other, take-suc-set, drop-cons, paste, take-paste, length-paste}}
+use Rattle.lists.{specs.Kit.{eqb-true, eqb-false, eq-eqb, ne-eqb, lt-ltb, ltb-true}, specs.Lists.{count, head-or, In}, specs.Facts.{Distinct}}
+use Rattle.lists.{proofs.Tests.{bool-cases, never, and-left, and-right, or-cases}, proofs.Member.{in-left, in-right, in-cases, in-member, member-in, in-getD}}
+use Rattle.lists.{proofs.Member.{getD-of-in}, proofs.Count.{count-append, count-pos}, proofs.Distinct.{count-sub, distinct-left, distinct-right, distinct-mid}}
+use Rattle.lists.{proofs.Distinct.{permutation-distinct}, proofs.Ascending.{rising-index}, proofs.Parts.{take-drop-take}}
+use Rattle.mesh.{specs.Limits.{max-radios, max-neighbours, row-bytes}, specs.Tables.{marked, put-bit, put-link}, proofs.Tables.Laws.{length-put-bit}}
+use Rattle.mesh.{proofs.Links.Peel.{takes-permutation}}
+use Rattle.rows.{specs.Rows.{neighbours-of}, proofs.RowListLaws.{in-neighbours-of, member-neighbours-of, distinct-neighbours-of}, specs.Sets.{put-in, take-out}}
+use Rattle.walks.{specs.Walk.{Part, Walking}, proofs.Front.{few-front-head, few-from-one}}
+use Rattle.plan.specs.{Turns.{released, places-released, Releasable, Row-ready, Near-ready}, Walks.{is-left, is-later, places-touched, radios-of, joined}}
+use Rattle.plan.specs.{Walks.{Known, Walk-site, Walk-state}}
+use Rattle.plan.proofs.{TurnLoops.{length-released, length-places-released}, TurnLaws.{marked-put, marked-released}, LevelLaws.{first-marked-in}}
+use Rattle.plan.proofs.{LevelLaws.{first-marked-least}, WalkLoops.{length-touched, touched-only}, WalkReleased.{marked-small, released-is}}
+use Rattle.plan.proofs.{WalkHeld.{held-is}}
 use Rattle.plan.proofs.EntryLists as entries
-use Rattle.walks.specs.Walk.{Part, Walking}
 use Rattle.walks.proofs.Turns as turns
-use Rattle.walks.proofs.Front.{few-front-head, few-from-one}
-use Rattle.plan.specs.Turns.{released, places-released, Releasable, Row-ready, Near-ready}
-use Rattle.plan.specs.Walks.{is-left, is-later, places-touched, radios-of, joined, Known, Walk-site, Walk-state}
-use Rattle.plan.proofs.TurnLoops.{length-released, length-places-released}
-use Rattle.plan.proofs.TurnLaws.{marked-put, marked-released}
-use Rattle.plan.proofs.LevelLaws.{first-marked-in, first-marked-least}
-use Rattle.plan.proofs.WalkLoops.{length-touched, touched-only}
-use Rattle.plan.proofs.WalkReleased.{marked-small, released-is}
-use Rattle.plan.proofs.WalkHeld.{held-is}
 
 -- ---- what counts
 

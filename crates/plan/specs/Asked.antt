@@ -2,13 +2,8 @@
 --   Asked           the refusal number of questions 1 to 7, and where it is 0 what a plan is made from
 --   Plan-contract   the same number, and where it is 0 the plan
 -- Definitions only.
-use mathlib.Core.Path.{_≡_}
-use mathlib.Core.Bool.{Bool}
-use mathlib.Core.List.{List}
-use Prim.Native.Nat.{ℕ, min}
-use lib.ListN.{length}
-use Rattle.mesh.specs.Tables.{Tables, graph-in}
-use Rattle.mesh.specs.Sound.{sound}
+use Rattle.lists.specs.Kit.{_≡_, Bool, List, ℕ, min, length}
+use Rattle.mesh.specs.{Tables.{Tables, graph-in}, Sound.{sound}}
 use Rattle.calls.specs.Questions.{lengths-of, link-refusal}
 use Rattle.plan.specs.Plans.{Ready, Planned}
 

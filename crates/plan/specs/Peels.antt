@@ -9,17 +9,9 @@
 --   Peel-ready                 the same before the first turn, with rows and room for the loop
 --   Peel-done                  what the loop comes back with: the taken in front of the list, the stuck by their counters
 -- Laws are in proofs/LevelLaws.antt and proofs/PeelTurns.antt. Definitions only.
-use mathlib.Core.Path.{_≡_}
-use mathlib.Core.Bool.{Bool, true, false, not, _&&_}
-use mathlib.Core.List.{List, []}
-use Prim.Native.Nat.{ℕ, _+_, _*_, _≤_, _<_}
-use lib.Dec.{ltb, leb}
-use lib.ListN.{length, getD, take, drop}
-use Rattle.mesh.specs.Limits.{max-radios, row-bytes}
-use Rattle.lists.specs.Lists.{count, filter, member, In}
-use Rattle.mesh.specs.Graph.{linked, relinked}
-use Rattle.mesh.specs.Tables.{marked, put-link, graph-in}
-use Rattle.mesh.specs.Peel.{Takes, Peels}
+use Rattle.lists.specs.{Kit.{_≡_, Bool, true, false, not, _&&_, List, [], ℕ, _+_, _*_, _≤_, _<_, ltb, leb, length, getD, take, drop}, Lists.{count, filter}}
+use Rattle.lists.specs.{Lists.{member, In}}
+use Rattle.mesh.specs.{Limits.{max-radios, row-bytes}, Graph.{linked, relinked}, Tables.{marked, put-link, graph-in}, Peel.{Takes, Peels}}
 use Rattle.rows.specs.Sets.{in-set}
 use Rattle.plan.specs.Places.{level-start, level-size}
 

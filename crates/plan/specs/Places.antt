@@ -10,16 +10,10 @@
 --   Stands first size ps       all of ps are places of it
 --   Marked-places              a set of words that tells the places of marked entries
 -- Laws are in proofs/PlaceLaws.antt. Definitions only.
-use mathlib.Core.Path.{_≡_}
-use mathlib.Core.Bool.{Bool, true, cond}
-use mathlib.Core.List.{List, map}
-use Prim.Native.Nat.{ℕ, suc, _+_, _-_, _≤_, _<_}
-use lib.Dec.{ltb, leb, eqb}
-use lib.ListN.{length, getD}
+use Rattle.lists.specs.{Kit.{_≡_, Bool, true, cond, List, map, ℕ, suc, _+_, _-_, _≤_, _<_, ltb, leb, eqb, length, getD}, Lists.{count, filter, head-or, range}}
+use Rattle.lists.specs.{Lists.{In}}
 use Rattle.mesh.specs.Limits.{max-radios}
-use Rattle.lists.specs.Lists.{count, filter, head-or, range, In}
-use Rattle.rows.specs.Rows.{neighbours-of}
-use Rattle.rows.specs.Sets.{in-set}
+use Rattle.rows.specs.{Rows.{neighbours-of}, Sets.{in-set}}
 
 abbrev pub level-start : (numbers : List ℕ) → (k : ℕ) → ℕ
 level-start ns k = count (λ x. ltb x k) ns

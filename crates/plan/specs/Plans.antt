@@ -3,21 +3,9 @@
 --   Planned        what a plan says
 --   Applicable     what a plan is applied to: a valid site with its core numbers, a call that is allowed, room for the answer
 -- Definitions only.
-use mathlib.Core.Path.{_≡_}
-use mathlib.Core.Bool.{Bool, true}
-use mathlib.Core.List.{List}
-use Prim.Native.Nat.{ℕ, _+_, _*_, _≤_, _<_}
-use lib.Dec.{leb}
-use lib.ListN.{length, getD}
-use lib.Seq.{paste}
-use Rattle.mesh.specs.Limits.{max-radios, max-neighbours, row-bytes}
-use Rattle.lists.specs.Lists.{member}
-use Rattle.mesh.specs.Graph.{Graph, neighbours-in, Allowed}
-use Rattle.mesh.specs.Cores.{number, numbers}
-use Rattle.mesh.specs.Levels.{changed, lower-level, stretch-start, stretch-length, new-order}
-use Rattle.mesh.specs.Tables.{Tables, graph-in}
-use Rattle.mesh.specs.Sound.{sound}
-use Rattle.mesh.specs.Valid.{Valid}
+use Rattle.lists.specs.{Kit.{_≡_, Bool, true, List, ℕ, _+_, _*_, _≤_, _<_, leb, length, getD, paste}, Lists.{member}}
+use Rattle.mesh.specs.{Limits.{max-radios, max-neighbours, row-bytes}, Graph.{Graph, neighbours-in, Allowed}, Cores.{number, numbers}, Levels.{changed}}
+use Rattle.mesh.specs.{Levels.{lower-level, stretch-start, stretch-length, new-order}, Tables.{Tables, graph-in}, Sound.{sound}, Valid.{Valid}}
 use Rattle.plan.specs.Planned.{changed-part}
 
 -- places and highs have where each radio of the lower end's level stands, and how many neighbours it has that are not below it; of

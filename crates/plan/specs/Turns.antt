@@ -15,19 +15,10 @@
 --   Near-ready                    the same, and room for the neighbours of v after the link a-b went up or down
 --   Lists-neighbours ts v r xs    the first r entries of xs are the radios that row v of ts marks
 -- Laws are in proofs/TurnLaws.antt. Definitions only.
-use mathlib.Core.Path.{_≡_}
-use mathlib.Core.Logic.{_⊎_}
-use mathlib.Core.Bool.{Bool, true, false, not, _&&_, _||_, cond}
-use mathlib.Core.List.{List, [], _∷_}
-use Prim.Native.Nat.{ℕ, suc, _+_, _*_, _-_, _≤_, _<_, min}
-use lib.Dec.{leb, eqb}
-use lib.ListN.{length, getD, set, take}
-use Rattle.mesh.specs.Limits.{max-radios, max-neighbours, row-bytes}
-use Rattle.mesh.specs.Tables.{put-bit, put-link}
-use Rattle.lists.specs.Lists.{filter, In}
-use Rattle.lists.specs.Facts.{Distinct}
-use Rattle.rows.specs.Rows.{neighbours-of}
-use Rattle.rows.specs.Sets.{in-set}
+use Rattle.lists.specs.{Kit.{_≡_, _⊎_, Bool, true, false, not, _&&_, _||_, cond, List, [], _∷_, ℕ, suc, _+_, _*_, _-_, _≤_, _<_, min, leb, eqb, length, getD}}
+use Rattle.lists.specs.{Kit.{set, take}, Lists.{filter, In}, Facts.{Distinct}}
+use Rattle.mesh.specs.{Limits.{max-radios, max-neighbours, row-bytes}, Tables.{put-bit, put-link}}
+use Rattle.rows.specs.{Rows.{neighbours-of}, Sets.{in-set}}
 
 unfoldable pub end-counted : (up : Bool) → (k : ℕ) → (numbers : List ℕ) → (v : ℕ) → (counters : List ℕ) → List ℕ
 end-counted up k ns v cs = cond (eqb (getD ns v 0) k) (set cs v (cond up (getD cs v 0 + 1) (getD cs v 0 - 1))) cs

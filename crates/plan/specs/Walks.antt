@@ -10,22 +10,12 @@
 --   Walk-state                   so many radios are taken, how far the front is, the candidates, their counters, the places due, the list
 --   Walk-done                    what the walk comes back with
 -- Laws are in proofs/WalkLoops.antt, proofs/WalkTables.antt and proofs/WalkTurns.antt. Definitions only.
-use mathlib.Core.Path.{_≡_}
-use mathlib.Core.Logic.{_⊎_}
-use mathlib.Core.Bool.{Bool, true, false, _&&_, _||_, cond}
-use mathlib.Core.List.{List, [], _++_}
-use Prim.Native.Nat.{ℕ, _+_, _*_, _-_, _≤_, _<_, min}
-use lib.Dec.{ltb, leb, eqb}
-use lib.ListN.{length, getD, take, drop}
-use Rattle.mesh.specs.Limits.{max-radios, max-neighbours, row-bytes}
-use Rattle.lists.specs.Facts.{folded, Distinct}
-use Rattle.lists.specs.Lists.{In}
-use Rattle.mesh.specs.Tables.{marked, put-bit, put-link}
-use Rattle.mesh.specs.Peel.{Peels}
+use Rattle.lists.specs.{Kit.{_≡_, _⊎_, Bool, true, false, _&&_, _||_, cond, List, [], _++_, ℕ, _+_, _*_, _-_, _≤_, _<_, min, ltb, eqb, length, getD, take}}
+use Rattle.lists.specs.{Kit.{drop}, Facts.{folded, Distinct}, Lists.{In}}
+use Rattle.mesh.specs.{Limits.{max-radios, max-neighbours, row-bytes}, Tables.{marked, put-bit, put-link}, Peel.{Peels}}
 use Rattle.rows.specs.Rows.{neighbours-of}
 use Rattle.walks.specs.Walk.{Few-front, Walking}
-use Rattle.plan.specs.Places.{beginning-end, Marked-places}
-use Rattle.plan.specs.Peels.{linked-after}
+use Rattle.plan.specs.{Places.{beginning-end, Marked-places}, Peels.{linked-after}}
 
 unfoldable pub is-left : (k p : ℕ) → (numbers places held : List ℕ) → (w : ℕ) → Bool
 is-left k p ns ps hs w = cond (eqb (getD ns w 0) k) (ltb p (getD ps w 0) || eqb (getD hs w 0) 1) (ltb k (getD ns w 0))

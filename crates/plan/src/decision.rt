@@ -1,9 +1,6 @@
 // The plan of a link call: its questions, and the lower end's stretch laid out anew, by one peel up and down alike, or going up by the walk.
 // Nothing of the tables is written.
-ghost use mathlib.Core.Path.{_≡_};
-ghost use mathlib.Core.Bool.{true, false};
-ghost use Prim.Native.Nat.{_≤_, _<_, _+_, min};
-ghost use lib.ListN.{length, getD};
+ghost use Rattle.lists.specs.Kit.{_≡_, true, false, _≤_, _<_, _+_, min, length, getD};
 ghost use Rattle.lists.specs.Lists.{range};
 ghost use Rattle.mesh.specs.Limits.{max-radios};
 ghost use Rattle.mesh.specs.Tables.{tables, graph-in};

@@ -1,7 +1,5 @@
 // The plan of a link going down: both ends lose a neighbour, and where one of them then falls short its level is peeled.
-ghost use mathlib.Core.Path.{_≡_};
-ghost use mathlib.Core.Bool.{false};
-ghost use lib.ListN.{length};
+ghost use Rattle.lists.specs.Kit.{_≡_, false, length};
 ghost use Rattle.mesh.specs.Limits.{max-radios};
 ghost use Rattle.mesh.specs.Tables.{tables, graph-in};
 ghost use Rattle.plan.specs.Plans.{Ready, Planned};

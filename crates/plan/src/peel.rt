@@ -1,8 +1,5 @@
 // The peel of a level: the radios that have too few neighbours are taken in turn, up and down alike.
-ghost use mathlib.Core.Path.{_≡_};
-ghost use mathlib.Core.Bool.{true, false};
-ghost use Prim.Native.Nat.{_≤_, _<_, _+_, min};
-ghost use lib.ListN.{length, getD};
+ghost use Rattle.lists.specs.Kit.{_≡_, true, false, _≤_, _<_, _+_, min, length, getD};
 ghost use Rattle.lists.specs.Lists.{range};
 ghost use Rattle.mesh.specs.Limits.{max-radios};
 ghost use Rattle.mesh.specs.Tables.{tables, graph-in};

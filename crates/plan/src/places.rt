@@ -1,9 +1,5 @@
 // Sets of places, kept as one row, and where the next turn of a walk is.
-ghost use mathlib.Core.Path.{_≡_};
-ghost use mathlib.Core.Bool.{true};
-ghost use Prim.Native.Nat.{ℕ, _+_, _*_, _≤_, _<_};
-ghost use lib.ListN.{length};
-ghost use lib.Seq.{sets};
+ghost use Rattle.lists.specs.Kit.{_≡_, true, ℕ, _+_, _*_, _≤_, _<_, length, sets};
 ghost use Rattle.mesh.specs.Limits.{max-radios};
 ghost use Rattle.lists.specs.Lists.{In};
 ghost use Rattle.mesh.specs.Tables.{put-bit};

@@ -1,6 +1,5 @@
 // The questions of a link call, in turn. Nothing is written but the scratch that a plan is made from.
-ghost use Prim.Native.Nat.{_≤_};
-ghost use lib.ListN.{length};
+ghost use Rattle.lists.specs.Kit.{_≤_, length};
 ghost use Rattle.mesh.specs.Limits.{max-radios};
 ghost use Rattle.mesh.specs.Lent.{lent};
 ghost use Rattle.plan.specs.Asked.{Asked};

@@ -1,8 +1,5 @@
 // The plan of a link going up: nothing, the whole level as it stands, a walk from the beginning end on, or the peel of a small level.
-ghost use mathlib.Core.Path.{_≡_};
-ghost use mathlib.Core.Bool.{true};
-ghost use Prim.Native.Nat.{ℕ, _≤_, _<_, _+_};
-ghost use lib.ListN.{length, getD};
+ghost use Rattle.lists.specs.Kit.{_≡_, true, ℕ, _≤_, _<_, _+_, length, getD};
 ghost use Rattle.lists.specs.Lists.{all};
 ghost use Rattle.mesh.specs.Limits.{max-radios};
 ghost use Rattle.mesh.specs.Tables.{tables, graph-in};

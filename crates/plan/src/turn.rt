@@ -1,8 +1,5 @@
 // One turn of the peel: a radio is taken, and its neighbours after the call have one neighbour less that can still be taken.
-ghost use mathlib.Core.Path.{_≡_};
-ghost use mathlib.Core.Bool.{false};
-ghost use Prim.Native.Nat.{ℕ, suc, _≤_, _<_, _+_, _*_, min};
-ghost use lib.ListN.{length, getD, take};
+ghost use Rattle.lists.specs.Kit.{_≡_, false, ℕ, suc, _≤_, _<_, _+_, _*_, min, length, getD, take};
 ghost use Rattle.mesh.specs.Limits.{max-radios, max-neighbours, row-bytes};
 ghost use Rattle.lists.specs.Lists.{range};
 ghost use Rattle.mesh.specs.Tables.{put-bit, put-link};

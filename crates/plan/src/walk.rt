@@ -2,12 +2,7 @@
 // forward through its level. A radio that has more than `most` neighbours among what is above, what stands later in the level and the
 // candidates becomes a candidate; one that has not is taken, and a candidate that then falls short is taken back, the first in the order
 // first. What is no candidate's neighbour is passed without a look at its row. The order is lent from the beginning end's place on.
-ghost use mathlib.Core.Path.{_≡_};
-ghost use mathlib.Core.Bool.{false};
-ghost use Prim.Native.Nat.{ℕ, _≤_, _<_, _+_, _-_};
-ghost use lib.ListN.{length, getD, take, drop};
-ghost use lib.Seq.{paste};
-ghost use lib.Dec.{leb};
+ghost use Rattle.lists.specs.Kit.{_≡_, false, ℕ, _≤_, _<_, _+_, _-_, length, getD, take, drop, paste, leb};
 ghost use Rattle.mesh.specs.Limits.{max-radios, max-neighbours, row-bytes};
 ghost use Rattle.lists.specs.Lists.{count, head-or};
 ghost use Rattle.mesh.specs.Tables.{marked};

@@ -2,11 +2,7 @@
 // radio at the front is what is left: the order from the beginning end on, without the taken. Numbers never fall along the order, so what
 // stands there is above, later in the level, or a candidate. It is counted in eight words. Neighbours of candidates are kept as a set of
 // radios, row joined to row, and only candidates that fell short are due, by place.
-ghost use mathlib.Core.Path.{_≡_};
-ghost use mathlib.Core.Bool.{false};
-ghost use mathlib.Core.List.{List};
-ghost use Prim.Native.Nat.{ℕ, _≤_, _<_, _+_};
-ghost use lib.ListN.{length};
+ghost use Rattle.lists.specs.Kit.{_≡_, false, List, ℕ, _≤_, _<_, _+_, length};
 ghost use Rattle.mesh.specs.Limits.{max-radios};
 ghost use Rattle.lists.specs.Lists.{head-or};
 ghost use Rattle.rows.specs.Sets.{in-set, common};

@@ -1,23 +1,11 @@
 -- What a read found, and reads one after another.
-use mathlib.Core.Path.{_≡_, refl, sym, ap, subst, _∙_}
-use mathlib.Core.Bool.{Bool, true, false, cond}
-use mathlib.Core.List.{List, [], _∷_, _++_, append-nil}
-use Prim.Native.Nat.{ℕ, zero, suc, _≤_, _<_, _+_, _-_, min}
-use native.Mathlib.Omega.{arith}
-use lib.Dec.{eqb}
-use lib.IntN.{ℤ, pos, negsuc}
-use lib.ListN.{length, take, drop, length-take}
-use lib.Seq.{take-at}
-use mir.Syntax.{w32, w64}
-use mir.Val.{SFits, toZ, ofZ}
-use mir.Facts.{toZ-ofZ}
-use borrow.Author.Tests.{eq-eqb, ne-eqb}
-use Rattle.io.specs.Counts.{Counts, clamped}
-use Rattle.io.proofs.Counting.{counts}
-use Rattle.text.specs.Print.{Buffer, buffer-at, put, Puts, max-place}
-use Rattle.text.proofs.PrintLaws.{puts-append, at-put, length-put, puts-whole}
-use Rattle.player.specs.Reads.{goes-on, at-end, unread, is-error, failure, is-failed, by-count, found, Found, Read, input-of, Going, To-end, Fills-on, Fills}
-use Rattle.player.specs.declared.input.Brought.{Brought}
+use Rattle.lists.specs.Kit.{_≡_, refl, sym, ap, _∙_, Bool, true, false, cond, List, [], _∷_, _++_, ℕ, zero, suc, _≤_, _<_, _+_, min, arith, ℤ, pos, negsuc}
+use Rattle.lists.specs.Kit.{length, take, drop, length-take, take-at, eq-eqb, ne-eqb}
+use mir.{Syntax.{w32, w64}, Val.{SFits, toZ, ofZ}, Facts.{toZ-ofZ}}
+use Rattle.io.{specs.Counts.{Counts, clamped}, proofs.Counting.{counts}}
+use Rattle.text.{specs.Print.{Buffer, buffer-at, put, Puts, max-place}, proofs.PrintLaws.{puts-append, at-put, length-put, puts-whole}}
+use Rattle.player.specs.{Reads.{goes-on, at-end, unread, is-error, failure, is-failed, by-count, found, Found, Read, input-of, Going, To-end, Fills-on}}
+use Rattle.player.specs.{Reads.{Fills}, declared.input.Brought.{Brought}}
 
 -- ---- errors, from the bits that the code compares
 

@@ -2,41 +2,20 @@
 --   writes-..      what is written and what waits
 --   chunk-..       the loop of `reading::take_chunk`
 --   read-..        the loop of `reading::read_turns`
-use mathlib.Core.Path.{_≡_, refl, sym, ap, subst, _∙_}
-use mathlib.Core.Logic.{_⊎_, inl, inr}
-use mathlib.Core.Bool.{Bool, true, false, cond, true≢false}
-use mathlib.Core.List.{List, [], _∷_, _++_, append-assoc, append-nil}
-use Prim.Native.Nat.{ℕ, zero, suc, _+_, _-_, _*_, _≤_, _<_}
-use native.Mathlib.Omega.{arith}
-use native.Mathlib.Numerals.{add-one}
-use lib.Dec.{ltb, eqb}
-use lib.ListN.{length, take, drop, getD, replicate, length-append, length-replicate, length-take}
-use lib.Seq.{take-suc, take-at, take-all, length-take-le}
-use borrow.Author.Tests.{ltb-true, lt-ltb, le-ltb, ne-eqb}
-use Rattle.lists.proofs.Tests.{bool-cases, cond-false}
-use Rattle.mesh.specs.Limits.{max-radios, row-bytes}
-use Rattle.mesh.specs.Tables.{Tables, tables}
-use Rattle.lists.specs.Lists.{In}
-use Rattle.lists.proofs.Range.{length-range}
-use Rattle.calls.specs.Questions.{lengths-of, lent-refusal, tables-refusal}
-use Rattle.calls.specs.Outcomes.{Numbered, clear-outcome}
-use Rattle.calls.specs.Contracts.{Clear-contract}
-use Rattle.calls.proofs.ChainLaws.{lent-yes}
-use Rattle.calls.proofs.ContractLaws.{by-zero}
-use Rattle.text.specs.Print.{Buffer, buffer-at, put, Puts, max-place}
-use Rattle.player.specs.Reads.{goes-on, at-end, Found, Read, input-of, Going, Unbroken, To-end}
-use Rattle.player.proofs.ReadLaws.{none-found, take-none}
-use Rattle.text.proofs.PrintLaws.{put-fits}
-use Rattle.player.specs.Lines.{Prints}
-use Rattle.player.specs.Machine.{Spot, spot, Marked, Takes, Takes-all, full, line-room, closing, ending}
-use Rattle.player.specs.Reading.{chunk-room, waiting, Writes, room-made, Room-made, broken-off, Ready, Site-lent, Site-cleared, Site-sized, Takes-chunk, Ended}
-use Rattle.player.specs.Reading.{Broken, Takes-read, Found-by, Reads-once, Reads-all}
-use Rattle.player.specs.Play.{lines-of, cleared}
-use Rattle.player.specs.Whole.{Lines-print, Run-from}
-use Rattle.player.specs.declared.machine.Progress.{Progress}
-use Rattle.player.proofs.BytesLaws.{takes-more, takes-append}
-use Rattle.player.proofs.SizeLaws.{takes-length, takes-number, takes-all-number, closing-length}
-use Rattle.player.proofs.WholeLaws.{bytes-print, ending-dead, ending-live}
+use Rattle.lists.{specs.Kit.{_≡_, refl, sym, ap, subst, _∙_, _⊎_, inl, inr, Bool, true, false, cond, true≢false, List, [], _∷_, _++_, append-assoc, append-nil}}
+use Rattle.lists.{specs.Kit.{ℕ, zero, suc, _+_, _-_, _*_, _≤_, _<_, arith, add-one, ltb, eqb, length, take, drop, getD, replicate, length-append}}
+use Rattle.lists.{specs.Kit.{length-replicate, length-take, take-suc, take-at, take-all, length-take-le, ltb-true, lt-ltb, le-ltb, ne-eqb}}
+use Rattle.lists.{proofs.Tests.{bool-cases, cond-false}, specs.Lists.{In}, proofs.Range.{length-range}}
+use Rattle.mesh.specs.{Limits.{max-radios, row-bytes}, Tables.{Tables, tables}}
+use Rattle.calls.{specs.Questions.{lengths-of, lent-refusal, tables-refusal}, specs.Outcomes.{Numbered, clear-outcome}, specs.Contracts.{Clear-contract}}
+use Rattle.calls.{proofs.ChainLaws.{lent-yes}, proofs.ContractLaws.{by-zero}}
+use Rattle.text.{specs.Print.{Buffer, buffer-at, put, Puts, max-place}, proofs.PrintLaws.{put-fits}}
+use Rattle.player.specs.{Reads.{goes-on, at-end, Found, Read, input-of, Going, Unbroken, To-end}, Lines.{Prints}, Machine.{Spot, spot, Marked, Takes}}
+use Rattle.player.specs.{Machine.{Takes-all, full, line-room, closing, ending}, Reading.{chunk-room, waiting, Writes, room-made, Room-made, broken-off}}
+use Rattle.player.specs.{Reading.{Ready, Site-lent, Site-cleared, Site-sized, Takes-chunk, Ended, Broken, Takes-read, Found-by, Reads-once, Reads-all}}
+use Rattle.player.specs.{Play.{lines-of, cleared}, Whole.{Lines-print, Run-from}, declared.machine.Progress.{Progress}}
+use Rattle.player.proofs.{ReadLaws.{none-found, take-none}, BytesLaws.{takes-more, takes-append}, SizeLaws.{takes-length, takes-number}}
+use Rattle.player.proofs.{SizeLaws.{takes-all-number, closing-length}, WholeLaws.{bytes-print, ending-dead, ending-live}}
 
 -- ---- what is written and what waits
 

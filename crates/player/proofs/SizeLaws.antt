@@ -1,34 +1,15 @@
 -- How much a byte of the input and its end print at most, and how far the line's number goes.
-use mathlib.Core.Path.{_≡_, refl, sym, ap, subst}
-use mathlib.Core.Logic.{inl, inr}
-use mathlib.Core.Bool.{Bool, true, false}
-use mathlib.Core.List.{List, [], _∷_, map}
-use Prim.Native.Nat.{ℕ, zero, suc, _+_, _^_, _≤_, _<_}
-use native.Mathlib.Omega.{arith}
-use lib.IntN.{pos, natAbs}
-use lib.ListN.{length, take, length-append}
-use Rattle.mesh.specs.Limits.{max-radios}
-use Rattle.lists.specs.Lists.{range, In}
-use Rattle.mesh.specs.Graph.{Graph, radios}
-use Rattle.mesh.specs.Levels.{changed, step-of}
-use Rattle.mesh.specs.Sound.{sound}
-use Rattle.mesh.specs.Tables.{Tables, graph-in}
-use Rattle.lists.proofs.Filter.{in-filter, filter-le}
-use Rattle.lists.proofs.Range.{length-range, range-in}
-use Rattle.lists.proofs.Overwrite.{take-overwrite}
-use Rattle.text.specs.Text.{bytes-of, decimal, printed-line}
-use Rattle.calls.specs.Replay.{link-line, bad-line, numbers-line, order-line, closing-lines}
-use Rattle.calls.specs.Questions.{ask, Lengths, lengths-of, link-refusal, site-refusal, lent-refusal, ends-refusal}
-use Rattle.calls.specs.Outcomes.{by-number, Linked, linked-with, link-outcome}
-use Rattle.calls.specs.Contracts.{Link-contract}
-use Rattle.calls.proofs.ChainLaws.{link-zero}
-use Rattle.script.specs.Lines.{line-of}
-use Rattle.text.specs.Print.{max-place}
-use Rattle.script.specs.declared.lines.Line.{Line}
-use Rattle.script.specs.declared.lines.Line.the-variants.{Radios, Up, Down, Bad}
-use Rattle.script.proofs.LengthLaws.{length-line-le, length-link-line-le}
-use Rattle.player.specs.Lines.{Called, Played}
-use Rattle.player.specs.Machine.{Spot, Line-ends, Step, Takes, Takes-all, longest, closing-longest, closing}
+use Rattle.lists.{specs.Kit.{_≡_, refl, sym, ap, subst, inl, inr, Bool, true, false, List, [], _∷_, map, ℕ, zero, suc, _+_, _^_, _≤_, _<_, arith, pos, natAbs}}
+use Rattle.lists.{specs.Kit.{length, take, length-append}, specs.Lists.{range, In}, proofs.Filter.{in-filter, filter-le}, proofs.Range.{length-range, range-in}}
+use Rattle.lists.{proofs.Overwrite.{take-overwrite}}
+use Rattle.mesh.specs.{Limits.{max-radios}, Graph.{Graph, radios}, Levels.{changed, step-of}, Sound.{sound}, Tables.{Tables, graph-in}}
+use Rattle.text.specs.{Text.{bytes-of, decimal, printed-line}, Print.{max-place}}
+use Rattle.calls.{specs.Replay.{link-line, bad-line, numbers-line, order-line, closing-lines}, specs.Questions.{ask, Lengths, lengths-of, link-refusal}}
+use Rattle.calls.{specs.Questions.{site-refusal, lent-refusal, ends-refusal}, specs.Outcomes.{by-number, Linked, linked-with, link-outcome}}
+use Rattle.calls.{specs.Contracts.{Link-contract}, proofs.ChainLaws.{link-zero}}
+use Rattle.script.{specs.Lines.{line-of}, specs.declared.lines.Line.{Line}, specs.declared.lines.Line.the-variants.{Radios, Up, Down, Bad}}
+use Rattle.script.{proofs.LengthLaws.{length-line-le, length-link-line-le}}
+use Rattle.player.specs.{Lines.{Called, Played}, Machine.{Spot, Line-ends, Step, Takes, Takes-all, longest, closing-longest, closing}}
 
 -- ---- the reply of a call
 

@@ -1,21 +1,11 @@
 -- The status of a run: 0 only where all is read to its end and played.
-use mathlib.Core.Path.{_≡_, refl, sym, subst, _∙_}
-use mathlib.Core.Bool.{true, false, true≢false}
-use mathlib.Core.List.{List, [], _∷_}
-use Prim.Native.Nat.{ℕ, zero, suc, _≤_, _<_}
-use native.Mathlib.Omega.{arith}
-use lib.IntN.{ℤ, pos, negsuc}
-use lib.ListN.{take}
+use Rattle.lists.specs.Kit.{_≡_, refl, sym, subst, _∙_, true, false, true≢false, List, [], _∷_, ℕ, zero, suc, _≤_, _<_, arith, ℤ, pos, negsuc, take, ltb-true}
 use lib.Signed.{ltZ, nonNeg}
-use borrow.Author.Tests.{ltb-true}
 use Rattle.text.specs.Print.{Buffer}
-use Rattle.player.specs.Reads.{goes-on, at-end, Found, Read, input-of, Going, Unbroken, To-end}
-use Rattle.player.specs.declared.input.Brought.{Brought}
+use Rattle.player.specs.{Reads.{goes-on, at-end, Found, Read, Going, Unbroken, To-end}, declared.input.Brought.{Brought}, Reading.{Reads-all}}
+use Rattle.player.specs.{Reading.{Reads-first, Concluded, Played-to-end, Lines-status, Run-status, Copies-once, Copied}, declared.first.First.{First}}
+use Rattle.player.specs.{declared.machine.Progress.{Progress}}
 use Rattle.player.proofs.ReadLaws.{none-found, take-none}
-use Rattle.player.specs.Play.{radios-of}
-use Rattle.player.specs.Reading.{Reads-all, Reads-first, Concluded, Played-to-end, Lines-status, Run-to-end, Run-status, Copies-once, Copied}
-use Rattle.player.specs.declared.first.First.{First}
-use Rattle.player.specs.declared.machine.Progress.{Progress}
 
 -- ---- the end of a run
 

@@ -19,22 +19,11 @@
 --   Copies-once, Copied      one read of the keep; all reads, to its end
 -- No contract can say what a read brings or a write takes: of both there are some bytes, `Read` and `written` below.
 -- Definitions only.
-use mathlib.Core.Path.{_≡_}
-use mathlib.Core.Bool.{true, false, cond}
-use mathlib.Core.List.{List, _++_}
-use Prim.Native.Nat.{ℕ, zero, suc, _+_, _*_, _≤_, _<_}
-use lib.Dec.{ltb}
-use lib.ListN.{length, take, replicate}
-use Rattle.mesh.specs.Limits.{max-radios, row-bytes}
-use Rattle.mesh.specs.Tables.{Tables}
+use Rattle.lists.specs.Kit.{_≡_, true, false, cond, List, _++_, ℕ, zero, suc, _+_, _*_, _≤_, _<_, ltb, length, take, replicate}
+use Rattle.mesh.specs.{Limits.{max-radios, row-bytes}, Tables.{Tables}}
 use Rattle.text.specs.Print.{Buffer, buffer-at, max-place}
-use Rattle.player.specs.Reads.{goes-on, at-end, Read, input-of, Going, Unbroken, To-end}
-use Rattle.player.specs.Play.{radios-of}
-use Rattle.player.specs.declared.first.First.{First}
-use Rattle.player.specs.Machine.{Spot, Takes-all, ending, full}
-use Rattle.player.specs.Play.{cleared}
-use Rattle.player.specs.Whole.{Run-from}
-use Rattle.player.specs.declared.machine.Progress.{Progress}
+use Rattle.player.specs.{Reads.{goes-on, at-end, Read, input-of, Going, Unbroken, To-end}, Play.{radios-of, cleared}, declared.first.First.{First}}
+use Rattle.player.specs.{Machine.{Spot, Takes-all, ending, full}, Whole.{Run-from}, declared.machine.Progress.{Progress}}
 
 -- the bytes that one read can bring
 abbrev pub chunk-room : ℕ

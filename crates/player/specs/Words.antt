@@ -3,12 +3,7 @@
 --   descriptor-of word      the descriptor of a word of one digit; -1 for any other
 --   start-of first second   where the program's own words begin, and where its status goes
 -- Definitions only.
-use mathlib.Core.Bool.{cond}
-use mathlib.Core.List.{List, [], _∷_}
-use Prim.Native.Nat.{ℕ, _-_}
-use lib.Dec.{ltb}
-use lib.IntN.{ℤ, pos, negsuc}
-use Rattle.lists.specs.Lists.{same}
+use Rattle.lists.specs.{Kit.{cond, List, [], _∷_, ℕ, _-_, ltb, ℤ, pos, negsuc}, Lists.{same}}
 use Rattle.text.specs.Text.{bytes-of}
 use Rattle.player.specs.declared.words.Start.{Start}
 

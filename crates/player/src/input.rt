@@ -1,9 +1,6 @@
 // The input of a run, for all programs: what a read finds, and a front filled by reads. A failed read is told from the end of the input, and
 // an interrupted one goes on.
-ghost use mathlib.Core.Path.{_≡_};
-ghost use mathlib.Core.Bool.{false};
-ghost use Prim.Native.Nat.{_≤_, min};
-ghost use lib.ListN.{length};
+ghost use Rattle.lists.specs.Kit.{_≡_, false, _≤_, min, length};
 ghost use Rattle.io.specs.Counts.{Counts};
 ghost use Rattle.player.specs.Reads.{most-reads, goes-on, failure, found, Found, Fills-on, Fills};
 

@@ -1,6 +1,5 @@
 // The keep: a file without a name, in which answers wait until the input is read to its end. A short run needs none.
-ghost use mathlib.Core.Path.{_≡_};
-ghost use mathlib.Core.Bool.{true};
+ghost use Rattle.lists.specs.Kit.{_≡_, true};
 ghost use lib.Signed.{nonNeg};
 ghost use Rattle.player.specs.Reading.{Copies-once, Copied};
 use super::input;

@@ -1,7 +1,7 @@
 // The replay program as a library: reads a descriptor to its end, plays its lines on a site of its own, and then prints what each
 // line says. A line of another form ends the run with `bad L`. What cannot be read, kept or written is one line on the error descriptor. The
 // status is 0 where all was read, played and written, and else 1.
-ghost use Prim.Native.Nat.{_≤_, _<_};
+ghost use Rattle.lists.specs.Kit.{_≤_, _<_};
 ghost use Rattle.mesh.specs.Limits.{max-radios};
 ghost use Rattle.mesh.specs.Tables.{tables};
 ghost use Rattle.player.specs.Reading.{Site-lent, Lines-status, Run-status};

@@ -1,10 +1,7 @@
 // The lines after the first: read by chunks, taken, and kept until the end of the input through a buffer. A contract that cites `Reading`
 // says what is taken from the bytes that a read brought, and what of it was handed to a write; that reads and writes hand them on is
 // executed.
-ghost use mathlib.Core.Path.{_≡_};
-ghost use mathlib.Core.Bool.{true};
-ghost use Prim.Native.Nat.{_≤_, _<_};
-ghost use lib.ListN.{length};
+ghost use Rattle.lists.specs.Kit.{_≡_, true, _≤_, _<_, length};
 ghost use Rattle.mesh.specs.Tables.{tables};
 ghost use Rattle.mesh.specs.Lent.{lent};
 ghost use Rattle.text.specs.Print.{buffer-at};

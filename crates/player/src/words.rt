@@ -1,7 +1,6 @@
 // The words of the replay program: it takes none, but for two that ask what it is. Also how a program is started, `site` too: with
 // `--status D` before its words it writes its status to descriptor D.
-ghost use mathlib.Core.Path.{_≡_};
-ghost use Prim.Native.Nat.{_≤_};
+ghost use Rattle.lists.specs.Kit.{_≡_, _≤_};
 ghost use Rattle.player.specs.Reading.{Run-status};
 ghost use Rattle.player.specs.Words.{descriptor-of, start-of};
 use super::faults;

@@ -6,59 +6,32 @@
 --   Property-3       demand 3, undivided, over lists of calls and over a host's list of calls on one memory
 --   W-201 .. W-214   what each request of document 02 asks for
 -- Definitions only.
-use mathlib.Core.Path.{_≡_}
-use mathlib.Core.Logic.{_↔_, _⊎_}
-use mathlib.Core.Bool.{Bool, true, false}
-use mathlib.Core.List.{List, [], _∷_, _++_}
-use Prim.Native.Nat.{ℕ, _+_, _*_, _≤_, _<_}
-use lib.IntN.{ℤ, pos}
-use lib.ListN.{length, take, drop}
+use Rattle.lists.specs.{Kit.{_≡_, _↔_, _⊎_, Bool, true, false, List, [], _∷_, _++_, ℕ, _+_, _*_, _≤_, _<_, ℤ, pos, length, take, drop}, Lists.{member, same}}
+use Rattle.lists.specs.{Lists.{Entries-below}}
 use mir.Val.{Val}
-use prog.Memory.{Memory}
-use prog.Machine.{done}
-use prog.Routine.{Routine}
-use Rattle.machine.specs.Cells.{Param, Place, place, entries, Input, Inputs, Stands, span, Ready, Ran, Runs, passed, outcome-of}
-use Rattle.machine.specs.Made.{Fitting, blocks, placed}
-use Rattle.hosts.specs.Public.{Public, reader-step, bytes, a-reader, call}
-use Rattle.hosts.specs.Hosts.{Hosts-demand, Standing-demand}
-use Rattle.hosts.specs.Made.{Hosts-exist}
-use Rattle.lists.specs.Lists.{member, same, Entries-below}
-use Rattle.mesh.specs.Limits.{max-radios}
-use Rattle.mesh.specs.Graph.{Link, link-of, Graph, graph}
-use Rattle.mesh.specs.Cores.{Core, number}
-use Rattle.mesh.specs.Tables.{Tables, graph-in}
-use Rattle.mesh.specs.Connected.{In-core}
-use Rattle.mesh.specs.Connected as connected
-use Rattle.mesh.specs.Image.{whole-blocks, checks-good, Other-size, Image-of-none}
-use Rattle.mesh.specs.Image as images
-use Rattle.mesh.specs.Marks.{store-bytes, is-store, Store-rules}
-use Rattle.mesh.specs.Sound.{sound}
-use Rattle.mesh.specs.declared.Node.{Node}
-use Rattle.calls.specs.Questions.{lengths-of, size-good, site-lengths, image-refusal, radio-refusal}
-use Rattle.calls.specs.Batches.{batch-refusal, batch-switches}
-use Rattle.calls.specs.Heard.{hear-refusal, heard-switches}
-use Rattle.calls.specs.Marks.{mark-image}
-use Rattle.calls.specs.Lift.{lifts}
-use Rattle.calls.specs.Outcomes.{reply, value, later, numbered, linked-with, asked, committed-with, batched, heard-with, listing, treed}
-use Rattle.calls.specs.Outcomes.{clear-outcome, read-outcome, link-outcome, ask-outcome, commit-outcome, batch-outcome, hear-outcome}
-use Rattle.calls.specs.Outcomes.{check-outcome, number-outcome, later-outcome, core-outcome}
-use Rattle.calls.specs.Outcomes.{value-outcome, listing-outcome, backbone-outcome}
-use Rattle.calls.specs.Outcomes.{staircase-outcome, write-outcome, sheet-outcome, script-length-outcome, script-outcome, tree-outcome, no-block}
-use Rattle.calls.specs.Outcomes.{block-outcome}
-use Rattle.calls.specs.MarkOutcomes.{stored, store-outcome, set-outcome, remove-outcome, return-outcome}
-use Rattle.calls.specs.LiftOutcome.{pair, lift-outcome}
-use Rattle.calls.specs.Results.{Batch-stopped, Batch-single, Site-right, Link-right, Later-right, Core-listed, Backbone-listed, Tree-listed, Written-right}
-use Rattle.calls.specs.Results.{Read-right, Block-part, Block-end, Script-right, Script-beforehand, Hear-right, Image-answered, Sheet-right, Staircase-listed}
-use Rattle.calls.specs.Results.{Ask-right, Commit-right, Batch-right}
-use Rattle.calls.specs.MarkResults.{Set-right, Removed-right, Same-mark}
-use Rattle.calls.specs.Older.{Older}
-use Rattle.calls.specs.Book.{Call, linking, setting, returning, book-after, past-of, history, all-leave}
-use Rattle.calls.specs.Runs.{events, after, givens}
-use Rattle.calls.specs.Demand.{Start, beginning, Demand-3}
+use prog.{Memory.{Memory}, Machine.{done}, Routine.{Routine}}
+use Rattle.machine.specs.{Cells.{Param, place, entries, Input, Inputs, Stands, span, Ready, Ran, Runs, passed, outcome-of}, Made.{Fitting, blocks, placed}}
+use Rattle.hosts.specs.{Public.{Public, reader-step, bytes, a-reader, call}, Hosts.{Hosts-demand, Standing-demand}, Made.{Hosts-exist}}
+use Rattle.mesh.specs.{Limits.{max-radios}, Graph.{Link, link-of, Graph, graph}, Cores.{Core, number}, Tables.{Tables, graph-in}, Connected.{In-core}}
+use Rattle.mesh.specs.{Image.{whole-blocks, checks-good, Other-size, Image-of-none}, Marks.{store-bytes, is-store, Store-rules}, Sound.{sound}}
+use Rattle.mesh.specs.{declared.Node.{Node}}
+use Rattle.calls.specs.{Questions.{lengths-of, size-good, site-lengths, image-refusal, radio-refusal}, Batches.{batch-refusal, batch-switches}}
+use Rattle.calls.specs.{Heard.{hear-refusal, heard-switches}, Marks.{mark-image}, Lift.{lifts}, Outcomes.{reply, value, later, numbered, linked-with, asked}}
+use Rattle.calls.specs.{Outcomes.{committed-with, batched, heard-with, listing, treed, clear-outcome, read-outcome, link-outcome, ask-outcome, commit-outcome}}
+use Rattle.calls.specs.{Outcomes.{batch-outcome, hear-outcome, check-outcome, number-outcome, later-outcome, core-outcome, value-outcome, listing-outcome}}
+use Rattle.calls.specs.{Outcomes.{backbone-outcome, staircase-outcome, write-outcome, sheet-outcome, script-length-outcome, script-outcome, tree-outcome}}
+use Rattle.calls.specs.{Outcomes.{no-block, block-outcome}, MarkOutcomes.{stored, store-outcome, set-outcome, remove-outcome, return-outcome}}
+use Rattle.calls.specs.{LiftOutcome.{pair, lift-outcome}, Results.{Batch-stopped, Batch-single, Site-right, Link-right, Later-right, Core-listed}}
+use Rattle.calls.specs.{Results.{Backbone-listed, Tree-listed, Written-right, Read-right, Block-part, Block-end, Script-right, Script-beforehand, Hear-right}}
+use Rattle.calls.specs.{Results.{Image-answered, Sheet-right, Staircase-listed, Ask-right, Commit-right, Batch-right}, MarkResults.{Set-right, Removed-right}}
+use Rattle.calls.specs.{MarkResults.{Same-mark}, Older.{Older}, Book.{Call, linking, setting, returning, book-after, past-of, history, all-leave}}
+use Rattle.calls.specs.{Runs.{events, after, givens}, Demand.{Start, beginning, Demand-3}}
 use Rattle.walks.specs.Results.{Beginning-kept, Each-begins}
 use Rattle.lifting.specs.Results.{No-lift, Raises, Lift-right}
 use Rattle.hubs.specs.Hubs.{Two-hubs, Equal-sites, Equal-answers}
 use Rattle.playback.specs.Back.{Plays-back}
+use Rattle.mesh.specs.Connected as connected
+use Rattle.mesh.specs.Image as images
 
 -- ---- property 1
 

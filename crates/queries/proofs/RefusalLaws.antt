@@ -1,21 +1,10 @@
 -- Chains of questions as the code puts them: questions 1 to 3 first, then the later ones. q is the number so far.
-use mathlib.Core.Path.{_≡_, refl, sym, _∙_}
-use mathlib.Core.Bool.{Bool, true, false, _&&_}
-use Prim.Native.Nat.{ℕ, _≤_, _<_}
-use native.Mathlib.Omega.{arith}
-use lib.Dec.{leb}
-use lib.ListN.{getD}
-use borrow.Author.Tests.{le-ltb, lt-leb}
-use Rattle.mesh.specs.Graph.{Graph}
-use Rattle.mesh.specs.Cores.{number}
-use Rattle.mesh.specs.Tables.{Tables, graph-in}
-use Rattle.mesh.specs.Sound.{sound}
-use Rattle.calls.specs.Questions.{ask, Lengths, lengths-of, size-good, site-lengths, answer-length, is-radio, are-radios, has-level, lent-refusal, site-refusal}
-use Rattle.calls.specs.Questions.{radio-refusal, pair-refusal, core-refusal, level-refusal}
-use Rattle.calls.proofs.QuestionLaws.{ask-yes, ask-no, true-is-radio}
-use Rattle.calls.proofs.ChainLaws.{site-zero, site-yes, radio-zero, pair-yes, core-yes}
-use Rattle.soundness.proofs.SoundSite.{Sound-site, site-good-sound, number-entry}
-use Rattle.soundness.proofs.RadioLaws.{site-later-no, site-later-yes, not-radio}
+use Rattle.lists.specs.Kit.{_≡_, sym, _∙_, Bool, true, false, _&&_, ℕ, _≤_, _<_, arith, leb, getD, lt-leb}
+use Rattle.mesh.specs.{Graph.{Graph}, Cores.{number}, Tables.{Tables, graph-in}, Sound.{sound}}
+use Rattle.calls.{specs.Questions.{ask, Lengths, lengths-of, answer-length, is-radio, are-radios, has-level, site-refusal, radio-refusal, pair-refusal}}
+use Rattle.calls.{specs.Questions.{core-refusal, level-refusal}, proofs.QuestionLaws.{ask-yes, ask-no, true-is-radio}, proofs.ChainLaws.{site-zero, site-yes}}
+use Rattle.calls.{proofs.ChainLaws.{radio-zero, pair-yes, core-yes}}
+use Rattle.soundness.proofs.{SoundSite.{Sound-site, site-good-sound, number-entry}, RadioLaws.{site-later-no, site-later-yes, not-radio}}
 
 -- ---- 4: two radios
 

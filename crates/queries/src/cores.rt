@@ -1,5 +1,5 @@
 // The connected core of a radio at a level: the radios that links lead to over radios with that number or more.
-ghost use mathlib.Core.Path.{_≡_};
+ghost use Rattle.lists.specs.Kit.{_≡_};
 ghost use Rattle.mesh.specs.Tables.{graph-in};
 ghost use Rattle.mesh.specs.Lent.{lent};
 ghost use Rattle.mesh.specs.Sound.{sound};

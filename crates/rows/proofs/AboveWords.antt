@@ -1,27 +1,13 @@
 -- The radios above a row's own: what is left of its word when the bits up to its own are shifted out, and the words after it.
-use mathlib.Core.Path.{_≡_, refl, sym, ap, ap₂, _∙_}
-use mathlib.Core.Logic.{_⊎_, inl, inr}
-use mathlib.Core.Bool.{true, false}
-use mathlib.Core.List.{List, [], _++_}
-use Prim.Native.Nat.{ℕ, zero, suc, _+_, _*_, _-_, _/_, _%_, _^_, _≤_, _<_, min}
-use native.Mathlib.Omega.{arith}
-use native.Mathlib.Nat.{pow-succ'}
-use lib.Arith.{lt-one}
-use lib.Dec.{ltb, leb, eqb}
-use lib.ListN.{length, getD, take}
-use lib.Pow.{shr-shr, shr-lt}
-use lib.Seq.{sets}
-use borrow.Author.Tests.{lt-ltb, le-ltb, leb-true, leb-false}
-use Rattle.mesh.specs.Limits.{max-radios, row-bytes}
-use Rattle.lists.specs.Lists.{range, filter, overwrite}
-use Rattle.mesh.specs.Tables.{digit, marked}
-use Rattle.lists.proofs.Tests.{bool-cases}
-use Rattle.lists.proofs.Range.{range-in, range-append}
-use Rattle.lists.proofs.Filter.{in-filter, filter-append, filter-none, filter-all}
+use Rattle.lists.{specs.Kit.{_≡_, refl, sym, ap, ap₂, _∙_, _⊎_, inl, inr, true, false, List, [], _++_, ℕ, zero, suc, _+_, _*_, _-_, _/_, _%_, _^_, _≤_, _<_}}
+use Rattle.lists.{specs.Kit.{min, arith, pow-succ', ltb, leb, eqb, length, getD, take, sets, lt-ltb, le-ltb, leb-true, leb-false}, specs.Lists.{range, filter}}
+use Rattle.lists.{specs.Lists.{overwrite}, proofs.Tests.{bool-cases}, proofs.Range.{range-in, range-append}, proofs.Filter.{in-filter, filter-append}}
+use Rattle.lists.{proofs.Filter.{filter-none, filter-all}}
+use lib.{Arith.{lt-one}, Pow.{shr-shr, shr-lt}}
+use Rattle.mesh.specs.{Limits.{max-radios, row-bytes}, Tables.{digit, marked}}
 use Rattle.rows.specs.Rows.{neighbours-of, row-listed, neighbours-above, row-from, set-bits, row-word}
-use Rattle.rows.proofs.Listing.{partial-none, partial-part}
-use Rattle.rows.proofs.RowWords.{marked-word, row-listed-whole, row-listed-short, front-listed}
-use Rattle.rows.proofs.WordLaws.{set-bits-nothing, set-bits-filter, word-at-less}
+use Rattle.rows.proofs.{Listing.{partial-none, partial-part}, RowWords.{marked-word, row-listed-whole, row-listed-short, front-listed}}
+use Rattle.rows.proofs.{WordLaws.{set-bits-nothing, set-bits-filter, word-at-less}}
 
 -- ---- a word whose higher bits are zero
 

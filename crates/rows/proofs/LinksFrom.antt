@@ -1,17 +1,9 @@
 -- Laws of the links from a row on.
 -- In order: what is left, links counted.
-use mathlib.Core.Path.{_≡_, ap, _∙_}
-use mathlib.Core.List.{List, [], _++_, flatMap}
-use Prim.Native.Nat.{ℕ, suc, _+_, _*_, _-_, _≤_, _<_}
-use native.Mathlib.Omega.{arith}
-use lib.ListN.{length, drop, length-append}
-use lib.Seq.{drop-append-le, drop-nil}
-use Rattle.mesh.specs.Limits.{max-radios}
-use Rattle.lists.specs.Lists.{range}
-use Rattle.mesh.specs.Graph.{Link, link-of}
-use Rattle.lists.proofs.Map.{length-map, drop-map}
-use Rattle.rows.specs.Rows.{neighbours-above}
-use Rattle.rows.specs.Links.{links-to, links-above, links-from, Rows-listed}
+use Rattle.lists.{specs.Kit.{_≡_, ap, _∙_, List, [], _++_, flatMap, ℕ, suc, _+_, _*_, _-_, _≤_, _<_, arith, length, drop, length-append, drop-append-le}}
+use Rattle.lists.{specs.Kit.{drop-nil}, specs.Lists.{range}, proofs.Map.{length-map, drop-map}}
+use Rattle.mesh.specs.{Limits.{max-radios}, Graph.{Link, link-of}}
+use Rattle.rows.specs.{Rows.{neighbours-above}, Links.{links-to, links-above, links-from, Rows-listed}}
 
 -- ---- what is left
 

@@ -1,19 +1,12 @@
 -- A list of radios written entry by entry into a lent list, as a loop's invariant: what is left gives what the whole gives.
 -- In order: a loop that stops when the list is full, a part of a list, the set bits of a word.
-use mathlib.Core.Path.{_≡_, refl, sym, ap, _∙_}
-use mathlib.Core.List.{List, [], _∷_, _++_, append-nil}
-use Prim.Native.Nat.{ℕ, _+_, _-_, _^_, _≤_, _<_, min}
-use native.Mathlib.Omega.{arith}
-use native.Mathlib.Numerals.{add-one}
-use lib.Bits.{bitAnd, and-le-l}
-use lib.Count.{trailingZeros}
-use lib.ListN.{length, set, take, drop, length-set, length-append, length-take, length-drop}
-use lib.Seq.{sets, length-sets, take-all, drop-length, length-take-le}
+use Rattle.lists.{specs.Kit.{_≡_, refl, sym, ap, _∙_, List, [], _∷_, _++_, append-nil, ℕ, _+_, _-_, _^_, _≤_, _<_, min, arith, add-one, bitAnd, and-le-l}}
+use Rattle.lists.{specs.Kit.{trailingZeros, length, set, take, drop, length-set, length-append, length-take, length-drop, sets, length-sets, take-all}}
+use Rattle.lists.{specs.Kit.{drop-length, length-take-le}, specs.Lists.{overwrite}, proofs.Overwrite.{sets-append, sets-full, sets-min, sets-drop}}
+use Rattle.lists.{proofs.Overwrite.{overwrite-part}}
 use borrow.Rule.Slice.PartMut.{midOf, postOf, putMid, post-is}
-use Rattle.lists.specs.Lists.{overwrite}
 use Rattle.rows.specs.Rows.{set-bits}
 use Rattle.rows.proofs.WordLaws.{set-bits-lowest}
-use Rattle.lists.proofs.Overwrite.{sets-append, sets-full, sets-min, sets-drop, overwrite-part}
 
 -- ---- a loop that stops when the list is full
 

@@ -1,22 +1,12 @@
 -- A row of the links table read word by word, as the loops over its words go: what is left of the row from word k on.
-use mathlib.Core.Path.{_≡_, refl, sym, ap, _∙_}
-use mathlib.Core.Bool.{Bool}
-use mathlib.Core.List.{List, [], _++_}
-use Prim.Native.Nat.{ℕ, zero, suc, _+_, _*_, _-_, _/_, _%_, _^_, _≤_, _<_, min}
-use native.Mathlib.Omega.{arith}
-use lib.ListN.{length, getD, take, drop, length-append, length-take, length-drop}
-use lib.Seq.{sets, length-sets, getD-take, getD-drop}
-use lib.Count.{ones, trailingZeros}
-use borrow.Author.Tests.{le-leb, lt-leb, lt-ltb, le-ltb}
-use Rattle.mesh.specs.Limits.{max-radios, max-neighbours, row-bytes}
-use Rattle.lists.specs.Lists.{range, filter, head-or, overwrite}
-use Rattle.mesh.specs.Tables.{digit, byte-at, marked}
-use Rattle.lists.proofs.Filter.{filter-append}
+use Rattle.lists.{specs.Kit.{_≡_, refl, sym, ap, _∙_, Bool, List, [], _++_, ℕ, zero, suc, _+_, _*_, _-_, _/_, _%_, _^_, _≤_, _<_, min, arith, length, getD}}
+use Rattle.lists.{specs.Kit.{take, drop, length-append, length-take, length-drop, sets, length-sets, getD-take, getD-drop, ones, trailingZeros, le-leb, lt-leb}}
+use Rattle.lists.{specs.Kit.{lt-ltb, le-ltb}, specs.Lists.{range, filter, head-or, overwrite}, proofs.Filter.{filter-append}, proofs.Range.{range-append}}
+use Rattle.lists.{proofs.Overwrite.{sets-front, sets-append}}
+use Rattle.mesh.specs.{Limits.{max-radios, max-neighbours, row-bytes}, Tables.{digit, byte-at, marked}}
 use Rattle.rows.specs.Rows.{neighbours-of, row-listed, row-from, row-count, set-bits, word-radios, row-word, word-of}
-use Rattle.rows.proofs.WordLaws.{set-bits-filter, set-bits-nothing, set-bits-lowest, length-set-bits, length-set-bits-le, word-at-less, digit-word-at}
-use Rattle.lists.proofs.Range.{range-append}
-use Rattle.lists.proofs.Overwrite.{sets-front, sets-append}
-use Rattle.rows.proofs.Listing.{Partial-listing, partial-part, partial-end}
+use Rattle.rows.proofs.{WordLaws.{set-bits-filter, set-bits-nothing, set-bits-lowest, length-set-bits, length-set-bits-le, word-at-less, digit-word-at}}
+use Rattle.rows.proofs.{Listing.{Partial-listing, partial-part, partial-end}}
 
 -- ---- row-listed: the whole row, or none of it
 

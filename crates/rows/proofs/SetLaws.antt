@@ -1,37 +1,20 @@
 -- Sets of eight words.
 -- In order: digits of words joined by `&`, `|` and `^`, one radio tested, taken out and put in, the radios of another set taken out and
 -- listed, the lowest radio of two sets, how many they have, words changed in turn, the radios of a set listed.
-use mathlib.Core.Path.{_≡_, refl, sym, ap, _∙_}
-use mathlib.Core.Logic.{_⊎_, inl, inr}
-use mathlib.Core.Bool.{Bool, true, false, _&&_, _||_, not, cond}
-use mathlib.Core.List.{List, [], _++_}
-use Prim.Native.Nat.{ℕ, zero, suc, _+_, _*_, _-_, _/_, _%_, _^_, _≤_, _<_, min, max}
-use native.Mathlib.Omega.{arith}
-use native.Mathlib.Nat.{mod-lt, zero-lt-suc, one-mul, mod-eq-of-lt}
-use lib.Bits.{differ, bitAnd, bitOr, bitXor, and-step, or-step, xor-step, and-shr, or-shr, xor-shr, xor-zero-r, and-mask, and-lt}
-use lib.Count.{trailingZeros, ones}
-use lib.Dec.{ltb, eqb}
-use lib.ListN.{length, getD, take, set, replicate, length-append, length-set, List·getD-eq-default}
+use Rattle.lists.{specs.Kit.{_≡_, refl, sym, ap, _∙_, _⊎_, inl, inr, Bool, true, false, _&&_, _||_, not, cond, List, _++_, ℕ, zero, suc, _+_, _*_, _-_, _/_}}
+use Rattle.lists.{specs.Kit.{_%_, _^_, _≤_, _<_, min, max, arith, mod-lt, zero-lt-suc, one-mul, mod-eq-of-lt, differ, bitAnd, bitOr, bitXor, and-step, or-step}}
+use Rattle.lists.{specs.Kit.{xor-step, and-shr, or-shr, xor-shr, xor-zero-r, and-mask, and-lt, trailingZeros, ones, ltb, eqb, length, getD, set, replicate}}
+use Rattle.lists.{specs.Kit.{length-append, length-set, List·getD-eq-default, sets, set-out, set-getD, getD-set-same, getD-set-other, ltb-true, ltb-false}}
+use Rattle.lists.{specs.Kit.{eqb-true, eqb-false, eq-eqb, ne-eqb}, specs.Lists.{range, filter, member, head-or}, proofs.Filter.{member-filter}}
+use Rattle.lists.{proofs.Overwrite.{sets-front}, proofs.Parts.{getD-zeros}, proofs.Member.{not-member}, proofs.Range.{in-range}, proofs.Tests.{bool-cases}}
+use Rattle.lists.{proofs.Tests.{iff-eq}}
 use lib.Pow.{pow-lt}
-use lib.Seq.{sets, set-out, set-getD, getD-set-same, getD-set-other}
-use borrow.Author.Tests.{ltb-true, ltb-false, eqb-true, eqb-false, eq-eqb, ne-eqb}
-use Rattle.mesh.specs.Limits.{max-radios, row-bytes}
-use Rattle.lists.specs.Lists.{range, filter, member, head-or, overwrite}
-use Rattle.mesh.specs.Tables.{digit, marked, put-digit}
-use Rattle.lists.proofs.Filter.{member-filter}
-use Rattle.lists.proofs.Overwrite.{sets-front}
-use Rattle.lists.proofs.Parts.{getD-zeros}
-use Rattle.lists.proofs.Member.{not-member}
-use Rattle.lists.proofs.Range.{in-range}
-use Rattle.lists.proofs.Tests.{bool-cases, iff-eq}
-use Rattle.mesh.proofs.Tables.Digits.{digit-nothing, digit-put-digit}
-use Rattle.rows.specs.Rows.{neighbours-of, row-listed, set-bits, row-word}
-use Rattle.rows.specs.Sets.{in-set, take-out, put-in, word-left, word-taken, Row-joined, common, Common-taken, Set-taken, members, Listed}
-use Rattle.rows.proofs.MaskLaws.{put-digit-true, put-digit-false}
-use Rattle.rows.proofs.WordLaws.{set-bits-nothing, set-bits-lowest, length-set-bits, length-set-bits-le}
-use Rattle.rows.proofs.Listing.{Partial-listing, partial-none, partial-part, partial-end}
-use Rattle.rows.proofs.RowListLaws.{in-neighbours-of, member-neighbours-of}
-use Rattle.rows.proofs.RowWords.{marked-word, words-from, words-end, row-listed-whole, row-listed-short}
+use Rattle.mesh.{specs.Limits.{max-radios, row-bytes}, specs.Tables.{digit, marked, put-digit}, proofs.Tables.Digits.{digit-nothing, digit-put-digit}}
+use Rattle.rows.specs.{Rows.{neighbours-of, row-listed, set-bits, row-word}, Sets.{in-set, take-out, put-in, word-left, word-taken, Row-joined, common}}
+use Rattle.rows.specs.{Sets.{Common-taken, Set-taken, members, Listed}}
+use Rattle.rows.proofs.{MaskLaws.{put-digit-true, put-digit-false}, WordLaws.{set-bits-nothing, set-bits-lowest, length-set-bits, length-set-bits-le}}
+use Rattle.rows.proofs.{Listing.{Partial-listing, partial-none, partial-part, partial-end}, RowListLaws.{in-neighbours-of, member-neighbours-of}}
+use Rattle.rows.proofs.{RowWords.{marked-word, words-from, words-end, row-listed-whole, row-listed-short}}
 
 -- ---- digits of joined words
 

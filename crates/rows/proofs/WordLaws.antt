@@ -1,23 +1,11 @@
 -- Words of a table and their set bits.
 -- In order: set bits as a filter and as a count, the lowest set bit, bytes joined to a word, the digits of a word.
-use mathlib.Core.Path.{_≡_, refl, sym, ap, _∙_}
-use mathlib.Core.Logic.{_⊎_, inl, inr}
-use mathlib.Core.Bool.{Bool, true, false, cond}
-use mathlib.Core.List.{List, [], _∷_}
-use Prim.Native.Nat.{ℕ, zero, suc, _+_, _*_, _-_, _/_, _%_, _^_, _≤_, _<_}
-use native.Mathlib.Omega.{arith}
-use native.Mathlib.Nat.{pow-succ', suc-mul, mul-le-mul-right}
-use lib.Dec.{ltb, eqb}
-use lib.ListN.{length, getD}
-use lib.Arith.{lt-one}
-use lib.Pow.{pow-add, shl-exact, shr-shr, high}
-use lib.Bits.{bitAnd, bitOr, and-step, and-self, or-shifted-r, block-half, block-odd}
-use lib.Count.{ones, ones-step, trailingZeros}
-use borrow.Author.Tests.{ltb-true, ltb-false, eqb-true, eqb-false}
-use Rattle.lists.specs.Lists.{range, filter}
-use Rattle.mesh.specs.Tables.{digit}
-use Rattle.lists.proofs.Tests.{bool-cases}
-use Rattle.mesh.proofs.Tables.Digits.{digit-zero, digit-suc}
+use Rattle.lists.{specs.Kit.{_≡_, refl, sym, ap, _∙_, _⊎_, inl, inr, Bool, true, false, cond, List, [], _∷_, ℕ, zero, suc, _+_, _*_, _-_, _/_, _%_, _^_, _≤_}}
+use Rattle.lists.{specs.Kit.{_<_, arith, pow-succ', suc-mul, mul-le-mul-right, ltb, eqb, length, getD, bitAnd, bitOr, and-step, and-self, or-shifted-r}}
+use Rattle.lists.{specs.Kit.{block-half, block-odd, ones, ones-step, trailingZeros, ltb-true, ltb-false, eqb-true, eqb-false}, specs.Lists.{range, filter}}
+use Rattle.lists.{proofs.Tests.{bool-cases}}
+use lib.{Arith.{lt-one}, Pow.{pow-add, shl-exact, shr-shr, high}}
+use Rattle.mesh.{specs.Tables.{digit}, proofs.Tables.Digits.{digit-zero, digit-suc}}
 use Rattle.rows.specs.Rows.{set-bits, row-word}
 
 -- ---- set bits

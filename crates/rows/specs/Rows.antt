@@ -10,14 +10,8 @@
 --   word-of row k          word k of a row that stands by itself, 0 past it
 --   Words-room             what a private function of src/lib.rt wants of lengths
 -- Laws are in proofs/RowListLaws.antt and proofs/WordLaws.antt. Definitions only.
-use mathlib.Core.Bool.{cond}
-use mathlib.Core.List.{List, [], _∷_}
-use Prim.Native.Nat.{ℕ, zero, suc, _+_, _*_, _-_, _/_, _%_, _^_, _≤_, min}
-use lib.Dec.{ltb, leb, eqb}
-use lib.ListN.{length, getD}
-use Rattle.mesh.specs.Limits.{max-radios, max-neighbours, row-bytes}
-use Rattle.lists.specs.Lists.{range, filter}
-use Rattle.mesh.specs.Tables.{marked}
+use Rattle.lists.specs.{Kit.{cond, List, [], _∷_, ℕ, zero, suc, _+_, _*_, _-_, _/_, _%_, _^_, _≤_, min, ltb, leb, eqb, length, getD}, Lists.{range, filter}}
+use Rattle.mesh.specs.{Limits.{max-radios, max-neighbours, row-bytes}, Tables.{marked}}
 
 unfoldable pub neighbours-of : (links : List ℕ) → (a : ℕ) → List ℕ
 neighbours-of ts a = filter (λ b. marked ts a b) (range 0 max-radios)

@@ -1,10 +1,7 @@
 // Rows of the links table: one bit tested, set or cleared, a row's neighbours listed, all or the ones above its own radio, and counted in a
 // byte; the words of a row. `sets` has sets of radios, eight words each, `link_list` the links that a table marks. The bits of a row are
 // walked here, and where a loop over a whole row is the work itself.
-ghost use mathlib.Core.Path.{_≡_};
-ghost use Prim.Native.Nat.{suc, _≤_, _+_, _-_, min};
-ghost use lib.ListN.{length, take};
-ghost use lib.Seq.{sets};
+ghost use Rattle.lists.specs.Kit.{_≡_, suc, _≤_, _+_, _-_, min, length, take, sets};
 ghost use Rattle.mesh.specs.Limits.{max-radios, max-neighbours};
 ghost use Rattle.lists.specs.Lists.{head-or, overwrite};
 ghost use Rattle.mesh.specs.Tables.{marked, put-bit, put-link};

@@ -1,7 +1,6 @@
 // The links that a links table marks, by lower and then higher radio: row by row, the neighbours above the row's own radio, which
 // rows::row_above lists.
-ghost use mathlib.Core.Path.{_≡_};
-ghost use lib.ListN.{length};
+ghost use Rattle.lists.specs.Kit.{_≡_, length};
 ghost use Rattle.rows.specs.Links.{Rows-listed, links-from};
 use mesh::Site;
 

@@ -1,9 +1,5 @@
 // Sets of radios as eight words, a bit for each radio: tested, put into, taken out of, joined with rows, compared and listed.
-ghost use mathlib.Core.Path.{_≡_};
-ghost use Prim.Native.Nat.{_+_, _*_, _≤_, _<_, min};
-ghost use lib.ListN.{length, getD};
-ghost use lib.Bits.{bitAnd};
-ghost use lib.Seq.{sets};
+ghost use Rattle.lists.specs.Kit.{_≡_, _+_, _*_, _≤_, _<_, min, length, getD, bitAnd, sets};
 ghost use Rattle.mesh.specs.Limits.{max-radios};
 ghost use Rattle.lists.specs.Lists.{head-or};
 ghost use Rattle.rows.specs.Rows.{set-bits};

@@ -1,18 +1,9 @@
 -- A number read from its decimal digits is that number, and what is read as a number is its decimal digits.
-use mathlib.Core.Path.{_≡_, refl, sym, ap, _∙_}
-use mathlib.Core.Logic.{_⊎_, inl, inr}
-use mathlib.Core.Bool.{true, false}
-use mathlib.Core.List.{List, [], _∷_, _++_, append-assoc}
-use Prim.Native.Nat.{ℕ, zero, suc, _+_, _*_, _-_, _/_, _%_, _≤_, _<_}
-use native.Mathlib.Omega.{arith}
-use lib.Dec.{ltb, leb, eqb}
-use borrow.Author.Tests.{ltb-true, ltb-false, leb-true, eqb-true, eqb-false, le-leb, ne-eqb}
-use Rattle.lists.proofs.Tests.{bool-cases, and-left, and-right, and-both}
-use Rattle.lists.proofs.All.{same-eq}
-use Rattle.lists.specs.Lists.{same}
-use Rattle.text.specs.Text.{line-feed, digit-byte, decimal}
+use Rattle.lists.{specs.Kit.{_≡_, refl, sym, ap, _∙_, _⊎_, inl, inr, true, false, List, [], _∷_, _++_, append-assoc, ℕ, zero, suc, _+_, _*_, _-_, _/_, _%_}}
+use Rattle.lists.{specs.Kit.{_≤_, _<_, arith, ltb, leb, eqb, ltb-true, ltb-false, leb-true, eqb-true, eqb-false, le-leb, ne-eqb}, proofs.Tests.{bool-cases}}
+use Rattle.lists.{proofs.Tests.{and-left, and-right, and-both}, proofs.All.{same-eq}, specs.Lists.{same}}
+use Rattle.text.{specs.Text.{line-feed, digit-byte, decimal}, proofs.DecimalLaws.{decimal-digit, decimal-more, decimal-append}}
 use Rattle.script.specs.Lines.{max-value, Read, got, none, is-digit, digits-on, number-of, ended, last-number-of}
-use Rattle.text.proofs.DecimalLaws.{decimal-digit, decimal-more, decimal-append}
 
 -- ---- is-digit
 

@@ -1,29 +1,15 @@
 -- The calls for a site's script meet their contracts, on plain values: refused by 1 to 3, the length, refused by 13, the script in front
 -- of the buffer. What is put are the links that the rows mark, which are the graph's.
-use mathlib.Core.Path.{_≡_, sym, ap, _∙_}
-use mathlib.Core.Bool.{true}
-use mathlib.Core.List.{List, _++_}
-use Prim.Native.Nat.{ℕ, _+_, _≤_, _<_}
-use native.Mathlib.Omega.{arith}
-use lib.ListN.{length, drop}
-use Rattle.lists.specs.Lists.{overwrite}
-use Rattle.mesh.specs.Limits.{max-neighbours}
-use Rattle.mesh.specs.Graph.{Graph, graph}
-use Rattle.mesh.specs.Tables.{Tables, graph-in}
-use Rattle.mesh.specs.Sound.{sound}
-use Rattle.mesh.proofs.Images.Tables.{valid-graph-in}
-use Rattle.text.specs.Print.{Buffer, buffer-at, max-place, put, Puts}
-use Rattle.text.proofs.PrintLaws.{put-fits}
-use Rattle.calls.specs.Script.{script-of, script-length}
-use Rattle.calls.specs.Questions.{ask, lengths-of, site-refusal, holds-script, script-length-refusal, script-refusal}
-use Rattle.calls.specs.Contracts.{Script-length-contract, Script-contract}
-use Rattle.calls.specs.Outcomes.{value, script-length-outcome, script-outcome}
-use Rattle.calls.proofs.ContractLaws.{value-refused, value-answered, listing-refused, listing-answered}
-use Rattle.calls.proofs.ChainLaws.{Site-good, site-zero, site-stops}
-use Rattle.calls.proofs.ScriptLaws.{script-yes, script-no, script-most}
+use Rattle.lists.specs.{Kit.{_≡_, sym, ap, _∙_, true, List, _++_, ℕ, _+_, _≤_, _<_, arith, length, drop}, Lists.{overwrite}}
+use Rattle.mesh.{specs.Limits.{max-neighbours}, specs.Graph.{Graph, graph}, specs.Tables.{Tables, graph-in}, specs.Sound.{sound}}
+use Rattle.mesh.{proofs.Images.Tables.{valid-graph-in}}
+use Rattle.text.{specs.Print.{Buffer, buffer-at, max-place, put, Puts}, proofs.PrintLaws.{put-fits}}
+use Rattle.calls.{specs.Script.{script-of, script-length}, specs.Questions.{ask, lengths-of, site-refusal, holds-script, script-length-refusal, script-refusal}}
+use Rattle.calls.{specs.Contracts.{Script-length-contract, Script-contract}, specs.Outcomes.{value, script-length-outcome, script-outcome}}
+use Rattle.calls.{proofs.ContractLaws.{value-refused, value-answered, listing-refused, listing-answered}, proofs.ChainLaws.{Site-good, site-zero, site-stops}}
+use Rattle.calls.{proofs.ScriptLaws.{script-yes, script-no, script-most}}
 use Rattle.soundness.proofs.SoundSite.{Sound-site, site-good-sound}
-use Rattle.rows.specs.Links.{links-from, Rows-listed}
-use Rattle.rows.proofs.GraphLinks.{rows-listed-few, links-graph-in}
+use Rattle.rows.{specs.Links.{links-from, Rows-listed}, proofs.GraphLinks.{rows-listed-few, links-graph-in}}
 use Rattle.script.specs.Longest.{longest-script}
 
 module _ (n : ℕ) (t : Tables) where

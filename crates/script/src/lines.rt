@@ -1,8 +1,5 @@
 // Lines of the replay program: `radios N`, `up A B`, `down A B`.
-ghost use mathlib.Core.Path.{_≡_};
-ghost use mathlib.Core.Bool.{false};
-ghost use Prim.Native.Nat.{_≤_, _<_};
-ghost use lib.ListN.{length, drop};
+ghost use Rattle.lists.specs.Kit.{_≡_, false, _≤_, _<_, length, drop};
 ghost use Rattle.script.specs.Texts.{read-of, alone-of};
 ghost use Rattle.script.specs.Lines.{digits-on, number-of, last-number-of, link-from, starts, line-of};
 

@@ -1,10 +1,7 @@
 // The script that rebuilds a site: the replay program's line 1, then a line for each link, lower radio first, ascending by lower and
 // then higher. Its length is counted by digits beforehand, and is the length written. A buffer that is shorter is refused by 13; in a
 // longer one no byte of a link's line asks whether it fits. The words of the lines are crate script's.
-ghost use mathlib.Core.Path.{_≡_};
-ghost use mathlib.Core.List.{flatMap};
-ghost use Prim.Native.Nat.{_+_, _≤_, _<_};
-ghost use lib.ListN.{length};
+ghost use Rattle.lists.specs.Kit.{_≡_, flatMap, _+_, _≤_, _<_, length};
 ghost use Rattle.lists.specs.Lists.{Entries-below};
 ghost use Rattle.mesh.specs.Limits.{max-radios, max-neighbours};
 ghost use Rattle.mesh.specs.Graph.{graph};

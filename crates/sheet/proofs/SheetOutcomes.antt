@@ -1,26 +1,11 @@
 -- The call for the site sheet meets its contract, on plain values: refused by 1 to 3, refused by 12, the sheet in front of the page.
-use mathlib.Core.Path.{_≡_, sym, ap, _∙_}
-use mathlib.Core.Bool.{true}
-use mathlib.Core.List.{List, _++_}
-use Prim.Native.Nat.{ℕ, _+_, _*_, _≤_, _<_}
-use native.Mathlib.Omega.{arith}
-use lib.ListN.{length, drop}
-use borrow.Author.Tests.{lt-leb}
-use Rattle.lists.specs.Lists.{overwrite}
-use Rattle.mesh.specs.Limits.{max-radios}
-use Rattle.mesh.specs.Tables.{Tables}
-use Rattle.mesh.specs.Sound.{sound}
-use Rattle.text.specs.Print.{Buffer, buffer-at, max-place, put}
-use Rattle.text.proofs.PrintLaws.{put-fits}
-use Rattle.calls.specs.Sheet.{line-bytes, sheet, sheet-lines, sheet-length}
-use Rattle.calls.specs.SheetCells.{Cells-fit}
-use Rattle.calls.specs.Questions.{ask, lengths-of, site-refusal, sheet-refusal, holds-sheet}
-use Rattle.calls.specs.Contracts.{Sheet-contract}
-use Rattle.calls.proofs.QuestionLaws.{ask-no}
-use Rattle.calls.specs.Outcomes.{sheet-outcome}
-use Rattle.calls.proofs.ContractLaws.{listing-refused, listing-answered}
-use Rattle.calls.proofs.ChainLaws.{Site-good, site-zero, site-yes, sheet-yes, site-stops}
-use Rattle.calls.proofs.SheetLaws.{length-sheet, sheet-fits}
+use Rattle.lists.specs.{Kit.{_≡_, sym, ap, _∙_, true, List, _++_, ℕ, _+_, _*_, _≤_, _<_, arith, length, drop, lt-leb}, Lists.{overwrite}}
+use Rattle.mesh.specs.{Limits.{max-radios}, Tables.{Tables}, Sound.{sound}}
+use Rattle.text.{specs.Print.{Buffer, buffer-at, max-place, put}, proofs.PrintLaws.{put-fits}}
+use Rattle.calls.{specs.Sheet.{line-bytes, sheet, sheet-lines, sheet-length}, specs.SheetCells.{Cells-fit}, specs.Questions.{ask, lengths-of, site-refusal}}
+use Rattle.calls.{specs.Questions.{sheet-refusal, holds-sheet}, specs.Contracts.{Sheet-contract}, proofs.QuestionLaws.{ask-no}, specs.Outcomes.{sheet-outcome}}
+use Rattle.calls.{proofs.ContractLaws.{listing-refused, listing-answered}, proofs.ChainLaws.{Site-good, site-zero, site-yes, sheet-yes, site-stops}}
+use Rattle.calls.{proofs.SheetLaws.{length-sheet, sheet-fits}}
 
 module _ (n : ℕ) (t : Tables) (w : List ℕ) where
   abbrev questions : ℕ

@@ -1,8 +1,6 @@
 // The site sheet on a printed page: all radios with their numbers, ascending along the lines, in cells of 8 columns, 8 cells to a line.
 // A page that is shorter than the sheet is refused by 12; on a longer one each byte has its place, and none asks whether it fits.
-ghost use mathlib.Core.Path.{_≡_};
-ghost use Prim.Native.Nat.{_+_, _*_, _%_, _<_, _≤_};
-ghost use lib.ListN.{length, replicate};
+ghost use Rattle.lists.specs.Kit.{_≡_, _+_, _*_, _%_, _<_, _≤_, length, replicate};
 ghost use Rattle.mesh.specs.Lent.{lent};
 ghost use Rattle.text.specs.Text.{space, digit-byte};
 ghost use Rattle.text.specs.Print.{buffer-at, put, Puts};

@@ -1,6 +1,5 @@
 -- A name told, or the next one.
-use mathlib.Core.Path.{_≡_, ap, _∙_}
-use mathlib.Core.Bool.{Bool, cond}
+use Rattle.lists.specs.Kit.{_≡_, ap, _∙_, Bool, cond}
 use Rattle.site_program.specs.declared.names.Verb.{Verb}
 
 -- what is named here, and the rest by another name for it

@@ -1,33 +1,15 @@
 -- A buffer with room for the longest text holds the text of every verb: none is refused by 9, 12 or 13.
-use mathlib.Core.Path.{_≡_, refl, sym, ap, subst, _∙_}
-use mathlib.Core.Bool.{Bool, true, false}
-use mathlib.Core.List.{List}
-use Prim.Native.Nat.{ℕ, zero, suc, _≤_}
-use native.Mathlib.Omega.{arith}
-use lib.ListN.{length}
-use borrow.Author.Tests.{le-leb}
-use Rattle.mesh.specs.Limits.{max-radios, max-neighbours}
-use Rattle.mesh.specs.Image.{block-bytes}
-use Rattle.mesh.specs.Tables.{Tables, graph-in}
-use Rattle.mesh.specs.Sound.{sound}
-use Rattle.mesh.proofs.Tables.DegreeSum.{block-count-most}
-use Rattle.mesh.proofs.Images.Tables.{valid-graph-in}
-use Rattle.calls.specs.Outcomes.{by-number, Listing, listing, listing-outcome, write-outcome, sheet-outcome, script-outcome}
-use Rattle.calls.specs.Contracts.{Sheet-contract, Script-contract, Write-contract}
-use Rattle.calls.specs.Questions.{Lengths, lengths-of, ask, image-length, holds-image, holds-sheet, holds-script, lent-refusal, site-refusal, level-refusal}
-use Rattle.calls.specs.Questions.{core-refusal, backbone-refusal, tree-refusal, staircase-refusal, write-refusal, sheet-refusal, script-refusal}
-use Rattle.calls.specs.Lift.{lift-refusal}
-use Rattle.calls.specs.Sheet.{sheet-lines, sheet-length}
-use Rattle.calls.specs.Script.{script-length}
-use Rattle.calls.proofs.QuestionLaws.{ask-yes, ask-later}
-use Rattle.calls.proofs.ChainLaws.{Lent-good, lent-later}
-use Rattle.calls.proofs.ScriptLaws.{script-most}
-use Rattle.site_program.specs.declared.verbs.Text.{Text}
-use Rattle.site_program.specs.declared.names.Verb.{Verb}
-use Rattle.site_program.specs.declared.names.Verb.the-variants.{Help, Check, Numbers, Sheet, Script, Image, Backbone, Staircase, Tree, Core, Lift, Unknown}
-use Rattle.site_program.specs.Texts.{Text-accepted, Text-refused, Text-by}
-use Rattle.site_program.specs.Said.{value-of, Backbone-said, Core-said, Lift-said, Staircase-said, Tree-said, Said}
-use Rattle.site_program.specs.Room.{text-room, Held}
+use Rattle.lists.specs.Kit.{_≡_, sym, ap, _∙_, Bool, true, false, List, ℕ, zero, suc, _≤_, arith, length, le-leb}
+use Rattle.mesh.{specs.Limits.{max-radios, max-neighbours}, specs.Tables.{Tables, graph-in}, specs.Sound.{sound}, proofs.Tables.DegreeSum.{block-count-most}}
+use Rattle.mesh.{proofs.Images.Tables.{valid-graph-in}}
+use Rattle.calls.{specs.Outcomes.{by-number, Listing, listing, listing-outcome, write-outcome, sheet-outcome, script-outcome}, specs.Contracts.{Sheet-contract}}
+use Rattle.calls.{specs.Contracts.{Script-contract, Write-contract}, specs.Questions.{Lengths, lengths-of, ask, image-length, holds-image, holds-sheet}}
+use Rattle.calls.{specs.Questions.{holds-script, lent-refusal, site-refusal, level-refusal, core-refusal, backbone-refusal, tree-refusal, staircase-refusal}}
+use Rattle.calls.{specs.Questions.{write-refusal, sheet-refusal, script-refusal}, specs.Lift.{lift-refusal}, specs.Sheet.{sheet-lines, sheet-length}}
+use Rattle.calls.{proofs.QuestionLaws.{ask-yes, ask-later}, proofs.ChainLaws.{lent-later}, proofs.ScriptLaws.{script-most}}
+use Rattle.site_program.specs.{declared.verbs.Text.{Text}, declared.names.Verb.{Verb}, declared.names.Verb.the-variants.{Help, Check, Numbers, Sheet}}
+use Rattle.site_program.specs.{declared.names.Verb.the-variants.{Script, Image, Backbone, Staircase, Tree, Core, Lift, Unknown}, Texts.{Text-by}}
+use Rattle.site_program.specs.{Said.{value-of, Backbone-said, Core-said, Lift-said, Staircase-said, Tree-said, Said}, Room.{text-room, Held}}
 
 -- ---- numbers that are none of the three
 

@@ -1,19 +1,9 @@
 -- Texts put in front of a buffer: refused, accepted, of a list that a call put in front of a table, and of a pair.
-use mathlib.Core.Path.{_≡_, refl, sym, _∙_, ap, subst}
-use mathlib.Core.List.{List}
-use Prim.Native.Nat.{ℕ, zero, suc, _<_, min}
-use native.Mathlib.Omega.{arith}
-use lib.ListN.{length, take}
-use Rattle.lists.specs.Lists.{overwrite}
-use Rattle.lists.proofs.Overwrite.{take-overwrite}
-use Rattle.lists.proofs.Parts.{take-min}
+use Rattle.lists.{specs.Kit.{_≡_, refl, sym, _∙_, ap, subst, List, ℕ, zero, suc, _<_, min, arith, length, take}, specs.Lists.{overwrite}}
+use Rattle.lists.{proofs.Overwrite.{take-overwrite}, proofs.Parts.{take-min}}
 use Rattle.text.specs.Print.{buffer-at, Puts}
-use Rattle.calls.specs.Outcomes.{by-number, Listing, listing, listing-outcome}
-use Rattle.calls.specs.LiftOutcome.{pair}
-use Rattle.calls.specs.declared.Pair.{Pair}
-use Rattle.calls.specs.declared.Value.{Value}
-use Rattle.site_program.specs.declared.verbs.Text.{Text}
-use Rattle.site_program.specs.Texts.{link-line, Text-by}
+use Rattle.calls.specs.{Outcomes.{by-number, Listing, listing, listing-outcome}, LiftOutcome.{pair}, declared.Pair.{Pair}, declared.Value.{Value}}
+use Rattle.site_program.specs.{declared.verbs.Text.{Text}, Texts.{link-line, Text-by}}
 
 -- ---- Text-by
 

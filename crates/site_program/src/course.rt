@@ -1,6 +1,5 @@
 // A script, played on a site's tables, line by line, as its bytes come. A line of another form or a refused one ends the run.
-ghost use mathlib.Core.Path.{_≡_};
-ghost use lib.ListN.{length};
+ghost use Rattle.lists.specs.Kit.{_≡_, length};
 ghost use Rattle.io.specs.Counts.{Counts};
 ghost use Rattle.script.specs.Lines.{line-of};
 ghost use Rattle.mesh.specs.Lent.{lent};

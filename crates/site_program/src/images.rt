@@ -1,6 +1,5 @@
 // An image, read into a site's tables.
-ghost use mathlib.Core.Path.{_≡_};
-ghost use Prim.Native.Nat.{_≤_};
+ghost use Rattle.lists.specs.Kit.{_≡_, _≤_};
 ghost use Rattle.mesh.specs.Limits.{max-radios};
 ghost use Rattle.site_program.specs.Inputs.{wrong};
 ghost use Rattle.site_program.specs.Blocks.{First-bad};

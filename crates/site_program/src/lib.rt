@@ -1,8 +1,6 @@
 // The program `site` as a library: reads an image or a script from a descriptor, and prints what a verb says of its site. The input is
 // read to its end and checked before anything is printed. What goes wrong is one line on the error descriptor, and status 1.
-ghost use mathlib.Core.Path.{_≡_};
-ghost use Prim.Native.Nat.{_≤_};
-ghost use lib.ListN.{length};
+ghost use Rattle.lists.specs.Kit.{_≡_, _≤_, length};
 ghost use Rattle.mesh.specs.Limits.{max-radios};
 ghost use Rattle.site_program.specs.Inputs.{wrong};
 ghost use Rattle.site_program.specs.Given.{is-name};

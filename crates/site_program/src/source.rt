@@ -1,5 +1,5 @@
 // The input: an image or a script, told apart by its first bytes.
-ghost use Prim.Native.Nat.{_≤_};
+ghost use Rattle.lists.specs.Kit.{_≤_};
 ghost use Rattle.mesh.specs.Limits.{max-radios};
 use super::course;
 use super::course::Turned;

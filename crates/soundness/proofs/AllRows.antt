@@ -1,16 +1,7 @@
 -- All rows of the check on plain values: the loop over the radios.
-use mathlib.Core.Path.{_≡_, refl, sym, ap, _∙_}
-use mathlib.Core.Logic.{_⊎_, inl, inr}
-use mathlib.Core.Bool.{Bool, true, false, _&&_}
-use mathlib.Core.List.{List}
-use Prim.Native.Nat.{ℕ, suc, _+_, _-_, _≤_, _<_}
-use native.Mathlib.Omega.{arith}
-use native.Mathlib.Numerals.{add-one}
-use lib.ListN.{length, getD, set, length-set}
-use lib.Seq.{getD-set-same, getD-set-other}
+use Rattle.lists.{specs.Kit.{_≡_, refl, sym, ap, _∙_, _⊎_, inl, inr, Bool, true, false, _&&_, List, ℕ, suc, _+_, _-_, _≤_, _<_, arith, add-one, length, getD}}
+use Rattle.lists.{specs.Kit.{set, length-set, getD-set-same, getD-set-other}, specs.Lists.{range, all}, proofs.Tests.{never, trichotomy}}
 use Rattle.mesh.specs.Limits.{max-neighbours}
-use Rattle.lists.specs.Lists.{range, all}
-use Rattle.lists.proofs.Tests.{never, trichotomy}
 use Rattle.rows.specs.Rows.{neighbours-of}
 use Rattle.conditions.specs.Conditions.{high-count, row-good}
 use Rattle.soundness.specs.Checks.{Row-checked, Rows-checked}

@@ -1,27 +1,13 @@
 -- The loops over the order on plain values: each invariant, its start, a turn, its end.
 -- In order: numbers along the order, places of the order.
-use mathlib.Core.Path.{_≡_, refl, sym, ap, _∙_}
-use mathlib.Core.Logic.{_⊎_, inl, inr}
-use mathlib.Core.Bool.{Bool, true, false, _&&_}
-use mathlib.Core.List.{List, _++_}
-use Prim.Native.Nat.{ℕ, zero, suc, _+_, _≤_, _<_, min}
-use native.Mathlib.Omega.{arith}
-use native.Mathlib.Numerals.{add-one}
-use lib.Dec.{leb, eqb}
-use lib.ListN.{length, getD, take, drop, set, replicate, length-set, length-append, length-drop, length-replicate}
-use lib.Seq.{drop-cons, drop-length, getD-set-same, getD-set-other, length-take-le}
-use borrow.Author.Tests.{le-leb, lt-leb, eqb-true, eqb-false}
-use Rattle.mesh.specs.Limits.{max-radios}
-use Rattle.mesh.specs.Orders.{each-once, rising}
-use Rattle.lists.proofs.Tests.{bool-cases, never, trichotomy}
-use Rattle.lists.specs.Facts.{Each-once}
-use Rattle.lists.proofs.Range.{once-of, once-below, once-distinct}
-use Rattle.mesh.proofs.Cores.Orders.{each-once-of, of-each-once}
-use Rattle.conditions.specs.Conditions.{rising-from}
-use Rattle.conditions.proofs.RowByRow.{rising-from-zero}
+use Rattle.lists.{specs.Kit.{_≡_, refl, sym, ap, _∙_, _⊎_, inl, inr, Bool, true, false, _&&_, List, _++_, ℕ, zero, suc, _+_, _≤_, _<_, min, arith, add-one}}
+use Rattle.lists.{specs.Kit.{leb, eqb, length, getD, take, drop, set, replicate, length-set, length-append, length-drop, length-replicate, drop-cons}}
+use Rattle.lists.{specs.Kit.{drop-length, getD-set-same, getD-set-other, length-take-le, le-leb, lt-leb, eqb-true, eqb-false}, proofs.Tests.{bool-cases, never}}
+use Rattle.lists.{proofs.Tests.{trichotomy}, specs.Facts.{Each-once}, proofs.Range.{once-of, once-below, once-distinct}, proofs.Member.{in-getD, getD-of-in}}
+use Rattle.lists.{proofs.Distinct.{distinct-at, distinct-twice}}
+use Rattle.mesh.{specs.Limits.{max-radios}, specs.Orders.{each-once, rising}, proofs.Cores.Orders.{each-once-of, of-each-once}}
+use Rattle.conditions.{specs.Conditions.{rising-from}, proofs.RowByRow.{rising-from-zero}}
 use Rattle.soundness.specs.Checks.{Placing, Places-found, nowhere}
-use Rattle.lists.proofs.Member.{in-getD, getD-of-in}
-use Rattle.lists.proofs.Distinct.{distinct-at, distinct-twice}
 
 -- ---- numbers along the order
 

@@ -1,33 +1,15 @@
 -- The whole check on plain values: what its parts come back with decides soundness, and the calls over it.
-use mathlib.Core.Path.{_≡_, refl, sym, ap, _∙_}
-use mathlib.Core.Logic.{_⊎_, inl, inr}
-use mathlib.Core.Bool.{Bool, true, false, _&&_, cond, and-true, and-false}
-use mathlib.Core.List.{List}
-use Prim.Native.Nat.{ℕ, _≤_, min}
-use native.Mathlib.Omega.{arith}
-use mir.Val.{boolByte}
-use lib.Dec.{eqb}
-use lib.ListN.{length, getD}
-use Rattle.mesh.specs.Limits.{max-radios, max-neighbours}
-use Rattle.lists.specs.Lists.{range, all, Entries-below}
-use Rattle.lists.specs.Facts.{Each-once}
-use Rattle.mesh.specs.Orders.{each-once, rising}
-use Rattle.mesh.specs.Tables.{Tables}
-use Rattle.mesh.specs.Sound.{rows-proper, number-in, sound, sound-within}
-use Rattle.lists.proofs.Tests.{bool-cases, never, and-left, and-right, byte-bit}
-use Rattle.lists.proofs.Range.{once-below}
-use Rattle.mesh.proofs.Cores.Orders.{each-once-of}
-use Rattle.calls.specs.Questions.{ask, Lengths, lengths-of, size-good, site-lengths, answer-length, lent-refusal, site-refusal, tables-refusal}
-use Rattle.calls.specs.Contracts.{Check-contract}
-use Rattle.calls.specs.Outcomes.{check-outcome}
-use Rattle.calls.proofs.ContractLaws.{value-refused, value-answered}
-use Rattle.calls.proofs.ChainLaws.{Lent-good, lent-zero, lent-yes, site-zero}
-use Rattle.calls.proofs.QuestionLaws.{true-size-good, true-site-lengths, true-answer-length, size-good-true, Site-lengths, site-lengths-true}
-use Rattle.calls.proofs.QuestionLaws.{answer-length-true}
-use Rattle.conditions.specs.Conditions.{Placed, row-good}
+use Rattle.lists.{specs.Kit.{_≡_, refl, sym, ap, _∙_, _⊎_, inl, inr, Bool, true, false, _&&_, and-true, and-false, List, ℕ, _≤_, min, arith, eqb, length, getD}}
+use Rattle.lists.{specs.Lists.{range, all, Entries-below}, specs.Facts.{Each-once}, proofs.Tests.{bool-cases, never, and-left, and-right}}
+use Rattle.lists.{proofs.Range.{once-below}, proofs.Member.{in-getD}}
+use Rattle.mesh.{specs.Limits.{max-radios, max-neighbours}, specs.Orders.{each-once, rising}, specs.Tables.{Tables}, specs.Sound.{rows-proper, number-in}}
+use Rattle.mesh.{specs.Sound.{sound, sound-within}, proofs.Cores.Orders.{each-once-of}}
+use Rattle.calls.{specs.Questions.{ask, Lengths, lengths-of, size-good, site-lengths, answer-length, lent-refusal, site-refusal, tables-refusal}}
+use Rattle.calls.{specs.Contracts.{Check-contract}, specs.Outcomes.{check-outcome}, proofs.ContractLaws.{value-refused, value-answered}}
+use Rattle.calls.{proofs.ChainLaws.{Lent-good, lent-zero, lent-yes, site-zero}, proofs.QuestionLaws.{true-size-good, true-site-lengths, true-answer-length}}
+use Rattle.calls.{proofs.QuestionLaws.{size-good-true, site-lengths-true, answer-length-true}}
+use Rattle.conditions.{specs.Conditions.{Placed, row-good}, proofs.RowByRow.{sound-rows}}
 use Rattle.soundness.specs.Checks.{Placing, Rows-room, Rows-checked, Sizes, Held, Asked, examinable, Examined, fits-sound}
-use Rattle.lists.proofs.Member.{in-getD}
-use Rattle.conditions.proofs.RowByRow.{sound-rows}
 
 -- ---- the conditions together
 

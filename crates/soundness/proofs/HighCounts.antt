@@ -2,25 +2,14 @@
 --   sound-symmetric .. sound-within-n   the conditions on rows that reading over the graph wants
 --   high-count-neighbours-in            a high count is the count of neighbours that are not below the radio
 --   examined-sound, examined-high       what a caller of examine knows when the answer is yes
-use mathlib.Core.Path.{_≡_, refl, sym, ap, _∙_}
-use mathlib.Core.Bool.{Bool, true, _&&_}
-use mathlib.Core.List.{List}
-use Prim.Native.Nat.{ℕ, _≤_, _<_}
-use lib.Dec.{leb}
-use lib.ListN.{length, getD}
-use Rattle.mesh.specs.Limits.{max-radios, max-neighbours}
-use Rattle.lists.specs.Lists.{range, count}
-use Rattle.mesh.specs.Graph.{linked, radios, neighbours-in}
-use Rattle.mesh.specs.Orders.{each-once, rising, few-later}
-use Rattle.mesh.specs.Tables.{Tables, marked, graph-in}
-use Rattle.mesh.specs.Sound.{symmetric, irreflexive, within, few, rows-proper, enough, number-in, sound, sound-within}
-use Rattle.lists.proofs.Tests.{and-left, and-right}
-use Rattle.lists.proofs.Filter.{count-filter}
+use Rattle.lists.{specs.Kit.{_≡_, refl, sym, ap, _∙_, Bool, true, _&&_, List, ℕ, _≤_, _<_, leb, length, getD}, specs.Lists.{range, count}}
+use Rattle.lists.{proofs.Tests.{and-left, and-right}, proofs.Filter.{count-filter}}
+use Rattle.mesh.specs.{Limits.{max-radios, max-neighbours}, Graph.{linked, radios, neighbours-in}, Orders.{each-once, rising, few-later}, Tables.{Tables}}
+use Rattle.mesh.specs.{Tables.{marked, graph-in}, Sound.{symmetric, irreflexive, within, few, rows-proper, enough, number-in, sound, sound-within}}
 use Rattle.calls.specs.Questions.{lengths-of}
-use Rattle.rows.specs.Rows.{neighbours-of}
+use Rattle.rows.{specs.Rows.{neighbours-of}, proofs.RowListLaws.{neighbours-of-linked}}
 use Rattle.conditions.specs.Conditions.{high-count}
 use Rattle.soundness.specs.Checks.{Sizes, examinable, Examined}
-use Rattle.rows.proofs.RowListLaws.{neighbours-of-linked}
 use Rattle.soundness.proofs.ExamineLaws.{examinable-true}
 
 module _ (n : ℕ) (t : Tables) (yes : sound n t ≡ true) where

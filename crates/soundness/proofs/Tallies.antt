@@ -1,30 +1,14 @@
 -- The ends of a row counted, on plain values.
 -- In order: the first of the later ends by its key, ends counted one by one and part by part, a word walked, a row walked.
-use mathlib.Core.Path.{_≡_, refl, sym, ap, _∙_}
-use mathlib.Core.Logic.{_⊎_, inl, inr}
-use mathlib.Core.Bool.{Bool, true, false, _&&_, cond}
-use mathlib.Core.List.{List, [], _∷_, _++_}
-use Prim.Native.Nat.{ℕ, zero, suc, _+_, _*_, _-_, _^_, _≤_, _<_, min}
-use native.Mathlib.Omega.{arith}
-use mir.Syntax.{w8}
-use mir.Val.{boolByte, Fits}
-use lib.Bits.{bitAnd, and-le-l}
-use lib.Count.{trailingZeros}
-use lib.Dec.{ltb, leb}
-use lib.ListN.{length, getD, length-append}
-use borrow.Author.Tests.{lt-ltb, le-ltb}
-use Rattle.mesh.specs.Limits.{max-neighbours, row-bytes}
-use Rattle.lists.specs.Lists.{count, all}
-use Rattle.mesh.specs.Tables.{marked}
-use Rattle.lists.proofs.Tests.{bool-cases, never, bit-one, byte-bit}
-use Rattle.lists.proofs.Count.{count-append}
-use Rattle.lists.proofs.All.{all-append}
-use Rattle.rows.specs.Rows.{neighbours-of, row-from, set-bits, row-word}
-use Rattle.rows.proofs.WordLaws.{set-bits-nothing, set-bits-lowest, length-set-bits-le}
-use Rattle.rows.proofs.RowWords.{row-from-zero, row-from-word, row-from-end}
-use Rattle.rows.proofs.MaskLaws.{marked-past}
-use Rattle.conditions.specs.Conditions.{sooner-key, first-key, later-count, high-count, highest-word}
-use Rattle.conditions.proofs.HighestWord.{highest-word-below, highest-word-above}
+use Rattle.lists.{specs.Kit.{_≡_, refl, sym, ap, _∙_, _⊎_, inl, inr, Bool, true, false, _&&_, cond, List, [], _∷_, _++_, ℕ, zero, suc, _+_, _*_, _-_, _^_, _≤_}}
+use Rattle.lists.{specs.Kit.{_<_, min, arith, bitAnd, and-le-l, trailingZeros, ltb, leb, length, getD, length-append, lt-ltb, le-ltb}, specs.Lists.{count, all}}
+use Rattle.lists.{proofs.Tests.{bool-cases, never, bit-one, byte-bit}, proofs.Count.{count-append}, proofs.All.{all-append}}
+use mir.{Syntax.{w8}, Val.{boolByte, Fits}}
+use Rattle.mesh.specs.{Limits.{max-neighbours, row-bytes}, Tables.{marked}}
+use Rattle.rows.{specs.Rows.{neighbours-of, row-from, set-bits, row-word}, proofs.WordLaws.{set-bits-nothing, set-bits-lowest, length-set-bits-le}}
+use Rattle.rows.{proofs.RowWords.{row-from-zero, row-from-word, row-from-end}, proofs.MaskLaws.{marked-past}}
+use Rattle.conditions.{specs.Conditions.{sooner-key, first-key, later-count, high-count, highest-word}, proofs.HighestWord.{highest-word-below}}
+use Rattle.conditions.{proofs.HighestWord.{highest-word-above}}
 use Rattle.soundness.specs.Checks.{ends-mark, Highest-words, Tally, tally, Tallied, Walked, Walk-room}
 
 pub count-fits : (x : ℕ) (t : Bool) → x < 255 → Fits w8 (x + boolByte t)

@@ -10,19 +10,9 @@
 --   fits-sound               questions 1 to 3 get yes
 --   Sound-site               what sound tables say of the graph that they mark
 -- The conditions on a row that they speak of are in crate row_conditions. Definitions only.
-use mathlib.Core.Path.{_≡_}
-use mathlib.Core.Bool.{Bool, true, _&&_}
-use mathlib.Core.List.{List, []}
-use Prim.Native.Nat.{ℕ, _+_, _*_, _%_, _≤_, _<_, min}
-use lib.Dec.{leb}
-use lib.ListN.{length, getD}
-use Rattle.mesh.specs.Limits.{max-radios, max-neighbours, row-bytes}
-use Rattle.lists.specs.Lists.{range, all, head-or}
-use Rattle.mesh.specs.Orders.{each-once, later-in, nobody}
-use Rattle.mesh.specs.Tables.{Tables, marked, graph-in}
-use Rattle.mesh.specs.Graph.{linked}
-use Rattle.mesh.specs.Cores.{numbers}
-use Rattle.mesh.specs.Sound.{symmetric, irreflexive, within, few, sound}
+use Rattle.lists.specs.{Kit.{_≡_, Bool, true, _&&_, List, [], ℕ, _+_, _*_, _%_, _≤_, _<_, min, leb, length, getD}, Lists.{range, all, head-or}}
+use Rattle.mesh.specs.{Limits.{max-radios, max-neighbours, row-bytes}, Orders.{each-once, later-in, nobody}, Tables.{Tables, marked, graph-in}, Graph.{linked}}
+use Rattle.mesh.specs.{Cores.{numbers}, Sound.{symmetric, irreflexive, within, few, sound}}
 use Rattle.calls.specs.Questions.{Lengths, lengths-of, size-good, site-lengths, answer-length, site-refusal}
 use Rattle.rows.specs.Rows.{neighbours-of}
 use Rattle.conditions.specs.Conditions.{Placed, Highs, later-count, first-key, high-count, ends-good, row-good, highest-word}

@@ -1,9 +1,6 @@
 // The soundness check: document 01's local conditions, decided for any content of tables of the right lengths, and questions 1 to 3,
 // which every call over a site puts. An entry is tested before it is used as an index.
-ghost use mathlib.Core.Path.{_≡_};
-ghost use mathlib.Core.Bool.{true};
-ghost use Prim.Native.Nat.{_+_, _*_, _/_, _≤_, _<_};
-ghost use lib.ListN.{length};
+ghost use Rattle.lists.specs.Kit.{_≡_, true, _+_, _*_, _/_, _≤_, _<_, length};
 ghost use Rattle.mesh.specs.Limits.{max-radios, row-bytes};
 ghost use Rattle.mesh.specs.Orders.{rising};
 ghost use Rattle.mesh.specs.Sound.{number-in, sound};

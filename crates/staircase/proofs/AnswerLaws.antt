@@ -1,27 +1,12 @@
 -- The call's contract, met: refused and answered.
-use mathlib.Core.Path.{_≡_, sym, _∙_}
-use mathlib.Core.List.{List}
-use Prim.Native.Nat.{ℕ, _*_, _≤_}
-use native.Mathlib.Omega.{arith}
-use lib.Dec.{leb}
-use lib.ListN.{length}
-use borrow.Author.Tests.{leb-true}
-use Rattle.lists.specs.Lists.{range}
-use Rattle.mesh.specs.Limits.{max-radios, max-neighbours}
-use Rattle.mesh.specs.Connected.{greatest}
-use Rattle.mesh.specs.Tables.{Tables}
-use Rattle.mesh.specs.Sound.{sound}
-use Rattle.calls.specs.Questions.{lengths-of, site-refusal, staircase-length, staircase-refusal}
-use Rattle.calls.specs.Contracts.{Staircase-contract}
-use Rattle.rows.specs.Links.{links-from, Rows-listed}
-use Rattle.mesh.proofs.Tables.Rows.{symmetric-of}
-use Rattle.mesh.proofs.Trees.Listed.{greatest-le}
-use Rattle.calls.proofs.SheetLaws.{numbers-two-digits}
-use Rattle.calls.proofs.ChainLaws.{Site-good, site-zero}
-use Rattle.calls.specs.Outcomes.{value, staircase-outcome}
-use Rattle.calls.proofs.ContractLaws.{listing-refused, listing-answered}
+use Rattle.lists.specs.{Kit.{_≡_, sym, _∙_, List, ℕ, _*_, _≤_, arith, leb, length, leb-true}, Lists.{range}}
+use Rattle.mesh.{specs.Limits.{max-radios, max-neighbours}, specs.Connected.{greatest}, specs.Tables.{Tables}, specs.Sound.{sound}}
+use Rattle.mesh.{proofs.Tables.Rows.{symmetric-of}, proofs.Trees.Listed.{greatest-le}}
+use Rattle.calls.{specs.Questions.{lengths-of, site-refusal, staircase-length, staircase-refusal}, specs.Contracts.{Staircase-contract}}
+use Rattle.calls.{proofs.SheetLaws.{numbers-two-digits}, proofs.ChainLaws.{Site-good, site-zero}, specs.Outcomes.{value, staircase-outcome}}
+use Rattle.calls.{proofs.ContractLaws.{listing-refused, listing-answered}}
+use Rattle.rows.{specs.Links.{links-from, Rows-listed}, proofs.GraphLinks.{rows-listed-few}}
 use Rattle.soundness.proofs.SoundSite.{Sound-site, site-good-sound}
-use Rattle.rows.proofs.GraphLinks.{rows-listed-few}
 use Rattle.forests.specs.Growing.{growing, grown-all, table-weight, levels-falling}
 use Rattle.staircase.specs.Rows.{Mutual}
 use Rattle.staircase.proofs.LevelLaws.{staircase-count, staircase-table}

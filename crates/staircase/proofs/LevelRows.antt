@@ -4,41 +4,21 @@
 --   radios-putting-.., neighbours-putting-..   listed radios, and their neighbours, put into a set
 --   level-rows        the rows listed
 --   level-links       the links of the listed rows are the links of the level's weight
-use mathlib.Core.Path.{_≡_, refl, sym, ap, ap₂, _∙_}
-use mathlib.Core.Logic.{_⊎_, inl, inr}
-use mathlib.Core.Bool.{Bool, true, false, _&&_, not, cond}
-use mathlib.Core.List.{List, [], _∷_, _++_, flatMap, append-nil}
-use Prim.Native.Nat.{ℕ, _+_, _*_, _-_, _/_, _%_, _≤_, _<_, min}
-use native.Mathlib.Omega.{arith}
-use lib.Dec.{ltb, leb, eqb}
-use lib.ListN.{length, getD, take, replicate, length-take, List·getD-eq-default}
-use lib.Seq.{take-all}
-use borrow.Author.Tests.{ltb-true, lt-ltb, leb-true, leb-false, le-leb, lt-leb, eqb-true, eqb-false, eq-eqb, ne-eqb}
-use Rattle.mesh.specs.Limits.{max-radios, row-bytes}
-use Rattle.lists.specs.Lists.{range, filter, member, overwrite, In, Entries-below}
-use Rattle.mesh.specs.Connected.{greatest}
-use Rattle.mesh.specs.Graph.{Link, link-of}
-use Rattle.mesh.specs.Tables.{marked}
-use Rattle.mesh.specs.Staircase.{filter-links, of-weight}
-use Rattle.lists.proofs.Tests.{bool-cases, never, and-left, and-right, and-both, or-left, or-right, iff-eq}
-use Rattle.lists.proofs.Range.{range-in, in-range, range-append, length-range}
-use Rattle.lists.proofs.Filter.{in-filter, filter-in, filter-none, filter-ext, filter-le}
-use Rattle.lists.proofs.Member.{in-getD, getD-of-in}
-use Rattle.lists.proofs.Map.{flatMap-none, flatMap-append}
-use Rattle.lists.proofs.Overwrite.{take-overwrite}
-use Rattle.mesh.proofs.Trees.Listed.{getD-le-greatest}
-use Rattle.rows.specs.Rows.{row-listed, neighbours-above}
-use Rattle.rows.proofs.RowListLaws.{in-neighbours-of, member-neighbours-of}
-use Rattle.rows.proofs.RowWords.{row-listed-whole, row-listed-short}
-use Rattle.rows.specs.Sets.{in-set, put-in, Row-joined, common, Common-taken, Set-taken, members, Listed}
-use Rattle.rows.proofs.SetLaws.{in-set-zeros, in-set-radio, in-put-in, length-put-in}
-use Rattle.rows.specs.Links.{links-to, links-above, links-from}
+use Rattle.lists.{specs.Kit.{_≡_, refl, sym, ap, ap₂, _∙_, _⊎_, inl, inr, Bool, true, false, _&&_, not, cond, List, [], _∷_, _++_, flatMap, append-nil, ℕ, _+_}}
+use Rattle.lists.{specs.Kit.{_*_, _-_, _≤_, _<_, min, arith, ltb, leb, eqb, length, getD, take, replicate, length-take, List·getD-eq-default, take-all}}
+use Rattle.lists.{specs.Kit.{ltb-true, lt-ltb, leb-true, leb-false, le-leb, lt-leb, eqb-true, eqb-false, eq-eqb, ne-eqb}, specs.Lists.{range, filter, member}}
+use Rattle.lists.{specs.Lists.{overwrite, In, Entries-below}, proofs.Tests.{bool-cases, never, and-left, and-right, and-both, or-left, or-right, iff-eq}}
+use Rattle.lists.{proofs.Range.{range-in, in-range, range-append, length-range}, proofs.Filter.{in-filter, filter-in, filter-none, filter-ext, filter-le}}
+use Rattle.lists.{proofs.Member.{in-getD, getD-of-in}, proofs.Map.{flatMap-none, flatMap-append}, proofs.Overwrite.{take-overwrite}}
+use Rattle.mesh.{specs.Limits.{max-radios, row-bytes}, specs.Connected.{greatest}, specs.Graph.{Link, link-of}, specs.Tables.{marked}}
+use Rattle.mesh.{specs.Staircase.{filter-links, of-weight}, proofs.Trees.Listed.{getD-le-greatest}}
+use Rattle.rows.{specs.Rows.{row-listed, neighbours-above}, proofs.RowListLaws.{in-neighbours-of, member-neighbours-of}, proofs.RowWords.{row-listed-whole}}
+use Rattle.rows.{proofs.RowWords.{row-listed-short}, specs.Sets.{in-set, put-in, Row-joined, common, Common-taken, Set-taken, members, Listed}}
+use Rattle.rows.{proofs.SetLaws.{in-set-zeros, in-set-radio, in-put-in, length-put-in}, specs.Links.{links-to, links-above, links-from}}
 use Rattle.floods.specs.Floods.{of-level, Level-set}
-use Rattle.forests.proofs.Forests.{filter-links-append}
-use Rattle.forests.specs.Growing.{table-weight}
-use Rattle.staircase.specs.Taking.{greatest-below}
+use Rattle.forests.{proofs.Forests.{filter-links-append}, specs.Growing.{table-weight}}
+use Rattle.staircase.specs.{Taking.{greatest-below}, Rows.{row-among, level-row, Rows-whole, Radios-put, Neighbours-put, Level-sets, Level-rows, Mutual}}
 use Rattle.staircase.proofs.SkipLaws.{number-radio, number-below}
-use Rattle.staircase.specs.Rows.{row-among, level-row, Rows-whole, Radios-put, Neighbours-put, Level-sets, Level-rows, Mutual}
 
 -- ---- the radios of a level
 

@@ -4,38 +4,16 @@
 --   row-words       the links to radios above the row's own
 --   level-row-..    which set counts for a radio
 --   rows-..         rows in turn
-use mathlib.Core.Path.{_≡_, refl, sym, ap, _∙_}
-use mathlib.Core.Logic.{_⊎_, inl, inr}
-use mathlib.Core.Bool.{Bool, true, false, cond}
-use mathlib.Core.List.{List, [], _∷_, _++_, flatMap}
-use Prim.Native.Nat.{ℕ, zero, suc, _+_, _*_, _-_, _/_, _%_, _^_, _≤_, _<_, min}
-use native.Mathlib.Numerals.{add-one}
-use native.Mathlib.Omega.{arith}
-use lib.Bits.{bitAnd, and-step, and-shr}
-use lib.Count.{trailingZeros}
-use lib.Arith.{lt-one}
-use lib.Dec.{ltb, eqb}
-use lib.ListN.{length, getD, take, drop, drop-of-length-le}
-use lib.Pow.{pow-mono, shr-shr, shr-lt}
-use lib.Seq.{drop-cons}
-use borrow.Author.Tests.{ltb-true, ltb-false, eqb-true, eqb-false, ne-eqb}
-use Rattle.mesh.specs.Limits.{max-radios, row-bytes}
-use Rattle.lists.specs.Lists.{range, filter, In}
-use Rattle.mesh.specs.Graph.{Link, In-links, link-of}
-use Rattle.mesh.specs.Tables.{digit, marked}
-use Rattle.lists.proofs.Tests.{bool-cases, never}
-use Rattle.lists.proofs.Filter.{in-filter, filter-append}
-use Rattle.lists.proofs.Range.{range-in}
-use Rattle.lists.proofs.Map.{map-append}
-use Rattle.mesh.proofs.Tables.Digits.{digit-zero, digit-suc}
-use Rattle.rows.specs.Rows.{row-from, set-bits, word-of}
-use Rattle.rows.proofs.WordLaws.{set-bits-lowest, word-at-less}
-use Rattle.rows.proofs.RowWords.{row-from-word, row-from-end, word-of-row}
-use Rattle.rows.proofs.AboveWords.{above-words}
-use Rattle.rows.specs.Sets.{in-set}
-use Rattle.rows.specs.Links.{links-to}
-use Rattle.staircase.specs.Taking.{Takeable}
-use Rattle.staircase.specs.Rows.{row-among, level-row}
+use Rattle.lists.{specs.Kit.{_≡_, refl, sym, ap, _∙_, _⊎_, inl, inr, Bool, true, false, cond, List, [], _∷_, _++_, flatMap, ℕ, zero, suc, _+_, _*_, _-_, _/_}}
+use Rattle.lists.{specs.Kit.{_%_, _^_, _≤_, _<_, min, add-one, arith, bitAnd, and-step, and-shr, trailingZeros, ltb, eqb, length, getD, take, drop}}
+use Rattle.lists.{specs.Kit.{drop-of-length-le, drop-cons, ltb-true, ltb-false, eqb-true, eqb-false, ne-eqb}, specs.Lists.{range, filter, In}}
+use Rattle.lists.{proofs.Tests.{bool-cases, never}, proofs.Filter.{in-filter, filter-append}, proofs.Range.{range-in}, proofs.Map.{map-append}}
+use lib.{Arith.{lt-one}, Pow.{pow-mono, shr-shr, shr-lt}}
+use Rattle.mesh.{specs.Limits.{max-radios, row-bytes}, specs.Graph.{Link, In-links, link-of}, specs.Tables.{digit, marked}, proofs.Tables.Digits.{digit-zero}}
+use Rattle.mesh.{proofs.Tables.Digits.{digit-suc}}
+use Rattle.rows.{specs.Rows.{row-from, set-bits, word-of}, proofs.WordLaws.{set-bits-lowest, word-at-less}, proofs.RowWords.{row-from-word, row-from-end}}
+use Rattle.rows.{proofs.RowWords.{word-of-row}, proofs.AboveWords.{above-words}, specs.Sets.{in-set}, specs.Links.{links-to}}
+use Rattle.staircase.specs.{Taking.{Takeable}, Rows.{row-among, level-row}}
 
 -- ---- set bits of two words
 

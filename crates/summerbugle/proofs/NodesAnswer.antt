@@ -3,35 +3,18 @@
 --   length-tree      a tree has at most n + 1 nodes
 --   lent-count       the count fits the list and the tables
 --   lent-tree        Tables-contract of blank tables, and then Tree-contract
-use mathlib.Core.Path.{_≡_, refl, sym, ap, ap₂, subst, _∙_}
-use mathlib.Core.Logic.{_⊎_, inl, inr}
-use mathlib.Core.Bool.{Bool, true, false, _&&_}
-use mathlib.Core.List.{List, [], _∷_, _++_, map}
-use Prim.Native.Nat.{ℕ, zero, suc, _+_, _≤_, _<_, min}
-use native.Mathlib.Omega.{arith}
-use lib.Dec.{leb}
-use lib.ListN.{length, getD, take, drop, replicate, length-replicate, List·getD-append, List·getD-map}
-use lib.Seq.{take-suc, take-length}
-use borrow.Author.Tests.{leb-true, leb-false, le-leb, lt-leb}
-use Rattle.mesh.specs.Limits.{max-radios}
-use Rattle.lists.specs.Lists.{overwrite}
-use Rattle.mesh.specs.Graph.{Graph}
-use Rattle.mesh.specs.Tables.{Tables, graph-in}
-use Rattle.mesh.specs.Sound.{sound}
-use Rattle.mesh.specs.Tree.{node, tree, node-names}
-use Rattle.mesh.specs.declared.Node.{Node}
-use Rattle.lists.proofs.Tests.{bool-cases, and-left}
-use Rattle.mesh.proofs.Trees.Laws.{number-le-n}
-use Rattle.calls.specs.Questions.{ask, Lengths, lengths-of, size-good, site-lengths, nodes-length, answer-length, lent-refusal, site-refusal, tree-refusal}
-use Rattle.calls.specs.Outcomes.{by-number, value, Treed, treed, tree-outcome}
-use Rattle.calls.specs.Contracts.{Tree-contract}
-use Rattle.calls.specs.declared.Value.{Value}
-use Rattle.calls.proofs.QuestionLaws.{ask-later, size-good-true, nodes-length-true}
-use Rattle.calls.proofs.ChainLaws.{site-zero}
+use Rattle.lists.{specs.Kit.{_≡_, refl, sym, ap, ap₂, subst, _∙_, _⊎_, inl, inr, Bool, true, false, _&&_, List, [], _∷_, _++_, map, ℕ, zero, suc, _+_, _≤_}}
+use Rattle.lists.{specs.Kit.{_<_, min, arith, leb, length, getD, take, drop, replicate, length-replicate, List·getD-append, List·getD-map, take-suc}}
+use Rattle.lists.{specs.Kit.{take-length, leb-true, leb-false, le-leb, lt-leb}, specs.Lists.{overwrite}, proofs.Tests.{bool-cases, and-left}}
+use Rattle.lists.{proofs.Map.{length-map}}
+use Rattle.mesh.{specs.Limits.{max-radios}, specs.Graph.{Graph}, specs.Tables.{Tables, graph-in}, specs.Sound.{sound}, specs.Tree.{node, tree, node-names}}
+use Rattle.mesh.{specs.declared.Node.{Node}, proofs.Trees.Laws.{number-le-n}}
+use Rattle.calls.{specs.Questions.{ask, Lengths, lengths-of, size-good, site-lengths, nodes-length, answer-length, lent-refusal, site-refusal, tree-refusal}}
+use Rattle.calls.{specs.Outcomes.{by-number, value, Treed, treed, tree-outcome}, specs.Contracts.{Tree-contract}, specs.declared.Value.{Value}}
+use Rattle.calls.{proofs.QuestionLaws.{ask-later, size-good-true, nodes-length-true}, proofs.ChainLaws.{site-zero}}
 use Rattle.summerbugle.specs.Nodes.{nodes-in}
-use Rattle.tree.specs.Trees.{Lists, lists, with-front, places, Filled, filled, tables-outcome, Tables-contract}
-use Rattle.lists.proofs.Map.{length-map}
-use Rattle.tree.proofs.NodeLists.{nodes-before-tree, length-nodes-before}
+use Rattle.tree.{specs.Trees.{Lists, lists, with-front, places, Filled, filled, tables-outcome, Tables-contract}, proofs.NodeLists.{nodes-before-tree}}
+use Rattle.tree.{proofs.NodeLists.{length-nodes-before}}
 
 -- ---- nodes in front of three tables
 

@@ -1,33 +1,26 @@
 -- The public calls run, in cells: `runs`, of each the routine that its code is, from the triple that is proved of it.
 --   routines    the routines of the public calls
 --   runs        each runs as crate hosts says of it
-use mathlib.Core.Path.{_≡_, ap}
-use mathlib.Core.Bool.{Bool, true, false}
-use mathlib.Core.List.{List, [], _∷_}
-use Prim.Native.Nat.{ℕ}
+use Rattle.lists.specs.Kit.{_≡_, ap, Bool, true, false, List, [], _∷_, ℕ}
 use mir.Syntax.{w8, w16, w32, w64}
-use contract.Running.{Running, real}
-use contract.BorrowModel.{ghost₀}
+use contract.{Running.{Running, real}, BorrowModel.{ghost₀}}
 use prog.Routine.{Routine}
-use ghost.Model as Closed
-use Rattle.machine.specs.Cells.{Inputs, Outputs, Lent, entries, Runs}
-use Rattle.machine.proofs.Whole.{𝓥}
-use Rattle.machine.proofs.Rows.{Row}
-use Rattle.machine.proofs.Lending.{Lending, by-value, to-read, to-write, params}
-use Rattle.machine.proofs.Law.{Answer, Promised, in-cells}
-use Rattle.machine.proofs.Numbers.{number-row, signed-row, number-answer, declared-answer}
+use Rattle.machine.{specs.Cells.{entries, Runs}, proofs.Whole.{𝓥}, proofs.Rows.{Row}, proofs.Lending.{Lending, by-value, to-read, to-write}}
+use Rattle.machine.{proofs.Law.{Answer, Promised, in-cells}, proofs.Numbers.{number-row, signed-row, number-answer, declared-answer}}
 use Rattle.mesh.specs.Tables.{Tables, tables}
-use Rattle.calls.specs.Outcomes.{Numbered, Linked, Asked, Committed, Batched, Heard, Listing, Treed}
-use Rattle.calls.specs.MarkOutcomes.{Stored}
-use Rattle.calls.specs.declared.Value.{Value}
-use Rattle.calls.specs.declared.Later.{Later}
-use Rattle.calls.specs.declared.Pair.{Pair}
-use Rattle.calls.specs.declared.Block.{Block}
-use Rattle.calls.specs.Contracts.{Clear-contract, Read-contract, Return-contract, Link-contract, Ask-contract, Commit-contract, Batch-contract, Hear-contract}
-use Rattle.calls.specs.Contracts.{Check-contract, Number-contract, Neighbours-contract, Linked-contract, First-contract, Later-contract, Lift-contract}
-use Rattle.calls.specs.Contracts.{Core-contract, Backbone-contract, Staircase-contract, Write-contract, Sheet-contract, Script-length-contract}
-use Rattle.calls.specs.Contracts.{Script-contract}
-use Rattle.calls.specs.Contracts.{Tree-contract, Set-contract, Remove-contract, Block-contract}
+use Rattle.calls.specs.{Outcomes.{Numbered, Linked, Asked, Committed, Batched, Heard, Listing, Treed}, MarkOutcomes.{Stored}, declared.Value.{Value}}
+use Rattle.calls.specs.{declared.Later.{Later}, declared.Pair.{Pair}, declared.Block.{Block}, Contracts.{Clear-contract, Read-contract, Return-contract}}
+use Rattle.calls.specs.{Contracts.{Link-contract, Ask-contract, Commit-contract, Batch-contract, Hear-contract, Check-contract, Number-contract}}
+use Rattle.calls.specs.{Contracts.{Neighbours-contract, Linked-contract, First-contract, Later-contract, Lift-contract, Core-contract, Backbone-contract}}
+use Rattle.calls.specs.{Contracts.{Staircase-contract, Write-contract, Sheet-contract, Script-length-contract, Script-contract, Tree-contract, Set-contract}}
+use Rattle.calls.specs.{Contracts.{Remove-contract, Block-contract}}
+use Rattle.hosts.specs.{Public.{Public, of-book, this-version, call, the-tables, tables-then}, Public.Known.{clear, image-read, link, commit, link-batch, hear}}
+use Rattle.hosts.specs.{Public.Known.{mark-set, mark-remove, mark-return}, Public.Public.{ask, check, number, neighbours, linked, first, later-of, lift, core}}
+use Rattle.hosts.specs.{Public.Public.{backbone, tree, staircase, image-write, sheet, script-length, script-write, image-block, reader-open, reader-step}}
+use Rattle.hosts.specs.{Public.Public.{reader-moved, version}}
+use Rattle.block_reader.proofs.Runs.{open-runs, step-runs, moved-runs}
+use Rattle.summerbugle.proofs.NodeRow.{node-row}
+use ghost.Model as Closed
 use Rattle.calls.proofs.Reply as reply
 use Rattle.calls.proofs.Reply.Laws as reply-laws
 use Rattle.calls.proofs.Value as value
@@ -98,15 +91,9 @@ use Rattle.summerbugle.proofs.sb_version.Symbol as version-symbol
 use Rattle.summerbugle.proofs.sb_version.Met as version-proof
 use Rattle.summerbugle.proofs.sb_image_block.Symbol as image-block-symbol
 use Rattle.summerbugle.proofs.sb_image_block.Met as image-block-proof
-use Rattle.hosts.specs.Public.{Public, of-book, this-version, call, the-tables, tables-then}
-use Rattle.hosts.specs.Public.Known.{clear, image-read, link, commit, link-batch, hear, mark-set, mark-remove, mark-return}
-use Rattle.hosts.specs.Public.Public.{ask, check, number, neighbours, linked, first, later-of, lift, core, backbone, tree, staircase}
-use Rattle.hosts.specs.Public.Public.{image-write, sheet, script-length, script-write, image-block, reader-open, reader-step, reader-moved, version}
 use Rattle.block_reader.proofs.blocks.open.Symbol as open-symbol
 use Rattle.block_reader.proofs.blocks.step.Symbol as step-symbol
 use Rattle.block_reader.proofs.blocks.moved.Symbol as moved-symbol
-use Rattle.block_reader.proofs.Runs.{open-runs, step-runs, moved-runs}
-use Rattle.summerbugle.proofs.NodeRow.{node-row}
 
 abbrev pub routines : Public → Routine
 routines (of-book clear) = clear-symbol.routine

@@ -1,7 +1,5 @@
 -- Questions 1 and 2 of an empty description.
-use mathlib.Core.Path.{_≡_}
-use mathlib.Core.Bool.{Bool}
-use Prim.Native.Nat.{ℕ}
+use Rattle.lists.specs.Kit.{_≡_, Bool, ℕ}
 use Rattle.mesh.specs.declared.Site.{Site}
 use Rattle.calls.specs.Questions.{ask, Lengths, size-good, lent-refusal}
 

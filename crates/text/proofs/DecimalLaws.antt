@@ -1,15 +1,7 @@
 -- Laws of `decimal`: one digit, a digit more, the length, and that every byte is a digit.
-use mathlib.Core.Path.{_≡_, refl, sym, ap, _∙_}
-use mathlib.Core.Logic.{_⊎_, inl, inr}
-use mathlib.Core.Bool.{true, false}
-use mathlib.Core.List.{List, [], _∷_, _++_, append-nil, append-assoc}
-use Prim.Native.Nat.{ℕ, zero, suc, _+_, _*_, _/_, _%_, _^_, _≤_, _<_}
-use native.Mathlib.Omega.{arith}
-use native.Mathlib.Nat.{pow-succ'}
-use lib.Dec.{ltb}
-use lib.ListN.{length, drop, set, length-append, length-set, drop-of-length-le}
-use borrow.Author.Tests.{ltb-true, ltb-false}
-use Rattle.lists.proofs.Tests.{bool-cases}
+use Rattle.lists.{specs.Kit.{_≡_, refl, sym, ap, _∙_, _⊎_, inl, inr, true, false, List, [], _∷_, _++_, append-nil, append-assoc, ℕ, zero, suc, _+_, _*_, _/_}}
+use Rattle.lists.{specs.Kit.{_%_, _^_, _≤_, _<_, arith, pow-succ', ltb, length, drop, set, length-append, length-set, drop-of-length-le, ltb-true, ltb-false}}
+use Rattle.lists.{proofs.Tests.{bool-cases}}
 use Rattle.text.specs.Text.{digit-byte, digits-in, decimal}
 
 -- ---- digits-in

@@ -1,18 +1,8 @@
 -- Laws of `put`: one text after another, lengths, the place, and what stands in the buffer where the text fits.
-use mathlib.Core.Path.{_≡_, refl, sym, ap, _∙_}
-use mathlib.Core.Logic.{_⊎_, inl, inr}
-use mathlib.Core.Bool.{Bool, true, false, cond}
-use mathlib.Core.List.{List, [], _∷_, _++_, map}
-use Prim.Native.Nat.{ℕ, suc, _+_, _-_, _≤_, _<_, min}
-use native.Mathlib.Omega.{arith}
-use native.Mathlib.Numerals.{add-one}
-use lib.Dec.{ltb}
-use lib.ListN.{length, take, drop, getD, set, length-set, drop-of-length-le}
-use lib.Seq.{drop-cons, set-out, sets, sets-eq}
-use borrow.Author.Tests.{lt-ltb, le-ltb, ltb-true, ltb-false}
-use Rattle.lists.proofs.Tests.{bool-cases}
-use Rattle.text.specs.Text.{space, line-feed, decimal, further-fields}
-use Rattle.text.specs.Print.{Buffer, buffer-at, max-place, next-place, put, Puts}
+use Rattle.lists.{specs.Kit.{_≡_, refl, sym, ap, _∙_, _⊎_, inl, inr, Bool, true, false, cond, List, [], _∷_, _++_, map, ℕ, suc, _+_, _≤_, _<_, min, arith}}
+use Rattle.lists.{specs.Kit.{add-one, ltb, length, take, drop, getD, set, length-set, drop-of-length-le, drop-cons, set-out, sets, sets-eq, lt-ltb, le-ltb}}
+use Rattle.lists.{specs.Kit.{ltb-true, ltb-false}, proofs.Tests.{bool-cases}}
+use Rattle.text.specs.{Text.{space, line-feed, decimal, further-fields}, Print.{Buffer, buffer-at, max-place, next-place, put, Puts}}
 
 -- ---- one byte
 

@@ -1,38 +1,19 @@
 -- The tree grows: one radio keeps the lists and the set right, and so does a level.
 -- In order: lists of nodes and names in front; one radio; the start and the end of a level.
-use mathlib.Core.Path.{_≡_, refl, sym, ap, ap₂, _∙_}
-use mathlib.Core.Logic.{_⊎_, inl, inr}
-use mathlib.Core.Bool.{Bool, true, false, _&&_, _||_, not, cond}
-use mathlib.Core.List.{List, [], _∷_, _++_, map, append-nil}
-use Prim.Native.Nat.{ℕ, zero, suc, _+_, _≤_, _<_}
-use native.Mathlib.Omega.{arith}
-use lib.Dec.{ltb, leb, eqb}
-use lib.ListN.{length, getD, take, set, length-append}
-use borrow.Author.Tests.{ltb-true, lt-ltb, le-leb, eqb-true, eq-eqb, ne-eqb, not-true}
-use Rattle.mesh.specs.Limits.{max-radios}
-use Rattle.lists.specs.Lists.{range, member, overwrite}
-use Rattle.mesh.specs.Graph.{Graph, radios}
-use Rattle.mesh.specs.Cores.{number}
-use Rattle.mesh.specs.Tables.{Tables, graph-in}
-use Rattle.mesh.specs.Connected.{at-least, In-core, core-of}
-use Rattle.mesh.specs.Tree.{node, parent-name}
-use Rattle.mesh.specs.declared.Node.{Node}
-use Rattle.lists.proofs.Tests.{bool-cases, and-left, and-right, and-both, iff-eq}
-use Rattle.lists.proofs.Member.{in-member}
-use Rattle.lists.proofs.Overwrite.{set-overwrite, getD-front}
-use Rattle.lists.proofs.Map.{length-map, map-append, map-range-ext}
-use Rattle.mesh.proofs.Trees.Reach.{core-of-iff}
-use Rattle.mesh.proofs.Trees.CoreLevels.{in-core-below, in-core-level}
+use Rattle.lists.{specs.Kit.{_≡_, refl, sym, ap, ap₂, _∙_, _⊎_, inl, inr, Bool, true, false, _&&_, _||_, not, cond, List, [], _∷_, _++_, map, append-nil, ℕ}}
+use Rattle.lists.{specs.Kit.{suc, _+_, _≤_, _<_, arith, ltb, leb, eqb, length, getD, take, set, length-append, ltb-true, lt-ltb, le-leb, eqb-true, eq-eqb}}
+use Rattle.lists.{specs.Kit.{not-true}, specs.Lists.{range, member, overwrite}, proofs.Tests.{bool-cases, and-left, and-right, and-both, iff-eq}}
+use Rattle.lists.{proofs.Member.{in-member}, proofs.Overwrite.{set-overwrite, getD-front}, proofs.Map.{length-map, map-append, map-range-ext}}
+use Rattle.mesh.{specs.Graph.{Graph, radios}, specs.Cores.{number}, specs.Tables.{Tables, graph-in}, specs.Connected.{at-least, In-core, core-of}}
+use Rattle.mesh.{specs.Tree.{node, parent-name}, specs.declared.Node.{Node}, proofs.Trees.Reach.{core-of-iff}, proofs.Trees.CoreLevels.{in-core-below}}
+use Rattle.mesh.{proofs.Trees.CoreLevels.{in-core-level}}
 use Rattle.rows.specs.Sets.{in-set}
-use Rattle.floods.specs.Floods.{Level-set, Flood-done}
-use Rattle.floods.proofs.FloodCore.{level-radios, member-flood, left-flood}
+use Rattle.floods.{specs.Floods.{Level-set, Flood-done}, proofs.FloodCore.{level-radios, member-flood, left-flood}}
 use Rattle.soundness.proofs.SoundSite.{Sound-site, number-entry}
-use Rattle.tree.specs.Trees.{Lists, lists, with-front, Room, entries-set, Node-taken, own, covered, present}
-use Rattle.tree.proofs.VisitSteps.{takes-node, Nothing-taken, Visited}
-use Rattle.tree.specs.Trees.{nodes-before, Growing, Marks}
-use Rattle.tree.proofs.ShellCover.{own-lead, own-covered, not-covered-own, core-not-covered, covered-none, covered-next, present-next, present-own}
-use Rattle.tree.proofs.ShellCover.{present-start, present-end}
-use Rattle.tree.proofs.NodeLists.{entries-set-map, nodes-before-next, nodes-before-end, length-nodes-before}
+use Rattle.tree.specs.Trees.{Lists, lists, with-front, Room, entries-set, Node-taken, own, covered, present, nodes-before, Growing, Marks}
+use Rattle.tree.proofs.{VisitSteps.{takes-node, Nothing-taken, Visited}, ShellCover.{own-lead, own-covered, not-covered-own, core-not-covered}}
+use Rattle.tree.proofs.{ShellCover.{covered-none, covered-next, present-next, present-own, present-start, present-end}, NodeLists.{entries-set-map}}
+use Rattle.tree.proofs.{NodeLists.{nodes-before-next, nodes-before-end, length-nodes-before}}
 
 -- ---- nodes and names in front
 

@@ -1,24 +1,13 @@
 -- One level as a loop over the radios: what its invariant says, and what it says at the end.
-use mathlib.Core.Path.{_≡_, refl, _∙_}
-use mathlib.Core.Logic.{_⊎_, inl, inr}
-use mathlib.Core.Bool.{true, false}
-use mathlib.Core.List.{List}
-use Prim.Native.Nat.{ℕ, zero, suc, _+_, _-_, _≤_, _<_, min}
-use native.Mathlib.Omega.{arith}
-use native.Mathlib.Numerals.{add-one}
-use lib.ListN.{length}
-use Rattle.mesh.specs.Limits.{max-radios}
-use Rattle.mesh.specs.Tables.{tables, graph-in}
-use Rattle.lists.proofs.Tests.{bool-cases}
-use Rattle.soundness.specs.Checks.{fits-sound}
-use Rattle.soundness.proofs.SoundSite.{fits-sound-site}
-use Rattle.lists.specs.Lists.{head-or}
+use Rattle.lists.{specs.Kit.{_≡_, refl, _∙_, _⊎_, inl, inr, true, false, List, ℕ, zero, suc, _+_, _-_, _≤_, _<_, min, arith, add-one, length}}
+use Rattle.lists.{proofs.Tests.{bool-cases}, specs.Lists.{head-or}}
+use Rattle.mesh.specs.{Limits.{max-radios}, Tables.{tables, graph-in}}
+use Rattle.soundness.{specs.Checks.{fits-sound}, proofs.SoundSite.{fits-sound-site}}
 use Rattle.rows.specs.Sets.{common}
 use Rattle.tree.specs.Trees.{Lists, Room, Node-taken, Shell-set, Growing, Marks, Levelled}
 use Rattle.floods.specs.Floods.{Level-set}
-use Rattle.tree.proofs.GrowLaws.{visited-next, marks-start, growing-end}
-use Rattle.tree.proofs.ShellSets.{takes-none, takes-lowest, later}
-use Rattle.tree.proofs.VisitSteps.{takes-node, Visited, visited-none, visited-node}
+use Rattle.tree.proofs.{GrowLaws.{visited-next, marks-start, growing-end}, ShellSets.{takes-none, takes-lowest, later}, VisitSteps.{takes-node, Visited}}
+use Rattle.tree.proofs.{VisitSteps.{visited-none, visited-node}}
 
 -- the count grows by one at most
 pub visited-count : (ts ns : List ℕ) (k v : ℕ) (s : List ℕ) (before : Lists) (c : ℕ) (t : List ℕ) (after : Lists) (r : ℕ)

@@ -1,32 +1,17 @@
 -- The radios of each level as sets.
 -- In order: the set of one number, the level after it, the lowest radio of a level that the set still has.
-use mathlib.Core.Path.{_≡_, refl, sym, ap, ap₂, _∙_}
-use mathlib.Core.Logic.{_⊎_, inl, inr}
-use mathlib.Core.Bool.{Bool, true, false, _&&_, not, cond}
-use mathlib.Core.List.{List, [], _∷_}
-use Prim.Native.Nat.{ℕ, zero, suc, _+_, _≤_, _<_}
-use native.Mathlib.Omega.{arith}
-use lib.Dec.{ltb, leb, eqb}
-use lib.ListN.{length, getD, take, replicate, length-replicate}
-use borrow.Author.Tests.{ltb-true, ltb-false, lt-ltb, leb-true, le-leb, lt-leb, eqb-true, eqb-false, eq-eqb}
-use Rattle.mesh.specs.Limits.{max-radios, max-neighbours}
-use Rattle.mesh.specs.Orders.{each-once, rising, few-later}
-use Rattle.mesh.specs.Tables.{Tables, marked}
-use Rattle.mesh.specs.Sound.{rows-proper, enough, sound, sound-within}
-use Rattle.mesh.proofs.Cores.Orders.{each-once-of, rising-of}
-use Rattle.lists.specs.Facts.{Each-once, Rising}
-use Rattle.lists.specs.Lists.{range, filter, head-or, member}
-use Rattle.lists.proofs.Tests.{bool-cases, never, and-left, and-right, and-both, iff-eq}
-use Rattle.lists.proofs.Member.{head-or-below, in-getD, getD-of-in}
-use Rattle.lists.proofs.Filter.{in-filter, filter-in}
-use Rattle.lists.proofs.Range.{in-range, once-in, once-below}
-use Rattle.lists.proofs.Ascending.{head-or-lowest, ascending-filter, ascending-range}
+use Rattle.lists.{specs.Kit.{_≡_, refl, sym, ap, ap₂, _∙_, _⊎_, inl, inr, Bool, true, false, _&&_, not, cond, List, [], _∷_, ℕ, zero, suc, _+_, _≤_, _<_}}
+use Rattle.lists.{specs.Kit.{arith, ltb, leb, eqb, length, getD, take, replicate, length-replicate, ltb-true, ltb-false, lt-ltb, leb-true, le-leb, lt-leb}}
+use Rattle.lists.{specs.Kit.{eqb-true, eqb-false, eq-eqb}, specs.Facts.{Each-once, Rising}, specs.Lists.{range, filter, head-or, member}}
+use Rattle.lists.{proofs.Tests.{bool-cases, never, and-left, and-right, and-both, iff-eq}, proofs.Member.{head-or-below, in-getD, getD-of-in}}
+use Rattle.lists.{proofs.Filter.{in-filter, filter-in}, proofs.Range.{in-range, once-in, once-below}, proofs.Ascending.{head-or-lowest, ascending-filter}}
+use Rattle.lists.{proofs.Ascending.{ascending-range}}
+use Rattle.mesh.{specs.Limits.{max-radios, max-neighbours}, specs.Orders.{each-once, rising, few-later}, specs.Tables.{Tables, marked}}
+use Rattle.mesh.{specs.Sound.{rows-proper, enough, sound, sound-within}, proofs.Cores.Orders.{each-once-of, rising-of}}
 use Rattle.calls.specs.Questions.{lengths-of, size-good, site-lengths}
-use Rattle.rows.specs.Sets.{in-set, put-in, common, Set-taken}
-use Rattle.rows.proofs.SetLaws.{in-set-zeros, in-set-radio, in-put-in, length-put-in}
+use Rattle.rows.{specs.Sets.{in-set, put-in, common, Set-taken}, proofs.SetLaws.{in-set-zeros, in-set-radio, in-put-in, length-put-in}}
 use Rattle.floods.specs.Floods.{of-level, Level-set, start}
-use Rattle.soundness.specs.Checks.{fits-sound, Sound-site}
-use Rattle.soundness.proofs.SoundSite.{fits-sound-site}
+use Rattle.soundness.{specs.Checks.{fits-sound, Sound-site}, proofs.SoundSite.{fits-sound-site}}
 use Rattle.tree.specs.Trees.{Lists, has-number, Shell-set, Level-from}
 use Rattle.tree.proofs.VisitSteps.{takes-node, Visited}
 

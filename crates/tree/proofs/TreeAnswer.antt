@@ -1,22 +1,11 @@
 -- The shell tree's answer: refused, and accepted.
-use mathlib.Core.Path.{_≡_, sym, ap, _∙_}
-use mathlib.Core.Bool.{Bool, true, _&&_}
-use mathlib.Core.List.{List}
-use Prim.Native.Nat.{ℕ, _+_, _≤_, min}
-use lib.Dec.{ltb, leb}
-use borrow.Author.Tests.{ltb-true, lt-ltb, leb-true, le-leb}
-use native.Mathlib.Omega.{arith}
-use lib.ListN.{length}
-use Rattle.mesh.specs.Tables.{tables, graph-in}
-use Rattle.mesh.specs.Sound.{sound}
-use Rattle.lists.proofs.Tests.{and-left, and-right, and-both, iff-eq}
-use Rattle.calls.specs.Questions.{lengths-of, site-refusal, tree-refusal, nodes-length, answer-length}
-use Rattle.calls.specs.declared.Value.{Value}
-use Rattle.calls.proofs.ContractLaws.{by-accepted, by-refused}
-use Rattle.calls.proofs.ChainLaws.{Site-good, site-zero}
-use Rattle.calls.proofs.QuestionLaws.{nodes-length-true, answer-length-true}
-use Rattle.soundness.specs.Checks.{fits-sound}
-use Rattle.soundness.proofs.SoundSite.{site-good-fits}
+use Rattle.lists.{specs.Kit.{_≡_, sym, ap, _∙_, Bool, true, _&&_, List, ℕ, _+_, _≤_, min, ltb, leb, ltb-true, lt-ltb, leb-true, le-leb, arith, length}}
+use Rattle.lists.{proofs.Tests.{and-left, and-right, and-both, iff-eq}}
+use Rattle.mesh.specs.{Tables.{tables, graph-in}, Sound.{sound}}
+use Rattle.calls.{specs.Questions.{lengths-of, site-refusal, tree-refusal, nodes-length, answer-length}, specs.declared.Value.{Value}}
+use Rattle.calls.{proofs.ContractLaws.{by-accepted, by-refused}, proofs.ChainLaws.{Site-good, site-zero}, proofs.QuestionLaws.{nodes-length-true}}
+use Rattle.calls.{proofs.QuestionLaws.{answer-length-true}}
+use Rattle.soundness.{specs.Checks.{fits-sound}, proofs.SoundSite.{site-good-fits}}
 use Rattle.tree.specs.Trees.{Lists, Room, Tree-written, places, tables-outcome, Tables-contract}
 
 -- ---- room

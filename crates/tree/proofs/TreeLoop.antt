@@ -1,35 +1,14 @@
 -- All levels as a loop: the root first, then level by level to the greatest number, and what the lists hold at the end.
-use mathlib.Core.Path.{_≡_, refl, sym, ap, ap₂, _∙_}
-use mathlib.Core.Bool.{true, _&&_}
-use mathlib.Core.List.{List, [], _∷_, _++_, map}
-use Prim.Native.Nat.{ℕ, suc, _+_, _*_, _≤_, _<_, min}
-use native.Mathlib.Omega.{arith}
-use native.Mathlib.Numerals.{add-one}
-use lib.ListN.{length, take, drop, set, replicate, length-replicate}
-use lib.Seq.{length-take-le}
-use Rattle.mesh.specs.Limits.{max-radios, max-neighbours}
-use Rattle.lists.specs.Lists.{overwrite}
-use Rattle.mesh.specs.Graph.{Graph, radios}
-use Rattle.mesh.specs.Cores.{number}
-use Rattle.mesh.specs.Tables.{Tables, tables, graph-in}
-use Rattle.mesh.specs.Sound.{sound}
-use Rattle.calls.specs.Questions.{size-good, site-lengths, lengths-of}
-use Rattle.lists.proofs.Tests.{and-right}
-use Rattle.mesh.specs.Connected.{greatest}
-use Rattle.mesh.specs.Tree.{root-name, root, node-name, parent-name, node-names}
-use Rattle.mesh.proofs.Trees.Laws.{number-le-n}
-use Rattle.mesh.proofs.Trees.ShellNames.{node-name-parent}
-use Rattle.mesh.proofs.Trees.Listed.{getD-le-greatest, greatest-le}
-use Rattle.calls.proofs.SheetLaws.{numbers-two-digits}
-use Rattle.soundness.specs.Checks.{fits-sound}
-use Rattle.lists.proofs.Map.{map-range-constant, map-range-ext}
-use Rattle.soundness.proofs.SoundSite.{fits-sound-site, number-entry}
+use Rattle.lists.{specs.Kit.{_≡_, refl, sym, ap, ap₂, _∙_, true, _&&_, List, [], _∷_, _++_, map, ℕ, suc, _+_, _*_, _≤_, _<_, min, arith, add-one, length, take}}
+use Rattle.lists.{specs.Kit.{drop, set, replicate, length-replicate, length-take-le}, specs.Lists.{overwrite}, proofs.Tests.{and-right}}
+use Rattle.lists.{proofs.Map.{map-range-constant, map-range-ext}, proofs.Overwrite.{set-overwrite}}
+use Rattle.mesh.{specs.Limits.{max-radios, max-neighbours}, specs.Graph.{Graph, radios}, specs.Cores.{number}, specs.Tables.{Tables, tables, graph-in}}
+use Rattle.mesh.{specs.Sound.{sound}, specs.Connected.{greatest}, specs.Tree.{root-name, root, node-name, parent-name, node-names}}
+use Rattle.mesh.{proofs.Trees.Laws.{number-le-n}, proofs.Trees.ShellNames.{node-name-parent}, proofs.Trees.Listed.{getD-le-greatest, greatest-le}}
+use Rattle.calls.{specs.Questions.{size-good, site-lengths, lengths-of}, proofs.SheetLaws.{numbers-two-digits}}
+use Rattle.soundness.{specs.Checks.{fits-sound}, proofs.SoundSite.{fits-sound-site, number-entry}}
 use Rattle.tree.specs.Trees.{Lists, with-front, Room, name-before, present, Growing, Levelled, Treed, Tree-written}
-use Rattle.tree.proofs.ShellCover.{present-start}
-use Rattle.lists.proofs.Overwrite.{set-overwrite}
-use Rattle.tree.proofs.NodeLists.{nodes-before-start, nodes-before-tree}
-use Rattle.tree.proofs.GrowLaws.{lists-same}
-use Rattle.tree.proofs.LevelLoop.{Same-lengths}
+use Rattle.tree.proofs.{ShellCover.{present-start}, NodeLists.{nodes-before-start, nodes-before-tree}, GrowLaws.{lists-same}, LevelLoop.{Same-lengths}}
 
 -- ---- the root
 

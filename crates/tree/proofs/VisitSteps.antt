@@ -1,13 +1,7 @@
 -- One radio of a level: it brings a node, or nothing.
 --   takes-node   radio v has number k and is in the set
 --   Visited      radio v at level k: a node where it takes one, else nothing
-use mathlib.Core.Path.{_≡_, refl}
-use mathlib.Core.Bool.{Bool, true, false, _&&_}
-use mathlib.Core.List.{List}
-use Prim.Native.Nat.{ℕ}
-use lib.Dec.{eqb}
-use lib.ListN.{getD}
-use Rattle.lists.proofs.Tests.{never}
+use Rattle.lists.{specs.Kit.{_≡_, refl, Bool, true, false, _&&_, List, ℕ, eqb, getD}, proofs.Tests.{never}}
 use Rattle.rows.specs.Sets.{in-set}
 use Rattle.tree.specs.Trees.{Lists, Node-taken}
 

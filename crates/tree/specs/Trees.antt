@@ -18,24 +18,11 @@
 --   Filled, tables-outcome  what the call over the tables comes to
 --   Tables-contract         document 01: the shell tree, its nodes as three tables: result and lists are that outcome
 -- Definitions only.
-use mathlib.Core.Path.{_≡_}
-use mathlib.Core.Bool.{Bool, true, false, _&&_, not, cond}
-use mathlib.Core.List.{List, [], _∷_, _++_, map, flatMap}
-use Prim.Native.Nat.{ℕ, zero, suc, _+_, _*_, _≤_, _<_, min}
-use lib.Dec.{ltb, leb, eqb}
-use lib.ListN.{length, getD, take, set}
-use Rattle.lists.specs.Facts.{folded}
-use Rattle.lists.specs.Lists.{range, filter, head-or, overwrite, In, Entries-below}
-use Rattle.mesh.specs.Limits.{max-radios, max-neighbours}
-use Rattle.mesh.specs.Graph.{Graph, radios}
-use Rattle.mesh.specs.Cores.{number}
-use Rattle.mesh.specs.Tables.{Tables, tables, graph-in}
-use Rattle.mesh.specs.Sound.{sound}
-use Rattle.mesh.specs.Tree.{root-name, root, node, shell, node-name, parent-name, nodes-at, tree, node-names}
-use Rattle.mesh.specs.declared.Node.{Node}
-use Rattle.calls.specs.Questions.{lengths-of, tree-refusal}
-use Rattle.calls.specs.Outcomes.{by-number, value}
-use Rattle.calls.specs.declared.Value.{Value}
+use Rattle.lists.specs.{Kit.{_≡_, Bool, true, _&&_, not, cond, List, [], _∷_, _++_, map, flatMap, ℕ, zero, suc, _+_, _*_, _≤_, _<_, min, ltb, leb, eqb, length}}
+use Rattle.lists.specs.{Kit.{getD, take, set}, Facts.{folded}, Lists.{range, filter, head-or, overwrite, In, Entries-below}}
+use Rattle.mesh.specs.{Limits.{max-radios, max-neighbours}, Graph.{Graph, radios}, Cores.{number}, Tables.{Tables, tables, graph-in}, Sound.{sound}}
+use Rattle.mesh.specs.{Tree.{root-name, root, node, shell, node-name, parent-name, nodes-at, tree, node-names}, declared.Node.{Node}}
+use Rattle.calls.specs.{Questions.{lengths-of, tree-refusal}, Outcomes.{by-number, value}, declared.Value.{Value}}
 use Rattle.rows.specs.Sets.{in-set}
 use Rattle.soundness.specs.Checks.{fits-sound}
 use Rattle.floods.specs.Floods.{Level-set, Flood-done}

@@ -1,8 +1,5 @@
 // The shell tree in document 01's order: level by level, and in a level radio by radio.
-ghost use mathlib.Core.Path.{_≡_};
-ghost use mathlib.Core.Bool.{true};
-ghost use Prim.Native.Nat.{_+_, _*_, _≤_, _<_};
-ghost use lib.ListN.{length, replicate};
+ghost use Rattle.lists.specs.Kit.{_≡_, true, _+_, _*_, _≤_, _<_, length, replicate};
 ghost use Rattle.mesh.specs.Limits.{max-radios};
 ghost use Rattle.mesh.specs.Lent.{lent};
 ghost use Rattle.mesh.specs.Tables.{tables, graph-in};

@@ -1,20 +1,11 @@
 -- A worked hearing, computed from the definitions: four radios, of which 0, 1 and 2 are linked with each other. 1 hears 2 and is not heard
 -- by it, and 2 and 3 hear each other.
-use mathlib.Core.Path.{_≡_, refl, ap}
-use mathlib.Core.Bool.{Bool, true, false}
-use mathlib.Core.List.{List, [], _∷_, _++_}
-use Prim.Native.Nat.{ℕ}
-use lib.ListN.{length, replicate}
-use Rattle.lists.specs.Lists.{range}
-use Rattle.mesh.specs.Graph.{Link, graph, link-of, neighbours-in}
-use Rattle.mesh.specs.Sound.{sound}
-use Rattle.mesh.specs.Tables.{Tables, tables, put-digit, put-bit, put-link, row-links, graph-in, tables-of}
-use Rattle.calls.specs.Questions.{lengths-of, site-refusal}
-use Rattle.calls.specs.Switches.{switch, switched, tables-after}
-use Rattle.calls.specs.Heard.{agreed, agreed-degree, heard-alone, one-sided, one-sided-count, heard-lengths, heard-proper, agreed-few, hear-refusal}
-use Rattle.calls.specs.Heard.{row-switches, switches-where, goes-down, comes-up, heard-switches}
-use Rattle.calls.specs.Outcomes.{heard-with, value, by-number, hear-outcome}
-use Rattle.calls.proofs.WorkedState.{compute}
+use Rattle.lists.specs.{Kit.{_≡_, refl, ap, Bool, true, false, List, [], _∷_, _++_, ℕ, length, replicate}, Lists.{range}}
+use Rattle.mesh.specs.{Graph.{Link, graph, link-of, neighbours-in}, Sound.{sound}, Tables.{Tables, tables, put-digit, put-bit, put-link, row-links, graph-in}}
+use Rattle.mesh.specs.{Tables.{tables-of}}
+use Rattle.calls.{specs.Questions.{lengths-of, site-refusal}, specs.Switches.{switch, switched, tables-after}, specs.Heard.{agreed, agreed-degree, heard-alone}}
+use Rattle.calls.{specs.Heard.{one-sided, one-sided-count, heard-lengths, heard-proper, agreed-few, hear-refusal, row-switches, switches-where, goes-down}}
+use Rattle.calls.{specs.Heard.{comes-up, heard-switches}, specs.Outcomes.{heard-with, value, by-number, hear-outcome}, proofs.WorkedState.{compute}}
 
 unfoldable compute-heard : Unit {0}
 unfolding compute neighbours-in put-digit put-bit put-link row-links graph-in site-refusal switched tables-after agreed agreed-degree heard-alone one-sided one-sided-count heard-lengths heard-proper agreed-few hear-refusal row-switches switches-where goes-down comes-up heard-switches

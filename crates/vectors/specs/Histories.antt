@@ -14,10 +14,10 @@
 --   random-large    random calls at 8 radios
 --   histories       all of them, 64 rows
 -- That every row is right is `histories-right` in proofs/Histories.antt. Definitions only.
-use mathlib.Core.Bool.{true, false}
-use mathlib.Core.List.{List, [], _∷_, _++_}
+use Rattle.lists.specs.Kit.{true, false, List, [], _∷_, _++_}
 use Rattle.mesh.specs.Tree.{root-name, node, root}
-use Rattle.calls.specs.Worked.{Row, row, up, down, risen, fallen, unchanged, refused, last-answers, all-numbers, whole-order, shell-tree, connected-core, backbone-radios, image-checks, printed, put, soundness, image-reading}
+use Rattle.calls.specs.Worked.{Row, row, up, down, risen, fallen, unchanged, refused, last-answers, all-numbers, whole-order, shell-tree, connected-core}
+use Rattle.calls.specs.Worked.{backbone-radios, image-checks, printed, put, soundness, image-reading}
 
 unfoldable pub refusals : List Row
 refusals =

@@ -2,33 +2,12 @@
 --   beginning-kept   the order of the definitions
 --   link-begins      after a link call
 --   commit-begins    after a committing
-use mathlib.Core.Path.{_≡_, refl, ap, _∙_}
-use mathlib.Core.Logic.{_⊎_, inl, inr}
-use mathlib.Core.Bool.{true, false}
-use mathlib.Core.List.{List, [], _∷_, _++_}
-use Prim.Native.Nat.{ℕ}
-use lib.Dec.{eqb}
-use lib.IntN.{ℤ}
-use lib.ListN.{length, getD, take}
-use lib.Seq.{take-at, getD-at}
-use borrow.Author.Tests.{eqb-true, eqb-false}
-use Rattle.mesh.specs.Limits.{max-neighbours}
-use Rattle.lists.specs.Lists.{In}
-use Rattle.mesh.specs.Graph.{Graph, Allowed}
-use Rattle.mesh.specs.Cores.{number}
-use Rattle.mesh.specs.Levels.{new-order}
-use Rattle.mesh.specs.Tables.{Tables, graph-in}
-use Rattle.mesh.specs.Sound.{sound}
-use Rattle.mesh.specs.Valid.{Valid}
-use Rattle.lists.proofs.Tests.{bool-cases}
-use Rattle.lists.proofs.Range.{once-in}
-use Rattle.mesh.proofs.Cores.KOrders.{k-order-certificate}
-use Rattle.mesh.proofs.Images.Tables.{valid-graph-in}
-use Rattle.calls.specs.Questions.{lengths-of, link-refusal}
-use Rattle.calls.specs.Switches.{switched}
-use Rattle.calls.specs.Outcomes.{Linked, Committed, link-outcome, commit-outcome}
-use Rattle.calls.proofs.ChainLaws.{link-zero, commit-zero}
-use Rattle.calls.proofs.ContractLaws.{accepted-is}
+use Rattle.lists.{specs.Kit.{_≡_, refl, ap, _∙_, _⊎_, inl, inr, true, false, List, [], _∷_, _++_, ℕ, eqb, ℤ, length, getD, take, take-at, getD-at, eqb-true}}
+use Rattle.lists.{specs.Kit.{eqb-false}, specs.Lists.{In}, proofs.Tests.{bool-cases}, proofs.Range.{once-in}}
+use Rattle.mesh.{specs.Limits.{max-neighbours}, specs.Graph.{Graph, Allowed}, specs.Cores.{number}, specs.Levels.{new-order}, specs.Tables.{Tables, graph-in}}
+use Rattle.mesh.{specs.Sound.{sound}, specs.Valid.{Valid}, proofs.Cores.KOrders.{k-order-certificate}, proofs.Images.Tables.{valid-graph-in}}
+use Rattle.calls.{specs.Questions.{lengths-of, link-refusal}, specs.Switches.{switched}, specs.Outcomes.{Linked, Committed, link-outcome, commit-outcome}}
+use Rattle.calls.{proofs.ChainLaws.{link-zero, commit-zero}, proofs.ContractLaws.{accepted-is}}
 use Rattle.walks.specs.Results.{before-ends, Beginning-kept}
 use Rattle.walks.proofs.Beginning as beginning
 

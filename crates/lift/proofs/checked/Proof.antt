@@ -1,10 +1,8 @@
 -- `checked` meets its contract: questions 1 and 2, and 3 with the places and the counts that the check found.
-use mathlib.Core.Path.{refl}
+use Rattle.lists.specs.Kit.{needs}
 use Rattle.mesh.specs.Tables.{tables}
 use Rattle.calls.specs.Questions.{lengths-of}
-use Rattle.lift.proofs.SearchLaws.{checked-lengths, checked-unsound, checked-sound}
-use borrow.Author.Needs.{needs}
-use Rattle.lift.proofs.checked.Statement.{statement}
+use Rattle.lift.proofs.{SearchLaws.{checked-lengths, checked-unsound, checked-sound}, checked.Statement.{statement}}
 use Rattle.lift.proofs.checked.Tie as tie
 
 returns : tie.Need-returns

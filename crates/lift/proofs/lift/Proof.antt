@@ -1,9 +1,7 @@
 -- `lift` meets its contract: questions 1 to 4, and then the first pair that lifts v, or 20.
-use native.Mathlib.Omega.{arith}
-use borrow.Author.Needs.{needs}
+use Rattle.lists.specs.Kit.{arith, needs}
 use Rattle.mesh.specs.Tables.{tables}
-use Rattle.lift.proofs.SearchLaws.{checked-radios, answer-refused, answer-past, answer-none, answer-some}
-use Rattle.lift.proofs.lift.Statement.{statement}
+use Rattle.lift.proofs.{SearchLaws.{checked-radios, answer-refused, answer-past, answer-none, answer-some}, lift.Statement.{statement}}
 use Rattle.lift.proofs.lift.Tie as tie
 
 returns : tie.Need-returns

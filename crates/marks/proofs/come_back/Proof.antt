@@ -1,10 +1,7 @@
 -- `come_back` meets its contract: a refusal touches nothing; accepted, the mark's image is read from its part of the store.
-use native.Mathlib.Omega.{arith}
-use borrow.Author.Needs.{needs}
-use borrow.Author.Tests.{not-true, not-false}
+use Rattle.lists.specs.Kit.{arith, needs, not-true, not-false}
 use Rattle.mesh.specs.Tables.{tables}
-use Rattle.marks.proofs.CallLaws.{return-refused, return-absent, returned, fits, spotted, below}
-use Rattle.marks.proofs.come_back.Statement.{statement}
+use Rattle.marks.proofs.{CallLaws.{return-refused, return-absent, returned, fits, spotted, below}, come_back.Statement.{statement}}
 use Rattle.marks.proofs.come_back.Tie as tie
 
 returns : tie.Need-returns

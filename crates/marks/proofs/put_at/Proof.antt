@@ -1,8 +1,6 @@
 -- `put_at` meets its contract: the mark is put through its own part of the store.
-use mathlib.Core.Path.{_≡_, refl}
-use borrow.Author.Needs.{needs}
-use Rattle.marks.proofs.Placed.{placed-at}
-use Rattle.marks.proofs.put_at.Statement.{statement}
+use Rattle.lists.specs.Kit.{needs}
+use Rattle.marks.proofs.{Placed.{placed-at}, put_at.Statement.{statement}}
 use Rattle.marks.proofs.put_at.Tie as tie
 
 returns : tie.Need-returns

@@ -1,9 +1,7 @@
 -- `put_mark` meets its contract: zeros, the name in front, and the image in front of the rest.
-use mathlib.Core.Path.{_≡_, refl}
-use borrow.Author.Needs.{needs}
+use Rattle.lists.specs.Kit.{needs}
 use Rattle.mesh.specs.Tables.{tables}
-use Rattle.marks.proofs.Placed.{placed}
-use Rattle.marks.proofs.put_mark.Statement.{statement}
+use Rattle.marks.proofs.{Placed.{placed}, put_mark.Statement.{statement}}
 use Rattle.marks.proofs.put_mark.Tie as tie
 
 returns : tie.Need-returns

@@ -1,20 +1,10 @@
 -- `remove` meets its contract: a refusal touches nothing; accepted, later places move down and the last used one is zeroed.
-use mathlib.Core.Path.{_≡_, ap, _∙_}
-use mathlib.Core.List.{List}
-use Prim.Native.Nat.{ℕ, _+_, _*_, _-_}
-use native.Mathlib.Omega.{arith}
-use lib.ListN.{length, drop, replicate, length-drop}
-use lib.Seq.{length-take-le}
-use borrow.Author.Needs.{needs}
-use borrow.Author.Tests.{not-true, not-false}
+use Rattle.lists.specs.Kit.{_≡_, ap, _∙_, List, ℕ, _+_, _*_, _-_, arith, length, drop, replicate, length-drop, length-take-le, needs, not-true, not-false}
 use borrow.Rule.Slice.PartMut.{midOf}
-use Rattle.mesh.specs.Marks.{place-bytes}
-use Rattle.mesh.specs.Tables.{tables}
+use Rattle.mesh.specs.{Marks.{place-bytes}, Tables.{tables}}
 use Rattle.marks.specs.Placing.{put-place}
-use Rattle.marks.proofs.Moving.{length-moved-down}
-use Rattle.marks.proofs.Placed.{placed-at}
-use Rattle.marks.proofs.CallLaws.{remove-refused, remove-absent, removed, spotted, below}
-use Rattle.marks.proofs.remove.Statement.{statement}
+use Rattle.marks.proofs.{Moving.{length-moved-down}, Placed.{placed-at}, CallLaws.{remove-refused, remove-absent, removed, spotted, below}}
+use Rattle.marks.proofs.{remove.Statement.{statement}}
 use Rattle.marks.proofs.remove.Tie as tie
 
 returns : tie.Need-returns

@@ -4,20 +4,9 @@
 --   in-later-in         each stands in the order
 --   first-is-first      the first of them is a neighbour, and there is none between
 --   nobody-none         nobody exactly when there are none
-use mathlib.Core.Path.{_≡_, refl, sym, ap, _∙_}
-use mathlib.Core.Logic.{_⊎_, inl, inr, _↔_}
-use mathlib.Core.Bool.{Bool, true, false}
-use mathlib.Core.List.{List, [], _∷_, _++_}
-use Prim.Native.Nat.{ℕ, zero, suc, _≤_, _<_}
-use native.Mathlib.Omega.{arith}
-use lib.Dec.{eqb}
-use lib.ListN.{length, getD, drop}
-use borrow.Author.Tests.{eqb-true, eqb-false, eq-eqb, ne-eqb}
-use Rattle.lists.specs.Lists.{filter, head-or, In}
-use Rattle.mesh.specs.Graph.{neighbours-among}
-use Rattle.mesh.specs.Orders.{later-in, nobody, First-later}
-use Rattle.lists.proofs.Tests.{bool-cases}
-use Rattle.lists.proofs.Filter.{in-filter, length-filter}
+use Rattle.lists.{specs.Kit.{_≡_, refl, ap, _∙_, _⊎_, inl, inr, _↔_, Bool, true, false, List, [], _∷_, _++_, ℕ, zero, suc, _<_, arith, eqb, length, getD, drop}}
+use Rattle.lists.{specs.Kit.{eqb-true, eq-eqb, ne-eqb}, specs.Lists.{filter, head-or, In}, proofs.Tests.{bool-cases}, proofs.Filter.{in-filter, length-filter}}
+use Rattle.mesh.specs.{Graph.{neighbours-among}, Orders.{later-in, nobody, First-later}}
 
 -- ---- the first entry that passes a test
 

@@ -1,26 +1,12 @@
 -- Peeling computes core numbers: each list of `cores` is the largest group of its k, and `number` is the core number.
-use mathlib.Core.Path.{_≡_, refl, sym, ap, _∙_}
-use mathlib.Core.Logic.{_⊎_, inl, inr}
-use mathlib.Core.Bool.{Bool, true, false, _&&_, cond}
-use mathlib.Core.List.{List, [], _∷_}
-use Prim.Native.Nat.{ℕ, zero, suc, _+_, _-_, _≤_, _<_}
-use native.Mathlib.Omega.{arith}
-use native.Mathlib.Nat.{le-trans, le-refl, le-of-eq}
-use lib.Dec.{leb, eqb}
-use lib.ListN.{length, getD}
-use borrow.Author.Tests.{leb-true, leb-false, le-leb, eqb-true, eqb-false}
-use Rattle.lists.specs.Lists.{range, count, member, In}
-use Rattle.lists.specs.Facts.{Distinct}
-use Rattle.mesh.specs.Graph.{Graph, radios, linked, neighbours-among, neighbours-in}
-use Rattle.mesh.specs.Cores.{Group, Core, survivors, peeled, cores-from, cores, depth, number, numbers}
-use Rattle.lists.proofs.Tests.{bool-cases, never, bit-true, bit-false}
-use Rattle.lists.proofs.Member.{member-in, in-member, not-member}
-use Rattle.lists.proofs.Count.{count-le-length, all-or-less}
-use Rattle.lists.proofs.Range.{distinct-range, in-range, range-in, length-range}
-use Rattle.lists.proofs.Filter.{in-filter, filter-in, length-filter, distinct-filter}
-use Rattle.lists.proofs.Map.{length-map, getD-map-range}
-use Rattle.mesh.proofs.GraphLaws.{neighbours-in-subset, neighbours-in-members}
-use Rattle.mesh.proofs.Cores.Certificate.{core-unique}
+use Rattle.lists.{specs.Kit.{_≡_, refl, sym, ap, _∙_, _⊎_, inl, inr, Bool, true, false, _&&_, cond, List, [], _∷_, ℕ, zero, suc, _+_, _≤_, _<_, arith}}
+use Rattle.lists.{specs.Kit.{le-trans, le-refl, le-of-eq, leb, eqb, length, getD, leb-true, leb-false, le-leb, eqb-true, eqb-false}, specs.Lists.{range, count}}
+use Rattle.lists.{specs.Lists.{member, In}, specs.Facts.{Distinct}, proofs.Tests.{bool-cases, never, bit-true, bit-false}, proofs.Member.{member-in, in-member}}
+use Rattle.lists.{proofs.Member.{not-member}, proofs.Count.{count-le-length, all-or-less}, proofs.Range.{distinct-range, in-range, range-in, length-range}}
+use Rattle.lists.{proofs.Filter.{in-filter, filter-in, length-filter, distinct-filter}, proofs.Map.{length-map, getD-map-range}}
+use Rattle.mesh.specs.{Graph.{Graph, radios, linked, neighbours-among, neighbours-in}, Cores.{Group, Core, survivors, peeled, cores-from, cores, depth}}
+use Rattle.mesh.specs.{Cores.{number, numbers}}
+use Rattle.mesh.proofs.{GraphLaws.{neighbours-in-subset, neighbours-in-members}, Cores.Certificate.{core-unique}}
 
 -- radios below n, without repeats
 pub record Part (g : Graph) (xs : List ℕ) : Type 0 where

@@ -3,39 +3,20 @@
 --   canonical-written   then what is read from the bytes is written as these bytes
 --   written-canonical   and only then
 --   is-image-canonical  question 11: canonical bytes that list a valid site
-use mathlib.Core.Path.{_≡_, refl, sym, ap, ap₂, subst, _∙_}
-use mathlib.Core.Logic.{_⊎_, inl, inr, _↔_}
-use mathlib.Core.Bool.{true, false}
-use mathlib.Core.List.{List, _++_}
-use Prim.Native.Nat.{ℕ, zero, suc, _+_, _*_, _-_, _/_, _%_, _≤_, _<_}
-use native.Mathlib.Omega.{arith}
-use lib.Dec.{ltb}
-use lib.ListN.{length, getD, take, drop, length-map, take-append-drop, List·getD-eq-default}
-use lib.Seq.{getD-take, length-take-le, ext-getD}
-use borrow.Author.Tests.{ltb-true, ltb-false}
-use Rattle.mesh.specs.Limits.{max-radios, max-neighbours}
-use Rattle.lists.specs.Lists.{range}
-use Rattle.lists.specs.Facts.{Bytes}
-use Rattle.mesh.specs.Graph.{Graph}
-use Rattle.mesh.specs.Image.{block-bytes, payload-bytes, block-entries, block-links, word, long, check-sum, block, blocks-for, order-blocks, block-count}
-use Rattle.mesh.specs.Image.{link-bytes, order-payload, links-payload, block-at, image-of, word-at, entry-at, image-order, image-link, image-links}
-use Rattle.mesh.specs.Image.{image-graph, block-check, checks-good, is-image}
-use Rattle.lists.proofs.Tests.{bool-cases}
-use Rattle.lists.proofs.Range.{length-range}
-use Rattle.lists.proofs.All.{all-below, same-eq}
-use Rattle.lists.proofs.Parts.{flatMap-take-drop, getD-append-zeros}
-use Rattle.lists.proofs.Map.{getD-map-range}
-use Rattle.mesh.proofs.Images.Words.{word-at-word, getD-word-word-at, word-at-less}
-use Rattle.mesh.proofs.Images.Blocks.{block-body, block-check-last, length-block-body, getD-block-kind, getD-block-zero, getD-block-index}
-use Rattle.mesh.proofs.Images.Blocks.{getD-block-index-high, no-link, length-order-payload, getD-order-payload, length-links-payload, getD-links-payload}
-use Rattle.mesh.proofs.Images.Blocks.{getD-link-bytes-low, getD-link-bytes-high}
-use Rattle.mesh.proofs.Images.Of.{kind-at, content-at, block-at-parts, length-content-at, blocks, length-image-of, bytes-image-of, getD-image-of}
-use Rattle.mesh.proofs.Images.Of.{getD-image-content, content-at-order, content-at-links, checks-good-image-of}
-use Rattle.mesh.proofs.Images.Checks.{part-at, length-part-at, getD-part-at}
-use Rattle.mesh.proofs.Images.Read.{word-at-radios}
-use Rattle.mesh.proofs.Tables.Sites.{image-valid}
-use Rattle.mesh.proofs.Images.Sites.{is-image-iff, written-read}
-use Rattle.mesh.specs.Valid.{Valid}
+use Rattle.lists.{specs.Kit.{_≡_, refl, sym, ap, ap₂, subst, _∙_, _⊎_, inl, inr, _↔_, true, false, List, _++_, ℕ, zero, suc, _+_, _*_, _-_, _/_, _%_, _≤_, _<_}}
+use Rattle.lists.{specs.Kit.{arith, ltb, length, getD, take, drop, length-map, take-append-drop, List·getD-eq-default, getD-take, length-take-le, ext-getD}}
+use Rattle.lists.{specs.Kit.{ltb-true, ltb-false}, specs.Lists.{range}, specs.Facts.{Bytes}, proofs.Tests.{bool-cases}, proofs.Range.{length-range}}
+use Rattle.lists.{proofs.All.{all-below, same-eq}, proofs.Parts.{flatMap-take-drop, getD-append-zeros}, proofs.Map.{getD-map-range}}
+use Rattle.mesh.specs.{Limits.{max-radios, max-neighbours}, Graph.{Graph}, Image.{block-bytes, payload-bytes, block-entries, block-links, word, long}}
+use Rattle.mesh.specs.{Image.{check-sum, block, blocks-for, order-blocks, block-count, link-bytes, order-payload, links-payload, block-at, image-of}}
+use Rattle.mesh.specs.{Image.{word-at, entry-at, image-order, image-link, image-links, image-graph, block-check, checks-good, is-image}, Valid.{Valid}}
+use Rattle.mesh.proofs.{Images.Words.{word-at-word, getD-word-word-at, word-at-less}, Images.Blocks.{block-body, block-check-last, length-block-body}}
+use Rattle.mesh.proofs.{Images.Blocks.{getD-block-kind, getD-block-zero, getD-block-index, getD-block-index-high, no-link, length-order-payload}}
+use Rattle.mesh.proofs.{Images.Blocks.{getD-order-payload, length-links-payload, getD-links-payload, getD-link-bytes-low, getD-link-bytes-high}}
+use Rattle.mesh.proofs.{Images.Of.{kind-at, content-at, block-at-parts, length-content-at, blocks, length-image-of, bytes-image-of, getD-image-of}}
+use Rattle.mesh.proofs.{Images.Of.{getD-image-content, content-at-order, content-at-links, checks-good-image-of}, Images.Checks.{part-at}}
+use Rattle.mesh.proofs.{Images.Checks.{length-part-at, getD-part-at}, Images.Read.{word-at-radios}, Tables.Sites.{image-valid}}
+use Rattle.mesh.proofs.{Images.Sites.{is-image-iff, written-read}}
 
 module _ (n : ℕ) (bs : List ℕ) where
   abbrev pub site : Graph

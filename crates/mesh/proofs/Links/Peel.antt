@@ -1,24 +1,11 @@
 -- Laws of the peel: what is taken and what is left, in which order, and when it ends. A loop grows `Takes` at its end (takes-more) and ends with `Peels`; document 01's rule is the same peel (laid-out-is).
-use mathlib.Core.Path.{_≡_, refl, sym, ap, _∙_}
-use mathlib.Core.Logic.{_⊎_, inl, inr}
-use mathlib.Core.Bool.{Bool, true, false, not}
-use mathlib.Core.List.{List, [], _∷_, _++_, append-assoc}
-use Prim.Native.Nat.{ℕ, zero, suc, _+_, _≤_, _<_}
-use native.Mathlib.Omega.{arith}
-use lib.Dec.{leb}
-use lib.ListN.{length, length-append}
-use borrow.Author.Tests.{leb-true, leb-false, le-leb, lt-leb, eq-eqb, ne-eqb}
-use Rattle.lists.specs.Lists.{count, filter, member, In}
-use Rattle.lists.specs.Facts.{Distinct, Permutation}
-use Rattle.mesh.specs.Graph.{neighbours-among}
-use Rattle.mesh.specs.Levels.{first-fitting, without, laid-out}
-use Rattle.lists.proofs.Tests.{bool-cases, bit-false}
-use Rattle.lists.proofs.Member.{in-left, in-right, in-member, not-member}
-use Rattle.lists.proofs.Count.{count-append, count-mid, count-not, count-all}
-use Rattle.lists.proofs.Distinct.{permutation-in, distinct-mid}
-use Rattle.lists.proofs.Filter.{in-filter, filter-all, filter-append, filter-keep-mid, filter-drop-mid, length-filter, count-parts}
+use Rattle.lists.{specs.Kit.{_≡_, refl, sym, ap, _∙_, _⊎_, inl, inr, Bool, true, false, not, List, [], _∷_, _++_, append-assoc, ℕ, zero, suc, _+_, _≤_, _<_}}
+use Rattle.lists.{specs.Kit.{arith, leb, length, length-append, leb-true, leb-false, le-leb, lt-leb, eq-eqb, ne-eqb}, specs.Lists.{count, filter, member, In}}
+use Rattle.lists.{specs.Facts.{Distinct, Permutation}, proofs.Tests.{bool-cases, bit-false}, proofs.Member.{in-left, in-right, in-member, not-member}}
+use Rattle.lists.{proofs.Count.{count-append, count-mid, count-not, count-all}, proofs.Distinct.{permutation-in, distinct-mid}, proofs.Filter.{in-filter}}
+use Rattle.lists.{proofs.Filter.{filter-all, filter-append, filter-keep-mid, filter-drop-mid, length-filter, count-parts}}
+use Rattle.mesh.specs.{Graph.{neighbours-among}, Levels.{first-fitting, without, laid-out}, Peel.{Takes, none, first, Peels}}
 use Rattle.mesh.proofs.Cores.Orders.{Few-later, few-later-drop}
-use Rattle.mesh.specs.Peel.{Takes, none, first, Peels}
 
 module _ (f : ℕ → ℕ → Bool) (most : ℕ) (others : List ℕ) where
   -- one more is taken at the end

@@ -2,17 +2,11 @@
 --   replaced    a place written over place r
 --   inserted    the places from r on moved one place up, and a place written over place r
 --   taken-out   the places after r moved one place down, and the last used place zeroed
-use mathlib.Core.Path.{_≡_, refl, sym, ap, ap₂, _∙_}
-use mathlib.Core.List.{List, [], _∷_, _++_, flatMap, append-assoc}
-use Prim.Native.Nat.{ℕ, zero, suc, _+_, _*_, _-_, _≤_, _<_}
-use native.Mathlib.Omega.{arith}
-use lib.ListN.{length, take, drop, replicate, length-append, length-take, length-drop, length-replicate, take-append-drop, replicate-append-replicate}
-use lib.Seq.{take-at, drop-at, drop-drop, take-take, length-take-le, take-append-le}
-use Rattle.lists.proofs.Parts.{drop-replicate}
-use Rattle.mesh.specs.Marks.{place-bytes, places, store-bytes, name-in, store-of}
-use Rattle.mesh.specs.MarkPlaces.{moved-up, moved-down}
-use Rattle.mesh.proofs.Marks.Lists.{Rising-marks}
-use Rattle.mesh.proofs.Marks.Laws.{joined, Sized, rising-sized}
+use Rattle.lists.{specs.Kit.{_≡_, refl, sym, ap, ap₂, _∙_, List, [], _∷_, _++_, flatMap, append-assoc, ℕ, zero, suc, _+_, _*_, _-_, _≤_, _<_, arith, length}}
+use Rattle.lists.{specs.Kit.{take, drop, replicate, length-append, length-drop, length-replicate, take-append-drop, replicate-append-replicate, take-at}}
+use Rattle.lists.{specs.Kit.{drop-at, drop-drop, take-take, length-take-le, take-append-le}, proofs.Parts.{drop-replicate}}
+use Rattle.mesh.specs.{Marks.{place-bytes, places, store-bytes, store-of}, MarkPlaces.{moved-up, moved-down}}
+use Rattle.mesh.proofs.Marks.Laws.{joined, Sized}
 
 -- ---- places one behind the other
 

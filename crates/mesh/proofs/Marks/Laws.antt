@@ -5,29 +5,15 @@
 --   place-mark       a name and an image make a mark, and are what it holds
 --   mark-place       a mark is the place of its name and its image
 -- In order: zeros, places, the store, one place.
-use mathlib.Core.Path.{_≡_, refl, sym, ap, ap₂, _∙_}
-use mathlib.Core.Logic.{_⊎_, inl, inr}
-use mathlib.Core.Bool.{Bool, true, false, _&&_, _||_, cond}
-use mathlib.Core.List.{List, [], _∷_, _++_, flatMap, append-assoc}
-use Prim.Native.Nat.{ℕ, zero, suc, _+_, _*_, _-_, _≤_, _<_}
-use native.Mathlib.Omega.{arith}
-use native.Mathlib.Nat.{zero-add, suc-add, mul-suc}
-use lib.Dec.{leb, eqb}
-use lib.ListN.{length, getD, take, drop, replicate, length-append, length-take, length-drop, length-replicate, take-append-drop, List·getD-append}
-use lib.Seq.{take-at, drop-at, drop-drop, length-take-le, take-append-seam, drop-append-seam, take-add}
-use borrow.Author.Tests.{eqb-true, eq-eqb, ne-eqb, leb-true, leb-false}
-use Rattle.mesh.specs.Limits.{max-radios, max-neighbours}
-use Rattle.lists.specs.Lists.{all, same}
-use Rattle.mesh.specs.Graph.{Graph}
-use Rattle.mesh.specs.Image.{block-bytes, block-count, word-at, image-of, image-links, image-graph, image-order, is-image}
-use Rattle.mesh.specs.Marks.{name-bytes, place-bytes, places, store-bytes, is-alphanumeric, is-name, before, is-zeros, name-in, image-size, image-in, is-mark, place-of, places-of, used, marks-in, are-marks, is-store, store-of}
-use Rattle.lists.proofs.Tests.{bool-cases, never, and-left, and-right, and-both, or-cases}
-use Rattle.mesh.proofs.Tables.DegreeSum.{block-count-most}
-use Rattle.mesh.proofs.Tables.Sites.{image-valid}
-use Rattle.mesh.proofs.Images.Of.{length-image-of}
-use Rattle.mesh.proofs.Images.Sites.{written-read}
-use Rattle.mesh.proofs.Images.Canonical.{length-image-links}
-use Rattle.mesh.proofs.Marks.Lists.{Rising-marks}
+use Rattle.lists.{specs.Kit.{_≡_, refl, sym, ap, ap₂, _∙_, _⊎_, inl, inr, Bool, true, false, _&&_, cond, List, [], _∷_, _++_, flatMap, append-assoc, ℕ, zero}}
+use Rattle.lists.{specs.Kit.{suc, _+_, _*_, _-_, _≤_, _<_, arith, zero-add, suc-add, mul-suc, leb, eqb, length, take, drop, replicate, length-append}}
+use Rattle.lists.{specs.Kit.{length-drop, length-replicate, take-append-drop, List·getD-append, take-at, drop-at, drop-drop, length-take-le, eqb-true, ne-eqb}}
+use Rattle.lists.{specs.Kit.{leb-true}, specs.Lists.{all}, proofs.Tests.{never, and-left, and-right, and-both, or-cases}}
+use Rattle.mesh.specs.{Limits.{max-radios}, Image.{block-bytes, block-count, word-at, image-graph, image-order, is-image}, Marks.{name-bytes}}
+use Rattle.mesh.specs.{Marks.{place-bytes, places, store-bytes, is-alphanumeric, is-name, before, is-zeros, name-in, image-size, image-in, is-mark}}
+use Rattle.mesh.specs.{Marks.{place-of, places-of, used, marks-in, are-marks, is-store, store-of}}
+use Rattle.mesh.proofs.{Tables.DegreeSum.{block-count-most}, Tables.Sites.{image-valid}, Images.Of.{length-image-of}, Images.Sites.{written-read}}
+use Rattle.mesh.proofs.{Images.Canonical.{length-image-links}, Marks.Lists.{Rising-marks}}
 
 abbrev pub joined : List (List ℕ) → List ℕ
 joined ps = flatMap (λ p. p) ps

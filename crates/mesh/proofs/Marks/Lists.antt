@@ -1,17 +1,9 @@
 -- Laws of places in rising order of name: a mark more, a mark less, and a mark found.
 --   Rising-marks n x ps    the places ps are marks of full length in rising order of name, the first after the name x
 -- In order: names that stand before, with a mark, without one.
-use mathlib.Core.Path.{_≡_, refl, sym, ap, subst, _∙_}
-use mathlib.Core.Logic.{_⊎_, inl, inr}
-use mathlib.Core.Bool.{Bool, true, false, _||_, cond}
-use mathlib.Core.List.{List, [], _∷_}
-use Prim.Native.Nat.{ℕ, zero, suc, _+_, _≤_}
-use native.Mathlib.Omega.{arith}
-use lib.ListN.{length}
-use Rattle.lists.specs.Lists.{same}
+use Rattle.lists.{specs.Kit.{_≡_, refl, sym, ap, subst, _∙_, _⊎_, inl, inr, Bool, true, false, _||_, cond, List, [], _∷_, ℕ, suc, _+_, arith, length}}
+use Rattle.lists.{specs.Lists.{same}, proofs.Tests.{bool-cases, never}, proofs.All.{same-refl, same-eq}}
 use Rattle.mesh.specs.Marks.{place-bytes, before, name-in, is-mark, has-mark, found, with-mark, without-mark}
-use Rattle.lists.proofs.Tests.{bool-cases, never}
-use Rattle.lists.proofs.All.{same-refl, same-eq}
 use Rattle.mesh.proofs.Marks.NameOrder.{before-trans, before-differ, before-total}
 
 abbrev pub Rising-marks : (n : ℕ) → (last : List ℕ) → List (List ℕ) → Type 0

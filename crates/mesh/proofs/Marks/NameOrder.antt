@@ -1,16 +1,8 @@
 -- The order of names, by bytes: a strict total order of lists.
-use mathlib.Core.Path.{_≡_, refl, sym, ap}
-use mathlib.Core.Logic.{_⊎_, inl, inr}
-use mathlib.Core.Bool.{Bool, true, false, _&&_, _||_}
-use mathlib.Core.List.{List, [], _∷_}
-use Prim.Native.Nat.{ℕ, _<_}
-use native.Mathlib.Omega.{arith}
-use lib.Dec.{ltb, eqb}
-use borrow.Author.Tests.{ltb-true, eqb-true, lt-ltb, eq-eqb, ne-eqb}
-use Rattle.lists.specs.Lists.{same}
+use Rattle.lists.{specs.Kit.{_≡_, refl, sym, _⊎_, inl, inr, true, false, _&&_, List, [], _∷_, ℕ, _<_, arith, ltb, eqb, ltb-true, eqb-true, lt-ltb, eq-eqb}}
+use Rattle.lists.{specs.Lists.{same}, proofs.Tests.{never, and-left, and-right, and-both, or-left, or-right, or-cases, bool-cases, trichotomy}}
+use Rattle.lists.{proofs.All.{same-eq}}
 use Rattle.mesh.specs.Marks.{before}
-use Rattle.lists.proofs.Tests.{never, and-left, and-right, and-both, or-left, or-right, or-cases, bool-cases, trichotomy}
-use Rattle.lists.proofs.All.{same-refl, same-eq}
 
 -- ---- at the first byte
 

@@ -3,20 +3,10 @@
 --   found-at           then that place is the mark
 --   with-at, with-new  a mark set is put at its rank, in place of the one of its name or before the ones that follow
 --   without-at         a mark removed leaves the places before and after it
-use mathlib.Core.Path.{_≡_, refl, sym, ap, _∙_}
-use mathlib.Core.Logic.{_⊎_, inl, inr}
-use mathlib.Core.Bool.{Bool, true, false, _||_, cond}
-use mathlib.Core.List.{List, [], _∷_, _++_}
-use Prim.Native.Nat.{ℕ, zero, suc, _≤_, _<_}
-use native.Mathlib.Omega.{arith}
-use lib.ListN.{length, getD, take, drop}
-use Rattle.lists.specs.Lists.{same}
-use Rattle.lists.proofs.Tests.{bool-cases, never}
-use Rattle.lists.proofs.All.{same-refl, same-eq}
-use Rattle.mesh.specs.Marks.{before, name-in, has-mark, found, with-mark, without-mark}
-use Rattle.mesh.specs.MarkPlaces.{rank, heads}
-use Rattle.mesh.proofs.Marks.NameOrder.{before-trans, before-self, before-total}
-use Rattle.mesh.proofs.Marks.Lists.{Rising-marks, absent}
+use Rattle.lists.{specs.Kit.{_≡_, refl, ap, _∙_, _⊎_, inl, inr, Bool, true, false, cond, List, [], _∷_, _++_, ℕ, suc, _≤_, arith, length, getD, take, drop}}
+use Rattle.lists.{specs.Lists.{same}, proofs.Tests.{bool-cases, never}, proofs.All.{same-refl, same-eq}}
+use Rattle.mesh.specs.{Marks.{before, name-in, has-mark, found, with-mark, without-mark}, MarkPlaces.{rank, heads}}
+use Rattle.mesh.proofs.Marks.{NameOrder.{before-trans, before-self, before-total}, Lists.{Rising-marks, absent}}
 
 -- ---- two names
 

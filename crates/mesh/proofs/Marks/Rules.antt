@@ -1,22 +1,13 @@
 -- `is-store` decides W-211's rules place by place.
 --   mark-at           mark i is place i
 --   store-good-iff    a store of full length is good exactly if it keeps the rules
-use mathlib.Core.Path.{_≡_, refl, sym, ap, ap₂, _∙_}
-use mathlib.Core.Bool.{Bool, true, false, _&&_, cond}
-use mathlib.Core.List.{List, [], _∷_, _++_}
-use Prim.Native.Nat.{ℕ, zero, suc, _+_, _*_, _-_, _≤_, _<_}
-use native.Mathlib.Omega.{arith}
-use lib.Dec.{eqb}
-use lib.ListN.{length, getD, take, drop, drop-of-length-le, take-append-drop}
-use lib.Seq.{drop-drop, take-take}
-use Rattle.mesh.specs.Limits.{max-radios}
-use Rattle.lists.specs.Lists.{all, same}
-use Rattle.lists.proofs.Tests.{and-left, and-right, and-both, never}
-use Rattle.mesh.specs.Marks.{name-bytes, place-bytes, places, store-bytes, before, is-name, is-zeros, name-in, image-in, is-mark, place-of, places-of, used, marks-in, are-marks, is-store, place-at, name-at, Mark-rules, Store-rules}
-use Rattle.mesh.proofs.Marks.NameOrder.{before-trans}
-use Rattle.mesh.proofs.Marks.Lists.{Rising-marks}
-use Rattle.mesh.proofs.Marks.Ranks.{differ-before}
-use Rattle.mesh.proofs.Marks.Laws.{zeros-take, mark-nonzero, Store-marks, store-marks, Place-mark, place-mark, mark-place}
+use Rattle.lists.{specs.Kit.{_≡_, refl, sym, ap, ap₂, _∙_, Bool, true, false, cond, List, [], _∷_, _++_, ℕ, zero, suc, _+_, _*_, _-_, _≤_, _<_, arith, eqb}}
+use Rattle.lists.{specs.Kit.{length, getD, take, drop, drop-of-length-le, take-append-drop, drop-drop, take-take}, specs.Lists.{all}, proofs.Tests.{and-left}}
+use Rattle.lists.{proofs.Tests.{and-right, and-both, never}}
+use Rattle.mesh.specs.{Limits.{max-radios}, Marks.{name-bytes, place-bytes, places, store-bytes, before, is-name, is-zeros, name-in, image-in, is-mark}}
+use Rattle.mesh.specs.{Marks.{places-of, used, marks-in, are-marks, is-store, place-at, name-at, Store-rules}}
+use Rattle.mesh.proofs.Marks.{NameOrder.{before-trans}, Lists.{Rising-marks}, Ranks.{differ-before}, Laws.{zeros-take, mark-nonzero, store-marks}}
+use Rattle.mesh.proofs.Marks.{Laws.{place-mark, mark-place}}
 
 -- ---- place i
 

@@ -1,16 +1,9 @@
 -- Links in their order.
 -- In order: membership of links, a link before another, sorted lists of links, members and neighbours.
-use mathlib.Core.Path.{_≡_, refl, sym, ap, ap₂, subst, _∙_}
-use mathlib.Core.Logic.{_⊎_, inl, inr}
-use mathlib.Core.Bool.{true, false, _&&_, _||_}
-use mathlib.Core.List.{List, [], _∷_, _++_}
-use Prim.Native.Nat.{ℕ, _<_}
-use native.Mathlib.Omega.{arith}
-use lib.Dec.{ltb, eqb}
-use borrow.Author.Tests.{ltb-true, lt-ltb, le-ltb, eqb-true, eq-eqb}
-use Rattle.lists.specs.Lists.{member}
+use Rattle.lists.{specs.Kit.{_≡_, refl, sym, ap, ap₂, subst, _∙_, _⊎_, inl, inr, true, false, _&&_, _||_, List, [], _∷_, _++_, ℕ, _<_, arith, ltb, eqb}}
+use Rattle.lists.{specs.Kit.{ltb-true, lt-ltb, le-ltb, eqb-true, eq-eqb}, specs.Lists.{member}, proofs.Tests.{never, and-left, and-right, and-both, or-cases}}
+use Rattle.lists.{proofs.Tests.{or-left, or-right, trichotomy}}
 use Rattle.mesh.specs.Graph.{Link, In-links, other-ends, link, link-before, ascending}
-use Rattle.lists.proofs.Tests.{never, and-left, and-right, and-both, or-cases, or-left, or-right, trichotomy}
 use Rattle.mesh.proofs.GraphLaws.{Ends, ends-of, of-ends, joins, joins-link, linked-by, linked-by-cons, Proper}
 
 -- ---- membership of links

@@ -1,14 +1,8 @@
 -- Laws of the digits of a number, and of one digit put.
-use mathlib.Core.Path.{_≡_, refl, sym, ap, _∙_}
-use mathlib.Core.Logic.{_⊎_, inl, inr}
-use mathlib.Core.Bool.{Bool, true, false, cond}
-use Prim.Native.Nat.{ℕ, zero, suc, _+_, _*_, _-_, _/_, _%_, _^_, _≤_, _<_}
-use native.Mathlib.Omega.{arith}
-use native.Mathlib.Nat.{pow-succ', div-div-eq-div-mul, zero-div}
-use lib.Dec.{eqb, eqb·zero-suc, eqb·suc-zero, eqb·suc-suc}
-use borrow.Author.Tests.{eqb-true, eqb-false}
+use Rattle.lists.{specs.Kit.{_≡_, refl, sym, ap, _∙_, _⊎_, inl, inr, Bool, true, false, cond, ℕ, zero, suc, _+_, _*_, _-_, _/_, _%_, _^_, _≤_, _<_, arith}}
+use Rattle.lists.{specs.Kit.{pow-succ', div-div-eq-div-mul, zero-div, eqb, eqb·zero-suc, eqb·suc-zero, eqb·suc-suc, eqb-true, eqb-false}}
+use Rattle.lists.{proofs.Tests.{bool-cases, bit-one, bit-digit}}
 use Rattle.mesh.specs.Tables.{digit, put-digit, from-digits}
-use Rattle.lists.proofs.Tests.{bool-cases, bit-one, bit-digit}
 
 -- ---- digits of a number
 

@@ -1,25 +1,12 @@
 -- Laws of the shell tree's sets.
 -- In order: shells, connected cores as sets, node sets (they are the connected cores with a radio of their own level), names,
 -- parents (there is one at most).
-use mathlib.Core.Path.{_≡_, refl, sym, _∙_}
-use mathlib.Core.Logic.{_⊎_, inl, inr, _↔_}
-use mathlib.Core.Bool.{Bool, true, false}
-use mathlib.Core.List.{List, [], _∷_}
-use Prim.Native.Nat.{ℕ, suc, _≤_, _<_}
-use native.Mathlib.Omega.{arith}
-use native.Mathlib.Nat.{le-antisymm}
-use lib.Dec.{eqb}
-use borrow.Author.Tests.{eqb-true, eqb-false, eq-eqb}
-use Rattle.lists.specs.Lists.{member, In}
-use Rattle.mesh.specs.Graph.{Graph}
-use Rattle.mesh.specs.Cores.{number}
-use Rattle.mesh.specs.Connected.{In-core, core-of}
-use Rattle.mesh.specs.Tree.{Core-set, Node-set, Named, Contains, Parent, shell}
-use Rattle.lists.proofs.Tests.{bool-cases}
-use Rattle.lists.proofs.Member.{member-in, in-member}
-use Rattle.lists.proofs.Filter.{in-filter, filter-in}
-use Rattle.mesh.proofs.Trees.Reach.{core-of-iff}
-use Rattle.mesh.proofs.Trees.CoreLevels.{in-core-here, in-core-below, in-core-level, in-core-sym, in-core-trans, in-core-mono, in-core-lower}
+use Rattle.lists.{specs.Kit.{_≡_, refl, sym, _∙_, _⊎_, inl, inr, _↔_, Bool, true, false, List, [], _∷_, ℕ, suc, _≤_, _<_, arith, le-antisymm, eqb, eqb-true}}
+use Rattle.lists.{specs.Kit.{eqb-false, eq-eqb}, specs.Lists.{member, In}, proofs.Tests.{bool-cases}, proofs.Member.{member-in, in-member}}
+use Rattle.lists.{proofs.Filter.{in-filter, filter-in}}
+use Rattle.mesh.specs.{Graph.{Graph}, Cores.{number}, Connected.{In-core, core-of}, Tree.{Core-set, Node-set, Named, Contains, Parent, shell}}
+use Rattle.mesh.proofs.Trees.{Reach.{core-of-iff}, CoreLevels.{in-core-here, in-core-below, in-core-level, in-core-sym, in-core-trans, in-core-mono}}
+use Rattle.mesh.proofs.Trees.{CoreLevels.{in-core-lower}}
 
 -- the connected core of v at level k, as a set
 abbrev pub core-has : Graph → (v k w : ℕ) → Bool

@@ -1,26 +1,13 @@
 -- Reachable radios: laws of reachability, the rounds of `reached` take in exactly the reachable radios, and so connected cores
 -- as lists. More on connected cores is in CoreLevels.antt.
-use mathlib.Core.Path.{_≡_, refl, sym, ap, _∙_}
-use mathlib.Core.Logic.{_⊎_, inl, inr, _↔_}
-use mathlib.Core.Bool.{Bool, true, false, _&&_, _||_, not}
-use mathlib.Core.List.{List, [], _∷_}
-use Prim.Native.Nat.{ℕ, zero, suc, _+_, _≤_, _<_}
-use native.Mathlib.Omega.{arith}
-use lib.Dec.{ltb}
-use lib.ListN.{length}
-use borrow.Author.Tests.{ltb-true, lt-ltb, not-true}
-use Rattle.lists.specs.Lists.{range, count, filter, member, In}
-use Rattle.lists.specs.Facts.{Ascending-below}
-use Rattle.mesh.specs.Graph.{Graph, radios, linked, neighbours-among}
-use Rattle.mesh.specs.Connected.{Reachable, here, onward, at-least, In-core, reached, core-of}
-use Rattle.lists.proofs.Tests.{bool-cases, never, and-left, and-right, and-both, or-cases, or-left, or-right, iff-eq}
-use Rattle.lists.proofs.Member.{member-in, in-member}
-use Rattle.lists.proofs.Count.{count-le-length, count-pos, count-some}
-use Rattle.lists.proofs.Distinct.{length-sub}
-use Rattle.lists.proofs.Range.{in-range, range-in, length-range}
-use Rattle.lists.proofs.Filter.{in-filter, filter-in, length-filter, filter-ext}
+use Rattle.lists.{specs.Kit.{_≡_, refl, sym, ap, _∙_, _⊎_, inl, inr, _↔_, Bool, true, false, _&&_, _||_, not, List, [], _∷_, ℕ, zero, suc, _+_, _≤_, _<_}}
+use Rattle.lists.{specs.Kit.{arith, ltb, length, ltb-true, lt-ltb, not-true}, specs.Lists.{range, count, filter, member, In}, specs.Facts.{Ascending-below}}
+use Rattle.lists.{proofs.Tests.{bool-cases, never, and-left, and-right, and-both, or-cases, or-left, or-right, iff-eq}, proofs.Member.{member-in, in-member}}
+use Rattle.lists.{proofs.Count.{count-le-length, count-pos, count-some}, proofs.Distinct.{length-sub}, proofs.Range.{in-range, range-in, length-range}}
+use Rattle.lists.{proofs.Filter.{in-filter, filter-in, length-filter, filter-ext}, proofs.Ascending.{ascending-below-filter, ascending-below-one}}
+use Rattle.lists.{proofs.Ascending.{ascending-below-distinct, ascending-below-lt}}
+use Rattle.mesh.specs.{Graph.{Graph, radios, linked, neighbours-among}, Connected.{Reachable, here, onward, at-least, In-core, reached, core-of}}
 use Rattle.mesh.proofs.GraphLaws.{linked-sym}
-use Rattle.lists.proofs.Ascending.{ascending-below-filter, ascending-below-one, ascending-below-distinct, ascending-below-lt}
 
 -- ---- reachability
 

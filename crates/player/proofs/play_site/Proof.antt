@@ -1,7 +1,6 @@
 -- `play_site` meets its contract: what clearing leaves is a cleared site.
-use Rattle.player.proofs.ReadingLaws.{site-cleared}
-use borrow.Author.Needs.{needs}
-use Rattle.player.proofs.play_site.Statement.{statement}
+use Rattle.lists.specs.Kit.{needs}
+use Rattle.player.proofs.{ReadingLaws.{site-cleared}, play_site.Statement.{statement}}
 use Rattle.player.proofs.play_site.Tie as tie
 
 read-all-requires : tie.Need-read-all-requires

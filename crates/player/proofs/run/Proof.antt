@@ -1,10 +1,6 @@
 -- `run` meets its contract: a first line that names a site names at most 512 radios, and the lines after it have a status.
-use native.Mathlib.Omega.{arith}
-use mathlib.Core.Path.{_≡_, refl}
-use Prim.Native.Nat.{ℕ, zero, suc, _<_}
-use borrow.Author.Needs.{needs}
-use Rattle.player.proofs.StatusLaws.{run-wrong, run-status}
-use Rattle.player.proofs.run.Statement.{statement}
+use Rattle.lists.specs.Kit.{arith, _≡_, refl, ℕ, zero, suc, _<_, needs}
+use Rattle.player.proofs.{StatusLaws.{run-wrong, run-status}, run.Statement.{statement}}
 use Rattle.player.proofs.run.Tie as tie
 
 positive : (x : ℕ) → (x ≡ 0 → ⊥) → 0 < x

@@ -1,5 +1,5 @@
 -- `run_kept` meets its contract: the site is the one it is given.
-use borrow.Author.Needs.{needs}
+use Rattle.lists.specs.Kit.{needs}
 use Rattle.player.proofs.run_kept.Statement.{statement}
 use Rattle.player.proofs.run_kept.Tie as tie
 

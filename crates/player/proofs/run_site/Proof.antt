@@ -1,11 +1,6 @@
 -- `run_site` meets its contract: a site of at most 512 radios takes parts of the largest tables.
-use mathlib.Core.Path.{sym}
-use Prim.Native.Nat.{_≤_}
-use native.Mathlib.Omega.{arith}
-use lib.Seq.{length-take-le}
-use borrow.Author.Needs.{needs}
-use Rattle.player.proofs.ReadingLaws.{site-lent}
-use Rattle.player.proofs.run_site.Statement.{statement}
+use Rattle.lists.specs.Kit.{sym, _≤_, arith, length-take-le, needs}
+use Rattle.player.proofs.{ReadingLaws.{site-lent}, run_site.Statement.{statement}}
 use Rattle.player.proofs.run_site.Tie as tie
 
 slice-aggregate-play-site : tie.Need-slice-aggregate-play-site

@@ -1,13 +1,8 @@
 -- `rows::first_marked` meets its contract: no radio is marked before word k (`Searching`), and the lowest set bit of the first
 -- word that is not 0 is the row's. The measure is the words that are left.
-use mathlib.Core.Path.{sym, ap, _∙_}
-use Prim.Native.Nat.{_-_}
-use native.Mathlib.Omega.{arith}
-use lib.Count.{trailing-le}
-use borrow.Author.Needs.{needs}
-use Rattle.lists.specs.Lists.{head-or}
-use Rattle.rows.proofs.RowWords.{Searching, searching-turn, searching-found, row-from-zero, row-from-end, row-listed-whole, row-listed-short}
-use Rattle.rows.proofs.first_marked.Statement.{statement}
+use Rattle.lists.specs.{Kit.{sym, ap, _∙_, _-_, arith, trailing-le, needs}, Lists.{head-or}}
+use Rattle.rows.proofs.{RowWords.{Searching, searching-turn, searching-found, row-from-zero, row-from-end, row-listed-whole, row-listed-short}}
+use Rattle.rows.proofs.{first_marked.Statement.{statement}}
 use Rattle.rows.proofs.first_marked.Tie as tie
 
 abbrev Inv-loop : tie.InvT-loop

@@ -1,8 +1,6 @@
 -- `rows::is_marked` meets its contract: the shifted and masked byte is the digit that `marked` names; past the table both are false.
-use mathlib.Core.Path.{sym}
-use borrow.Author.Needs.{needs}
-use Rattle.rows.proofs.MaskLaws.{marked-shift, marked-past}
-use Rattle.rows.proofs.is_marked.Statement.{statement}
+use Rattle.lists.specs.Kit.{sym, needs}
+use Rattle.rows.proofs.{MaskLaws.{marked-shift, marked-past}, is_marked.Statement.{statement}}
 use Rattle.rows.proofs.is_marked.Tie as tie
 
 pub is-marked-spec : {M : Type 1} → statement M

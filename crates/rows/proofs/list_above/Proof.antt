@@ -1,13 +1,7 @@
 -- `rows::list_above` meets its contract: what is left of the row's own word is listed, and then the words after it.
-use mathlib.Core.Path.{refl}
-use mathlib.Core.List.{[]}
-use Prim.Native.Nat.{_+_, _/_, _%_, _^_}
-use native.Mathlib.Omega.{arith}
-use borrow.Author.Needs.{needs}
-use Rattle.lists.proofs.Overwrite.{sets-front}
+use Rattle.lists.{specs.Kit.{refl, [], _+_, _/_, _%_, _^_, arith, needs}, proofs.Overwrite.{sets-front}}
 use Rattle.rows.specs.Rows.{row-from, set-bits}
-use Rattle.rows.proofs.AboveWords.{above-past, above-short, above-words, two-listed}
-use Rattle.rows.proofs.list_above.Statement.{statement}
+use Rattle.rows.proofs.{AboveWords.{above-past, above-short, above-words, two-listed}, list_above.Statement.{statement}}
 use Rattle.rows.proofs.list_above.Tie as tie
 
 returns : tie.Need-returns

@@ -1,15 +1,9 @@
 -- `rows::list_bits` meets its contract: each turn takes the lowest set bit off the word, and what is left of the word's set
 -- bits gives what all of them give (`Word-listing`). The measure is the word that is left.
-use mathlib.Core.Path.{ap, _∙_}
-use Prim.Native.Nat.{_-_}
-use native.Mathlib.Omega.{arith}
-use lib.Bits.{and-le-r}
-use lib.Count.{trailing-le}
-use borrow.Author.Needs.{needs}
+use Rattle.lists.specs.Kit.{ap, _∙_, _-_, arith, and-le-r, trailing-le, needs}
 use Rattle.rows.specs.Rows.{set-bits}
-use Rattle.rows.proofs.WordLaws.{set-bits-nothing, length-set-bits-le}
-use Rattle.rows.proofs.Listing.{Word-listing, word-listing-turn, partial-none, partial-end, partial-full}
-use Rattle.rows.proofs.list_bits.Statement.{statement}
+use Rattle.rows.proofs.{WordLaws.{set-bits-nothing, length-set-bits-le}, Listing.{Word-listing, word-listing-turn, partial-none, partial-end}}
+use Rattle.rows.proofs.{Listing.{partial-full}, list_bits.Statement.{statement}}
 use Rattle.rows.proofs.list_bits.Tie as tie
 
 abbrev Inv-loop : tie.InvT-loop

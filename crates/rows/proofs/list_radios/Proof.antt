@@ -1,9 +1,6 @@
 -- `rows::list_radios` meets its contract: a word of the set is listed from its first radio on; past the words there is none.
-use mathlib.Core.Path.{refl}
-use native.Mathlib.Omega.{arith}
-use borrow.Author.Needs.{needs}
-use Rattle.rows.proofs.RowWords.{word-radios-below, word-radios-past}
-use Rattle.rows.proofs.list_radios.Statement.{statement}
+use Rattle.lists.specs.Kit.{refl, arith, needs}
+use Rattle.rows.proofs.{RowWords.{word-radios-below, word-radios-past}, list_radios.Statement.{statement}}
 use Rattle.rows.proofs.list_radios.Tie as tie
 
 returns : tie.Need-returns

@@ -1,11 +1,6 @@
 -- `rows::list_row` meets its contract: all words of the row are listed.
-use mathlib.Core.Path.{sym, _∙_}
-use mathlib.Core.List.{[]}
-use native.Mathlib.Omega.{arith}
-use borrow.Author.Needs.{needs}
-use Rattle.lists.proofs.Overwrite.{sets-front}
-use Rattle.rows.proofs.RowWords.{row-from-zero, row-listed-whole, row-listed-short, front-listed}
-use Rattle.rows.proofs.list_row.Statement.{statement}
+use Rattle.lists.{specs.Kit.{sym, _∙_, [], arith, needs}, proofs.Overwrite.{sets-front}}
+use Rattle.rows.proofs.{RowWords.{row-from-zero, row-listed-whole, row-listed-short, front-listed}, list_row.Statement.{statement}}
 use Rattle.rows.proofs.list_row.Tie as tie
 
 returns : tie.Need-returns

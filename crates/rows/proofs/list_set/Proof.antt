@@ -1,13 +1,8 @@
 -- `rows::list_set` meets its contract: what is counted and listed so far and what is left from word k on give what the whole set
 -- gives (`Set-listing`). The measure is the words that are left.
-use mathlib.Core.Path.{refl}
-use mathlib.Core.List.{[]}
-use Prim.Native.Nat.{_-_}
-use native.Mathlib.Omega.{arith}
-use borrow.Author.Needs.{needs}
-use Rattle.lists.proofs.Overwrite.{sets-front}
-use Rattle.rows.proofs.RowWords.{Set-listing, set-listing-none, set-word-few, set-listing-turn, set-listing-end, row-listed-short}
-use Rattle.rows.proofs.list_set.Statement.{statement}
+use Rattle.lists.{specs.Kit.{refl, [], _-_, arith, needs}, proofs.Overwrite.{sets-front}}
+use Rattle.rows.proofs.{RowWords.{Set-listing, set-listing-none, set-word-few, set-listing-turn, set-listing-end, row-listed-short}}
+use Rattle.rows.proofs.{list_set.Statement.{statement}}
 use Rattle.rows.proofs.list_set.Tie as tie
 
 abbrev Inv-loop : tie.InvT-loop

@@ -1,13 +1,8 @@
 -- `rows::list_word` meets its contract: what is written into the rest of the list is written from its place on.
-use mathlib.Core.Path.{sym}
-use native.Mathlib.Omega.{arith}
-use lib.ListN.{length}
-use borrow.Author.Needs.{needs}
+use Rattle.lists.{specs.Kit.{sym, arith, length, needs}, proofs.Overwrite.{sets-full}}
 use borrow.Rule.Slice.PartMut.{mid-len}
-use Rattle.lists.proofs.Overwrite.{sets-full}
 use Rattle.rows.specs.Rows.{set-bits}
-use Rattle.rows.proofs.Listing.{put-rest}
-use Rattle.rows.proofs.list_word.Statement.{statement}
+use Rattle.rows.proofs.{Listing.{put-rest}, list_word.Statement.{statement}}
 use Rattle.rows.proofs.list_word.Tie as tie
 
 returns : tie.Need-returns

@@ -1,11 +1,7 @@
 -- `rows::list_words` meets its contract: the radios listed so far and the ones from word k on are all from the first word on, as
 -- far as the list reaches (`Words-listing`). The measure is the words that are left.
-use Prim.Native.Nat.{_-_}
-use native.Mathlib.Omega.{arith}
-use borrow.Author.Needs.{needs}
-use Rattle.rows.proofs.Listing.{partial-none}
-use Rattle.rows.proofs.RowWords.{Words-listing, words-listing-turn, words-listing-end}
-use Rattle.rows.proofs.list_words.Statement.{statement}
+use Rattle.lists.specs.Kit.{_-_, arith, needs}
+use Rattle.rows.proofs.{Listing.{partial-none}, RowWords.{Words-listing, words-listing-turn, words-listing-end}, list_words.Statement.{statement}}
 use Rattle.rows.proofs.list_words.Tie as tie
 
 abbrev Inv-loop : tie.InvT-loop

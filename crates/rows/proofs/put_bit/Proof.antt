@@ -1,9 +1,6 @@
 -- `rows::put_bit` meets its contract: `|` with the mask of the bit sets it, `&` with the mask's complement clears it.
-use mathlib.Core.Path.{sym}
-use Prim.Native.Nat.{_+_, _*_, _/_}
-use borrow.Author.Needs.{needs}
-use Rattle.rows.proofs.MaskLaws.{put-bit-true, put-bit-false, put-bit-past}
-use Rattle.rows.proofs.put_bit.Statement.{statement}
+use Rattle.lists.specs.Kit.{sym, _+_, _*_, _/_, needs}
+use Rattle.rows.proofs.{MaskLaws.{put-bit-true, put-bit-false, put-bit-past}, put_bit.Statement.{statement}}
 use Rattle.rows.proofs.put_bit.Tie as tie
 
 returns-2 : tie.Need-returns-2

@@ -1,16 +1,8 @@
 -- `rows::row_above` meets its contract: the part of the list that is lent stops the byte, and what is written into it stands in
 -- front of the list.
-use mathlib.Core.Path.{sym, ap, _∙_}
-use mathlib.Core.List.{List}
-use Prim.Native.Nat.{ℕ}
-use native.Mathlib.Omega.{arith}
-use lib.ListN.{take, length-take}
-use lib.Seq.{length-take-le}
-use borrow.Author.Needs.{needs}
-use Rattle.lists.specs.Lists.{overwrite}
+use Rattle.lists.specs.{Kit.{sym, ap, _∙_, ℕ, arith, take, length-take, length-take-le, needs}, Lists.{overwrite}}
 use Rattle.rows.specs.Rows.{neighbours-above}
-use Rattle.rows.proofs.Listing.{put-front}
-use Rattle.rows.proofs.row_above.Statement.{statement}
+use Rattle.rows.proofs.{Listing.{put-front}, row_above.Statement.{statement}}
 use Rattle.rows.proofs.row_above.Tie as tie
 
 slice-aggregate-list-above : tie.Need-slice-aggregate-list-above

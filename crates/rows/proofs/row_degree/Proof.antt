@@ -1,13 +1,9 @@
 -- `rows::row_degree` meets its contract: the radios counted so far and the ones from word k on are all that the row marks, and
 -- the byte has not passed the limit on neighbours. The measure is the words that are left.
-use mathlib.Core.Path.{sym, ap}
-use Prim.Native.Nat.{_-_}
-use native.Mathlib.Omega.{arith}
-use lib.ListN.{length}
-use borrow.Author.Needs.{needs}
+use Rattle.lists.specs.Kit.{ap, _-_, arith, length, needs}
 use Rattle.rows.specs.Rows.{row-count}
-use Rattle.rows.proofs.RowWords.{Row-counting, row-counting-turn, row-counting-stop, row-counting-end, length-row-from, row-from-zero, row-listed-short}
-use Rattle.rows.proofs.row_degree.Statement.{statement}
+use Rattle.rows.proofs.{RowWords.{Row-counting, row-counting-turn, row-counting-stop, row-counting-end, length-row-from, row-from-zero}}
+use Rattle.rows.proofs.{RowWords.{row-listed-short}, row_degree.Statement.{statement}}
 use Rattle.rows.proofs.row_degree.Tie as tie
 
 abbrev Inv-loop : tie.InvT-loop

@@ -1,9 +1,6 @@
 -- `rows::word_at` meets its contract: bytes shifted to places that do not overlap are joined.
-use Prim.Native.Nat.{_+_}
-use native.Mathlib.Omega.{arith}
-use borrow.Author.Needs.{needs}
-use Rattle.rows.proofs.WordLaws.{word-at-joined}
-use Rattle.rows.proofs.word_at.Statement.{statement}
+use Rattle.lists.specs.Kit.{_+_, arith, needs}
+use Rattle.rows.proofs.{WordLaws.{word-at-joined}, word_at.Statement.{statement}}
 use Rattle.rows.proofs.word_at.Tie as tie
 
 cast-result-2 : tie.Need-cast-result-2

@@ -1,8 +1,6 @@
 -- `rows::word_of` meets its contract: the test of the row's length is that of `word-of`.
-use mathlib.Core.Path.{sym, _∙_}
-use borrow.Author.Needs.{needs}
-use Rattle.rows.proofs.RowWords.{word-of-short, word-of-whole}
-use Rattle.rows.proofs.word_of.Statement.{statement}
+use Rattle.lists.specs.Kit.{sym, _∙_, needs}
+use Rattle.rows.proofs.{RowWords.{word-of-short, word-of-whole}, word_of.Statement.{statement}}
 use Rattle.rows.proofs.word_of.Tie as tie
 
 returns : tie.Need-returns

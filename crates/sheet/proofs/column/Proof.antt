@@ -1,8 +1,6 @@
 -- `column` meets its contract: its branches are the cases of `digit-column`.
-use mathlib.Core.Path.{sym, _∙_}
-use borrow.Author.Needs.{needs}
-use Rattle.sheet.proofs.PutLaws.{column-space, column-digit}
-use Rattle.sheet.proofs.column.Statement.{statement}
+use Rattle.lists.specs.Kit.{sym, _∙_, needs}
+use Rattle.sheet.proofs.{PutLaws.{column-space, column-digit}, column.Statement.{statement}}
 use Rattle.sheet.proofs.column.Tie as tie
 
 returns : tie.Need-returns

@@ -1,9 +1,6 @@
 -- `put_cell` meets its contract: each column is put after the ones before it.
-use native.Mathlib.Omega.{arith}
-use lib.ListN.{length-set}
-use borrow.Author.Needs.{needs}
-use Rattle.sheet.proofs.PutLaws.{cell-put}
-use Rattle.sheet.proofs.put_cell.Statement.{statement}
+use Rattle.lists.specs.Kit.{arith, length-set, needs}
+use Rattle.sheet.proofs.{PutLaws.{cell-put}, put_cell.Statement.{statement}}
 use Rattle.sheet.proofs.put_cell.Tie as tie
 
 returns : tie.Need-returns

@@ -1,9 +1,7 @@
 -- `put_cells` meets its contract: the cells that are left take the page where all of them do (`Cells`). The measure is how many are left.
-use Prim.Native.Nat.{_+_, _-_}
-use native.Mathlib.Omega.{arith}
+use Rattle.lists.specs.Kit.{_+_, _-_, arith}
 use Rattle.text.proofs.PrintLaws.{length-putting}
-use Rattle.sheet.proofs.PutLaws.{Cells, cells-none, cells-next, cells-last}
-use Rattle.sheet.proofs.put_cells.Statement.{statement}
+use Rattle.sheet.proofs.{PutLaws.{Cells, cells-none, cells-next, cells-last}, put_cells.Statement.{statement}}
 use Rattle.sheet.proofs.put_cells.Tie as tie
 
 abbrev Inv-loop : tie.InvT-loop

@@ -1,10 +1,6 @@
 -- `put_line` meets its contract: the cells, the spaces that are left of the line's columns, the line feed.
-use mathlib.Core.Path.{_∙_}
-use native.Mathlib.Omega.{arith}
-use lib.ListN.{length-set}
-use borrow.Author.Needs.{needs}
-use Rattle.sheet.proofs.PutLaws.{line-put}
-use Rattle.sheet.proofs.put_line.Statement.{statement}
+use Rattle.lists.specs.Kit.{_∙_, arith, length-set, needs}
+use Rattle.sheet.proofs.{PutLaws.{line-put}, put_line.Statement.{statement}}
 use Rattle.sheet.proofs.put_line.Tie as tie
 
 same-length : tie.Need-same-length

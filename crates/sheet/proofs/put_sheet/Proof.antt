@@ -1,10 +1,7 @@
 -- `put_sheet` meets its contract: the lines that are left take the page where all of them do (`Lines`). The measure is how many are left.
-use Prim.Native.Nat.{_-_}
-use native.Mathlib.Omega.{arith}
-use lib.ListN.{length}
+use Rattle.lists.specs.Kit.{_-_, arith, length}
 use Rattle.text.proofs.PrintLaws.{length-putting}
-use Rattle.sheet.proofs.PutLaws.{Lines, lines-none, lines-next, lines-last, line-inside}
-use Rattle.sheet.proofs.put_sheet.Statement.{statement}
+use Rattle.sheet.proofs.{PutLaws.{Lines, lines-none, lines-next, lines-last, line-inside}, put_sheet.Statement.{statement}}
 use Rattle.sheet.proofs.put_sheet.Tie as tie
 
 abbrev Inv-loop : tie.InvT-loop

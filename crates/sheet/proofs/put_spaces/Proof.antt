@@ -1,10 +1,8 @@
 -- `put_spaces` meets its contract: the spaces that are left take the page where all of them do (`Spaces`). The measure is how many
 -- are left.
-use Prim.Native.Nat.{_-_}
-use native.Mathlib.Omega.{arith}
+use Rattle.lists.specs.Kit.{_-_, arith}
 use Rattle.text.proofs.PrintLaws.{length-putting}
-use Rattle.sheet.proofs.PutLaws.{Spaces, spaces-none, spaces-next, spaces-last}
-use Rattle.sheet.proofs.put_spaces.Statement.{statement}
+use Rattle.sheet.proofs.{PutLaws.{Spaces, spaces-none, spaces-next, spaces-last}, put_spaces.Statement.{statement}}
 use Rattle.sheet.proofs.put_spaces.Tie as tie
 
 abbrev Inv-loop : tie.InvT-loop

@@ -1,12 +1,9 @@
 -- `sheet` meets its contract: a refusal touches nothing; accepted, the numbers have at most two digits, and the lines are put.
-use mathlib.Core.Path.{ap}
-use Prim.Native.Nat.{ℕ, _*_}
-use native.Mathlib.Omega.{arith}
-use borrow.Author.Needs.{needs}
+use Rattle.lists.specs.Kit.{ap, ℕ, _*_, arith, needs}
 use Rattle.mesh.specs.Tables.{tables}
 use Rattle.calls.specs.Sheet.{line-bytes, sheet-lines}
-use Rattle.sheet.proofs.SheetOutcomes.{sheet-refused, sheet-small, sheet-cells-fit, sheet-room, sheet-no-room, sheet-accepted}
-use Rattle.sheet.proofs.sheet.Statement.{statement}
+use Rattle.sheet.proofs.{SheetOutcomes.{sheet-refused, sheet-small, sheet-cells-fit, sheet-room, sheet-no-room, sheet-accepted}}
+use Rattle.sheet.proofs.{sheet.Statement.{statement}}
 use Rattle.sheet.proofs.sheet.Tie as tie
 
 returns : tie.Need-returns

@@ -1,7 +1,6 @@
 -- `is_name` meets its contract: by the first byte.
-use borrow.Author.Needs.{needs}
-use Rattle.site_program.proofs.GivenLaws.{name-none, name-below, name-above}
-use Rattle.site_program.proofs.is_name.Statement.{statement}
+use Rattle.lists.specs.Kit.{needs}
+use Rattle.site_program.proofs.{GivenLaws.{name-none, name-below, name-above}, is_name.Statement.{statement}}
 use Rattle.site_program.proofs.is_name.Tie as tie
 
 returns : tie.Need-returns

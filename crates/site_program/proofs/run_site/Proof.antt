@@ -1,7 +1,5 @@
 -- `run_site` meets its contract: a site of at most 512 radios takes parts of the largest tables.
-use mathlib.Core.Path.{sym}
-use lib.Seq.{length-take-le}
-use borrow.Author.Needs.{needs}
+use Rattle.lists.specs.Kit.{sym, length-take-le, needs}
 use Rattle.site_program.proofs.run_site.Statement.{statement}
 use Rattle.site_program.proofs.run_site.Tie as tie
 

@@ -1,7 +1,6 @@
 -- `text_of` meets its contract: the buffer holds every text.
-use Rattle.site_program.proofs.RoomLaws.{verb-held}
-use borrow.Author.Needs.{needs}
-use Rattle.site_program.proofs.text_of.Statement.{statement}
+use Rattle.lists.specs.Kit.{needs}
+use Rattle.site_program.proofs.{RoomLaws.{verb-held}, text_of.Statement.{statement}}
 use Rattle.site_program.proofs.text_of.Tie as tie
 
 returns : tie.Need-returns

@@ -1,11 +1,9 @@
 -- `soundness::asked` meets its contract: questions 1 and 2 are put to the lengths, and then the tables have the sizes that the
 -- conditions are tested at.
-use borrow.Author.Tests.{not-true, not-false}
-use borrow.Author.Needs.{needs}
+use Rattle.lists.specs.Kit.{not-true, not-false, needs}
 use Rattle.mesh.specs.Tables.{tables}
 use Rattle.calls.specs.Questions.{lengths-of}
-use Rattle.soundness.proofs.ExamineLaws.{asked-lengths, asked-sizes, asked-no, asked-yes}
-use Rattle.soundness.proofs.asked.Statement.{statement}
+use Rattle.soundness.proofs.{ExamineLaws.{asked-lengths, asked-sizes, asked-no, asked-yes}, asked.Statement.{statement}}
 use Rattle.soundness.proofs.asked.Tie as tie
 
 returns : tie.Need-returns

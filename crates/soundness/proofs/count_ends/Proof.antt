@@ -1,18 +1,11 @@
 -- `soundness::count_ends` meets its contract: the words of the row are walked one by one, and the ends that are left and what is counted
 -- come to what the whole row comes to (`Row-walking`). The measure is the words that are left.
-use mathlib.Core.Path.{_≡_, refl, sym, _∙_}
-use mathlib.Core.Bool.{true}
-use Prim.Native.Nat.{ℕ, _+_, _*_, _-_, _<_}
-use native.Mathlib.Omega.{arith}
-use lib.ListN.{getD}
-use borrow.Author.Needs.{needs}
-use borrow.Author.Tests.{not-true, not-false}
+use Rattle.lists.specs.Kit.{_≡_, refl, sym, _∙_, true, ℕ, _+_, _*_, _-_, _<_, arith, getD, needs, not-true, not-false}
 use Rattle.mesh.specs.Limits.{row-bytes}
 use Rattle.rows.proofs.RowWords.{word-of-row}
 use Rattle.soundness.specs.Checks.{tally}
-use Rattle.soundness.proofs.RowChecks.{ends-own, ends-many, ends-alone, ends-right}
-use Rattle.soundness.proofs.Tallies.{Row-walking, row-walking-none, row-walking-alone, row-walking-many, row-walking-turn, row-walking-end}
-use Rattle.soundness.proofs.count_ends.Statement.{statement}
+use Rattle.soundness.proofs.{RowChecks.{ends-own, ends-many, ends-alone, ends-right}, Tallies.{Row-walking, row-walking-none, row-walking-alone}}
+use Rattle.soundness.proofs.{Tallies.{row-walking-many, row-walking-turn, row-walking-end}, count_ends.Statement.{statement}}
 use Rattle.soundness.proofs.count_ends.Tie as tie
 
 abbrev Inv-loop : tie.InvT-loop

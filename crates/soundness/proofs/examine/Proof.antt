@@ -1,11 +1,8 @@
 -- `soundness::examine` meets its contract: where the tables have their sizes the conditions decide.
-use mathlib.Core.Path.{sym, _∙_}
-use borrow.Author.Tests.{not-true, not-false}
-use borrow.Author.Needs.{needs}
+use Rattle.lists.specs.Kit.{sym, _∙_, not-true, not-false, needs}
 use Rattle.mesh.specs.Tables.{tables}
 use Rattle.calls.specs.Questions.{lengths-of}
-use Rattle.soundness.proofs.ExamineLaws.{examined-unfit, examinable-true, examined-held}
-use Rattle.soundness.proofs.examine.Statement.{statement}
+use Rattle.soundness.proofs.{ExamineLaws.{examined-unfit, examinable-true, examined-held}, examine.Statement.{statement}}
 use Rattle.soundness.proofs.examine.Tie as tie
 
 returns : tie.Need-returns

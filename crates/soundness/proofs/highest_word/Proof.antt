@@ -1,8 +1,6 @@
 -- `soundness::highest_word` meets its contract: no bit, every bit, or the bits below the one after the last.
-use native.Mathlib.Omega.{arith}
-use Prim.Native.Nat.{_-_}
+use Rattle.lists.specs.Kit.{arith, _-_, needs}
 use lib.Pow.{pow-pos}
-use borrow.Author.Needs.{needs}
 use Rattle.conditions.proofs.HighestWord.{highest-word-none, highest-word-whole, bit-after, highest-word-part}
 use Rattle.soundness.proofs.highest_word.Statement.{statement}
 use Rattle.soundness.proofs.highest_word.Tie as tie

@@ -1,7 +1,6 @@
 -- `soundness::highest_words` meets its contract: each entry is the highest word of its place.
-use borrow.Author.Needs.{needs}
-use Rattle.soundness.proofs.Tallies.{highest-words-all}
-use Rattle.soundness.proofs.highest_words.Statement.{statement}
+use Rattle.lists.specs.Kit.{needs}
+use Rattle.soundness.proofs.{Tallies.{highest-words-all}, highest_words.Statement.{statement}}
 use Rattle.soundness.proofs.highest_words.Tie as tie
 
 returns : tie.Need-returns

@@ -1,12 +1,8 @@
 -- `soundness::is_examinable` meets its contract: questions 1 and 2 are put with the shorter of the two lent tables as the answer table.
-use mathlib.Core.Path.{ap, _∙_}
-use Prim.Native.Nat.{ℕ}
-use lib.Dec.{eqb}
-use borrow.Author.Needs.{needs}
+use Rattle.lists.specs.Kit.{ap, _∙_, ℕ, eqb, needs}
 use Rattle.calls.specs.Questions.{answer-length, lent-refusal}
 use Rattle.tables.specs.Sizes.{lengths}
-use Rattle.soundness.proofs.ExamineLaws.{examinable-refusal}
-use Rattle.soundness.proofs.is_examinable.Statement.{statement}
+use Rattle.soundness.proofs.{ExamineLaws.{examinable-refusal}, is_examinable.Statement.{statement}}
 use Rattle.soundness.proofs.is_examinable.Tie as tie
 
 returns : tie.Need-returns

@@ -1,5 +1,5 @@
 -- `soundness::marks` meets its contract: the shifted and masked byte is the digit that `marked` names.
-use borrow.Author.Needs.{needs}
+use Rattle.lists.specs.Kit.{needs}
 use Rattle.rows.proofs.MaskLaws.{marked-shift}
 use Rattle.soundness.proofs.marks.Statement.{statement}
 use Rattle.soundness.proofs.marks.Tie as tie

@@ -1,14 +1,8 @@
 -- `soundness::place` meets its contract: the entries passed have their places and no other radio has one, so a radio that has a
 -- place stood there before. The measure is what is left of the order.
-use mathlib.Core.Path.{sym}
-use Prim.Native.Nat.{_-_}
-use native.Mathlib.Omega.{arith}
-use lib.ListN.{length}
-use lib.Seq.{length-take-le}
-use borrow.Author.Needs.{needs}
-use Rattle.soundness.proofs.CheckLoops.{Placing-so-far, placing-none, placing-high, placing-again, placing-room, placing-turn, placing-end, placing-not}
-use Rattle.soundness.proofs.CheckLoops.{placing-long}
-use Rattle.soundness.proofs.place.Statement.{statement}
+use Rattle.lists.specs.Kit.{sym, _-_, arith, length, length-take-le, needs}
+use Rattle.soundness.proofs.{CheckLoops.{Placing-so-far, placing-none, placing-high, placing-again, placing-room, placing-turn, placing-end}}
+use Rattle.soundness.proofs.{CheckLoops.{placing-not, placing-long}, place.Statement.{statement}}
 use Rattle.soundness.proofs.place.Tie as tie
 
 abbrev Inv-loop : tie.InvT-loop

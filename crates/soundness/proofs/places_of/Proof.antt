@@ -1,8 +1,6 @@
 -- `soundness::places_of` meets its contract: the order is placed where there is room for it.
-use native.Mathlib.Omega.{arith}
-use borrow.Author.Needs.{needs}
-use Rattle.soundness.proofs.CheckLoops.{places-none, places-some}
-use Rattle.soundness.proofs.places_of.Statement.{statement}
+use Rattle.lists.specs.Kit.{arith, needs}
+use Rattle.soundness.proofs.{CheckLoops.{places-none, places-some}, places_of.Statement.{statement}}
 use Rattle.soundness.proofs.places_of.Tie as tie
 
 pub places-of-spec : {M : Type 1} → statement M

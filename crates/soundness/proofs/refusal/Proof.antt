@@ -1,5 +1,5 @@
 -- `soundness::refusal` meets its contract: the two local tables have room for every site.
-use borrow.Author.Needs.{needs}
+use Rattle.lists.specs.Kit.{needs}
 use Rattle.soundness.proofs.refusal.Statement.{statement}
 use Rattle.soundness.proofs.refusal.Tie as tie
 

@@ -1,13 +1,8 @@
 -- `soundness::rises` meets its contract: what is left of the order, from the last number on, rises exactly when all of it does.
 -- The measure is what is left of the order.
-use mathlib.Core.Path.{sym}
-use Prim.Native.Nat.{_-_}
-use native.Mathlib.Omega.{arith}
-use lib.ListN.{length}
-use borrow.Author.Needs.{needs}
+use Rattle.lists.specs.Kit.{sym, _-_, arith, length, needs}
 use Rattle.mesh.specs.Sound.{number-in}
-use Rattle.soundness.proofs.CheckLoops.{Rising-so-far, rising-none, rising-turn, rising-falls, rising-end}
-use Rattle.soundness.proofs.rises.Statement.{statement}
+use Rattle.soundness.proofs.{CheckLoops.{Rising-so-far, rising-none, rising-turn, rising-falls, rising-end}, rises.Statement.{statement}}
 use Rattle.soundness.proofs.rises.Tie as tie
 
 abbrev Inv-loop : tie.InvT-loop

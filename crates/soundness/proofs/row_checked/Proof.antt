@@ -1,8 +1,6 @@
 -- `soundness::row_checked` meets its contract: each test is one condition of `row-good`.
-use borrow.Author.Tests.{not-true, not-false}
-use borrow.Author.Needs.{needs}
-use Rattle.soundness.proofs.RowChecks.{row-room, row-ends-bad, row-later-bad, row-high-bad, row-right}
-use Rattle.soundness.proofs.row_checked.Statement.{statement}
+use Rattle.lists.specs.Kit.{not-true, not-false, needs}
+use Rattle.soundness.proofs.{RowChecks.{row-room, row-ends-bad, row-later-bad, row-high-bad, row-right}, row_checked.Statement.{statement}}
 use Rattle.soundness.proofs.row_checked.Tie as tie
 
 count-ends-requires : tie.Need-count-ends-requires

@@ -1,10 +1,7 @@
 -- `soundness::rows_checked` meets its contract: the rows passed are good, so what is left decides, and their high counts are written.
 -- The measure is what is left of the radios.
-use Prim.Native.Nat.{_-_}
-use borrow.Author.Needs.{needs}
-use borrow.Author.Tests.{not-true, not-false}
-use Rattle.soundness.proofs.AllRows.{Rows-so-far, rows-none, rows-bad, rows-turn, rows-end}
-use Rattle.soundness.proofs.rows_checked.Statement.{statement}
+use Rattle.lists.specs.Kit.{_-_, needs, not-true, not-false}
+use Rattle.soundness.proofs.{AllRows.{Rows-so-far, rows-none, rows-bad, rows-turn, rows-end}, rows_checked.Statement.{statement}}
 use Rattle.soundness.proofs.rows_checked.Tie as tie
 
 abbrev Inv-loop : tie.InvT-loop

@@ -1,8 +1,6 @@
 -- `soundness::sooner` meets its contract: an earlier place leaves the key, of a later one the smaller key counts.
-use native.Mathlib.Omega.{arith}
-use borrow.Author.Needs.{needs}
-use Rattle.soundness.proofs.Tallies.{sooner-early, sooner-late}
-use Rattle.soundness.proofs.sooner.Statement.{statement}
+use Rattle.lists.specs.Kit.{arith, needs}
+use Rattle.soundness.proofs.{Tallies.{sooner-early, sooner-late}, sooner.Statement.{statement}}
 use Rattle.soundness.proofs.sooner.Tie as tie
 
 returns-2 : tie.Need-returns-2

@@ -1,19 +1,10 @@
 -- `soundness::walk_word` meets its contract: a word that is not above the highest marks radios of the site alone (`walking-radio`). Each
 -- turn takes the lowest set bit off the word and counts its radio, and what is left and what is counted come to what the whole word comes
 -- to (`Walking`). The measure is the word that is left.
-use mathlib.Core.Path.{sym, _∙_}
-use Prim.Native.Nat.{_+_, _-_}
-use native.Mathlib.Omega.{arith}
-use lib.Bits.{and-le-r}
-use lib.Count.{trailingZeros, trailing-le}
-use lib.Dec.{ltb, leb}
-use lib.ListN.{getD}
-use borrow.Author.Needs.{needs}
-use borrow.Author.Tests.{not-true, not-false}
+use Rattle.lists.specs.Kit.{sym, _∙_, _+_, _-_, arith, and-le-r, trailingZeros, trailing-le, ltb, leb, getD, needs, not-true, not-false}
 use Rattle.soundness.specs.Checks.{tally}
-use Rattle.soundness.proofs.Tallies.{count-fits, Walking, walking-none, walking-zero, walking-above, walking-radio, walking-few, walking-alone}
-use Rattle.soundness.proofs.Tallies.{walking-turn, walking-end}
-use Rattle.soundness.proofs.walk_word.Statement.{statement}
+use Rattle.soundness.proofs.{Tallies.{count-fits, Walking, walking-none, walking-zero, walking-above, walking-radio, walking-few, walking-alone}}
+use Rattle.soundness.proofs.{Tallies.{walking-turn, walking-end}, walk_word.Statement.{statement}}
 use Rattle.soundness.proofs.walk_word.Tie as tie
 
 abbrev Inv-loop : tie.InvT-loop

@@ -1,10 +1,7 @@
 -- `list_rows` meets its contract: at the first level reach is listed whole; else the radios of the level are listed, they and their
 -- neighbours put into a set, and what reach has of it is listed in their place.
-use mathlib.Core.Path.{refl, sym, _∙_}
-use lib.Seq.{length-take-le}
-use borrow.Author.Needs.{needs}
-use Rattle.staircase.proofs.LevelRows.{own-entries, own-fits, all-rows, level-rows}
-use Rattle.staircase.proofs.list_rows.Statement.{statement}
+use Rattle.lists.specs.Kit.{refl, sym, _∙_, length-take-le, needs}
+use Rattle.staircase.proofs.{LevelRows.{own-entries, own-fits, all-rows, level-rows}, list_rows.Statement.{statement}}
 use Rattle.staircase.proofs.list_rows.Tie as tie
 
 returns : tie.Need-returns

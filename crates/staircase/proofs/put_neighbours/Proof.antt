@@ -1,12 +1,8 @@
 -- `put_neighbours` meets its contract: the neighbours of the radios before place i are in the set (`Neighbours-putting`). The measure is
 -- what is left of the list.
-use mathlib.Core.Path.{sym, _∙_}
-use Prim.Native.Nat.{_-_}
-use native.Mathlib.Omega.{arith}
-use lib.ListN.{length}
-use borrow.Author.Needs.{needs}
-use Rattle.staircase.proofs.LevelRows.{Neighbours-putting, neighbours-putting-none, neighbours-putting-turn, neighbours-putting-end}
-use Rattle.staircase.proofs.put_neighbours.Statement.{statement}
+use Rattle.lists.specs.Kit.{sym, _∙_, _-_, arith, length, needs}
+use Rattle.staircase.proofs.{LevelRows.{Neighbours-putting, neighbours-putting-none, neighbours-putting-turn, neighbours-putting-end}}
+use Rattle.staircase.proofs.{put_neighbours.Statement.{statement}}
 use Rattle.staircase.proofs.put_neighbours.Tie as tie
 
 abbrev Inv-loop : tie.InvT-loop

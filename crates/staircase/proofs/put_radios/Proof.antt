@@ -1,11 +1,6 @@
 -- `put_radios` meets its contract: the radios before place i are in the set (`Radios-putting`). The measure is what is left of the list.
-use mathlib.Core.Path.{sym, _∙_}
-use Prim.Native.Nat.{_-_}
-use native.Mathlib.Omega.{arith}
-use lib.ListN.{length}
-use borrow.Author.Needs.{needs}
-use Rattle.staircase.proofs.LevelRows.{Radios-putting, radios-putting-none, radios-putting-turn, radios-putting-end}
-use Rattle.staircase.proofs.put_radios.Statement.{statement}
+use Rattle.lists.specs.Kit.{sym, _∙_, _-_, arith, length, needs}
+use Rattle.staircase.proofs.{LevelRows.{Radios-putting, radios-putting-none, radios-putting-turn, radios-putting-end}, put_radios.Statement.{statement}}
 use Rattle.staircase.proofs.put_radios.Tie as tie
 
 abbrev Inv-loop : tie.InvT-loop

@@ -1,11 +1,7 @@
 -- `root` meets its contract: every root stays, and from x the way leads where it led from v (`Searching`). The measure is x, which no
 -- parent exceeds.
-use mathlib.Core.Path.{refl}
-use native.Mathlib.Omega.{arith}
-use lib.ListN.{getD}
-use borrow.Author.Needs.{needs}
-use Rattle.staircase.proofs.PartLaws.{Searching, searching-none, searching-turn, searching-end}
-use Rattle.staircase.proofs.root.Statement.{statement}
+use Rattle.lists.specs.Kit.{refl, arith, getD, needs}
+use Rattle.staircase.proofs.{PartLaws.{Searching, searching-none, searching-turn, searching-end}, root.Statement.{statement}}
 use Rattle.staircase.proofs.root.Tie as tie
 
 abbrev Inv-loop : tie.InvT-loop

@@ -1,11 +1,8 @@
 -- `staircase` meets its contract: refused, the table is untouched; else the tables are sound, and what grows is the staircase tree.
-use mathlib.Core.Path.{sym}
-use lib.ListN.{length}
-use lib.Seq.{length-take-le}
-use borrow.Author.Needs.{needs}
+use Rattle.lists.specs.Kit.{sym, length, length-take-le, needs}
 use Rattle.mesh.specs.Tables.{tables}
-use Rattle.staircase.proofs.AnswerLaws.{staircase-refused, staircase-small, staircase-mutual, staircase-rows, staircase-low, staircase-answered}
-use Rattle.staircase.proofs.staircase.Statement.{statement}
+use Rattle.staircase.proofs.{AnswerLaws.{staircase-refused, staircase-small, staircase-mutual, staircase-rows, staircase-low, staircase-answered}}
+use Rattle.staircase.proofs.{staircase.Statement.{statement}}
 use Rattle.staircase.proofs.staircase.Tie as tie
 
 returns : tie.Need-returns

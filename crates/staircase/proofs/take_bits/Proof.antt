@@ -1,19 +1,10 @@
 -- `take_bits` meets its contract: each turn takes the lowest set bit off the word, and what is left gives what the whole word gives
 -- (`Taking`). The measure is the word that is left.
-use mathlib.Core.Path.{refl, ap, _∙_}
-use mathlib.Core.List.{[], _∷_}
-use Prim.Native.Nat.{ℕ, _+_, _-_, _^_, _<_}
-use native.Mathlib.Omega.{arith}
-use lib.Bits.{bitAnd, and-le-l, and-le-r}
-use lib.Count.{trailingZeros, trailing-le}
-use borrow.Author.Needs.{needs}
+use Rattle.lists.specs.Kit.{refl, ap, _∙_, [], _∷_, ℕ, _+_, _-_, _^_, _<_, arith, bitAnd, and-le-l, and-le-r, trailingZeros, trailing-le, needs}
 use Rattle.mesh.specs.Graph.{link-of}
-use Rattle.rows.specs.Rows.{set-bits}
-use Rattle.rows.proofs.WordLaws.{set-bits-nothing}
-use Rattle.rows.specs.Links.{links-to}
-use Rattle.staircase.proofs.TakingLaws.{Taking, taking-none, taking-front, taking-part, taking-end}
-use Rattle.staircase.proofs.RowLaws.{bits-lowest}
-use Rattle.staircase.proofs.take_bits.Statement.{statement}
+use Rattle.rows.{specs.Rows.{set-bits}, proofs.WordLaws.{set-bits-nothing}, specs.Links.{links-to}}
+use Rattle.staircase.proofs.{TakingLaws.{Taking, taking-none, taking-front, taking-part, taking-end}, RowLaws.{bits-lowest}}
+use Rattle.staircase.proofs.{take_bits.Statement.{statement}}
 use Rattle.staircase.proofs.take_bits.Tie as tie
 
 abbrev Inv-loop : tie.InvT-loop

@@ -1,9 +1,6 @@
 -- `take_level` meets its contract: the links of the listed rows are the links of the level's weight.
-use mathlib.Core.Path.{sym}
-use lib.Seq.{length-take-le}
-use borrow.Author.Needs.{needs}
-use Rattle.staircase.proofs.LevelRows.{level-links, level-whole}
-use Rattle.staircase.proofs.take_level.Statement.{statement}
+use Rattle.lists.specs.Kit.{sym, length-take-le, needs}
+use Rattle.staircase.proofs.{LevelRows.{level-links, level-whole}, take_level.Statement.{statement}}
 use Rattle.staircase.proofs.take_level.Tie as tie
 
 list-rows-requires : tie.Need-list-rows-requires

@@ -1,20 +1,13 @@
 -- `take_levels` meets its contract: the levels from this one down give what all of them give (`Taking`), and the radios of the levels
 -- above are in a set; the next level is the greatest number below. The measure is the level.
-use mathlib.Core.Path.{_≡_, refl, _∙_}
-use Prim.Native.Nat.{_≤_}
-use native.Mathlib.Omega.{arith}
-use lib.ListN.{length}
-use borrow.Author.Needs.{needs}
-use Rattle.mesh.specs.Limits.{max-radios, max-neighbours}
-use Rattle.mesh.specs.Staircase.{of-weight}
+use Rattle.lists.specs.Kit.{_≡_, refl, _∙_, _≤_, arith, length, needs}
+use Rattle.mesh.specs.{Limits.{max-radios, max-neighbours}, Staircase.{of-weight}}
 use Rattle.rows.specs.Links.{links-from}
 use Rattle.forests.specs.Growing.{table-weight, levels-falling}
 use Rattle.staircase.specs.Taking.{greatest-below}
-use Rattle.staircase.proofs.SkipLaws.{greatest-below-lt}
-use Rattle.staircase.proofs.LevelRows.{Above-set, above-none, above-next, level-sets}
-use Rattle.staircase.proofs.TakingLaws.{Taking, taking-none, taking-front, taking-part, taking-end}
-use Rattle.staircase.proofs.LevelsTaken.{levels-next, levels-none, levels-takeable, first-parents, levels-all}
-use Rattle.staircase.proofs.take_levels.Statement.{statement}
+use Rattle.staircase.proofs.{SkipLaws.{greatest-below-lt}, LevelRows.{Above-set, above-none, above-next, level-sets}, TakingLaws.{Taking, taking-none}}
+use Rattle.staircase.proofs.{TakingLaws.{taking-front, taking-part, taking-end}, LevelsTaken.{levels-next, levels-none, levels-takeable, first-parents}}
+use Rattle.staircase.proofs.{LevelsTaken.{levels-all}, take_levels.Statement.{statement}}
 use Rattle.staircase.proofs.take_levels.Tie as tie
 
 abbrev Inv-loop : tie.InvT-loop

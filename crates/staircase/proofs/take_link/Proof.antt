@@ -1,13 +1,8 @@
 -- `take_link` meets its contract: ends with one parent, or with one root, are of one part; else the two entries are written and one
 -- root goes under the other, as `grown-one` says.
-use mathlib.Core.Path.{refl, _∙_}
-use mathlib.Core.Logic.{inl}
-use native.Mathlib.Omega.{arith}
-use lib.ListN.{length-set}
-use borrow.Author.Needs.{needs}
+use Rattle.lists.specs.Kit.{refl, _∙_, inl, arith, length-set, needs}
 use Rattle.mesh.specs.Graph.{link-of}
-use Rattle.staircase.proofs.TakingLaws.{taken-near, taken-same, taken-new, higher-radio}
-use Rattle.staircase.proofs.take_link.Statement.{statement}
+use Rattle.staircase.proofs.{TakingLaws.{taken-near, taken-same, taken-new, higher-radio}, take_link.Statement.{statement}}
 use Rattle.staircase.proofs.take_link.Tie as tie
 
 slice-read-if1 : tie.Need-slice-read-if1

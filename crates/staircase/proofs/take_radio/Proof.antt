@@ -1,8 +1,6 @@
 -- `take_radio` meets its contract: whether the radio is of the level says which set counts.
-use mathlib.Core.Path.{sym, _∙_}
-use borrow.Author.Needs.{needs}
-use Rattle.staircase.proofs.RowLaws.{level-row-own, level-row-other}
-use Rattle.staircase.proofs.take_radio.Statement.{statement}
+use Rattle.lists.specs.Kit.{sym, _∙_, needs}
+use Rattle.staircase.proofs.{RowLaws.{level-row-own, level-row-other}, take_radio.Statement.{statement}}
 use Rattle.staircase.proofs.take_radio.Tie as tie
 
 take-row-requires : tie.Need-take-row-requires

@@ -1,18 +1,8 @@
 -- `take_row` meets its contract: the links of what is left of the row's own word, and then of the words after it.
-use mathlib.Core.Path.{refl, sym}
-use Prim.Native.Nat.{_+_, _*_, _-_, _/_, _%_, _^_}
-use native.Mathlib.Omega.{arith}
-use lib.Bits.{bitAnd}
-use lib.ListN.{getD}
-use borrow.Author.Needs.{needs}
+use Rattle.lists.specs.{Kit.{refl, sym, _+_, _*_, _-_, _/_, _%_, _^_, arith, bitAnd, getD, needs}, Lists.{filter}}
 use Rattle.mesh.specs.Limits.{row-bytes}
-use Rattle.lists.specs.Lists.{filter}
-use Rattle.rows.specs.Rows.{row-from, set-bits}
-use Rattle.rows.specs.Sets.{in-set}
-use Rattle.rows.specs.Links.{links-to}
-use Rattle.staircase.proofs.TakingLaws.{taking-none, taking-front, taking-part, taking-last}
-use Rattle.staircase.proofs.RowLaws.{row-words}
-use Rattle.staircase.proofs.take_row.Statement.{statement}
+use Rattle.rows.specs.{Rows.{row-from, set-bits}, Sets.{in-set}, Links.{links-to}}
+use Rattle.staircase.proofs.{TakingLaws.{taking-none, taking-front, taking-part, taking-last}, RowLaws.{row-words}, take_row.Statement.{statement}}
 use Rattle.staircase.proofs.take_row.Tie as tie
 
 take-bits-requires : tie.Need-take-bits-requires

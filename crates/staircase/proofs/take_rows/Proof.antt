@@ -1,14 +1,8 @@
 -- `take_rows` meets its contract: the rows from place i on give what all of them give (`Taking`). The measure is what is left of the list.
-use mathlib.Core.Path.{refl}
-use mathlib.Core.List.{flatMap}
-use Prim.Native.Nat.{_+_, _-_, _≤_}
-use native.Mathlib.Omega.{arith}
-use lib.ListN.{length, getD, drop}
-use borrow.Author.Needs.{needs}
+use Rattle.lists.specs.Kit.{refl, flatMap, _+_, _-_, _≤_, arith, length, getD, drop, needs}
 use Rattle.staircase.specs.Rows.{level-row}
-use Rattle.staircase.proofs.TakingLaws.{Taking, taking-none, taking-front, taking-part, taking-end}
-use Rattle.staircase.proofs.RowLaws.{rows-next, rows-end}
-use Rattle.staircase.proofs.take_rows.Statement.{statement}
+use Rattle.staircase.proofs.{TakingLaws.{Taking, taking-none, taking-front, taking-part, taking-end}, RowLaws.{rows-next, rows-end}}
+use Rattle.staircase.proofs.{take_rows.Statement.{statement}}
 use Rattle.staircase.proofs.take_rows.Tie as tie
 
 abbrev Inv-loop : tie.InvT-loop

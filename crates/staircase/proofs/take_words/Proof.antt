@@ -1,18 +1,9 @@
 -- `take_words` meets its contract: the links from word k on give what all of them give (`Taking`). The measure is the words left.
-use mathlib.Core.Path.{refl}
-use Prim.Native.Nat.{_+_, _*_, _-_, _≤_, _<_}
-use native.Mathlib.Omega.{arith}
-use lib.Bits.{bitAnd}
-use lib.ListN.{getD}
-use borrow.Author.Needs.{needs}
+use Rattle.lists.specs.{Kit.{refl, _+_, _*_, _-_, _≤_, _<_, arith, bitAnd, getD, needs}, Lists.{filter}}
 use Rattle.mesh.specs.Limits.{row-bytes}
-use Rattle.lists.specs.Lists.{filter}
-use Rattle.rows.specs.Rows.{row-from, set-bits}
-use Rattle.rows.specs.Sets.{in-set}
-use Rattle.rows.specs.Links.{links-to}
-use Rattle.staircase.proofs.TakingLaws.{Taking, taking-none, taking-front, taking-part, taking-end}
-use Rattle.staircase.proofs.RowLaws.{words-among, words-past}
-use Rattle.staircase.proofs.take_words.Statement.{statement}
+use Rattle.rows.specs.{Rows.{row-from, set-bits}, Sets.{in-set}, Links.{links-to}}
+use Rattle.staircase.proofs.{TakingLaws.{Taking, taking-none, taking-front, taking-part, taking-end}, RowLaws.{words-among, words-past}}
+use Rattle.staircase.proofs.{take_words.Statement.{statement}}
 use Rattle.staircase.proofs.take_words.Tie as tie
 
 abbrev Inv-loop : tie.InvT-loop

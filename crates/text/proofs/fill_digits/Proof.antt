@@ -1,11 +1,7 @@
 -- `text::fill_digits` meets its contract: the digits that are filled in stand after those of what is left.
 -- The measure is what is left.
-use mathlib.Core.Path.{_≡_, sym, ap, subst, _∙_}
-use Prim.Native.Nat.{ℕ, _-_, _/_}
-use native.Mathlib.Omega.{arith}
-use lib.ListN.{length, drop, set, length-set}
-use Rattle.text.proofs.DecimalLaws.{Digits, digits-start, digits-before, digits-next, digits-end}
-use Rattle.text.proofs.fill_digits.Statement.{statement}
+use Rattle.lists.specs.Kit.{_≡_, sym, ap, subst, _∙_, ℕ, _-_, _/_, arith, length, drop, set, length-set}
+use Rattle.text.proofs.{DecimalLaws.{Digits, digits-start, digits-before, digits-next, digits-end}, fill_digits.Statement.{statement}}
 use Rattle.text.proofs.fill_digits.Tie as tie
 
 abbrev Inv-loop : tie.InvT-loop

@@ -1,8 +1,6 @@
 -- `text::put_byte` meets its contract: each branch is a case of one step of `put`.
-use native.Mathlib.Omega.{arith}
-use borrow.Author.Needs.{needs}
-use Rattle.text.proofs.PrintLaws.{puts-byte-in, puts-byte-past, puts-byte-last}
-use Rattle.text.proofs.put_byte.Statement.{statement}
+use Rattle.lists.specs.Kit.{arith, needs}
+use Rattle.text.proofs.{PrintLaws.{puts-byte-in, puts-byte-past, puts-byte-last}, put_byte.Statement.{statement}}
 use Rattle.text.proofs.put_byte.Tie as tie
 
 returns : tie.Need-returns

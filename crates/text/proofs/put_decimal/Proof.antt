@@ -1,12 +1,6 @@
 -- `text::put_decimal` meets its contract: the text that is put is the digits filled in.
-use mathlib.Core.Path.{_≡_, refl, _∙_}
-use Prim.Native.Nat.{_-_}
-use native.Mathlib.Omega.{arith}
-use lib.ListN.{take, drop, length-drop}
-use lib.Seq.{take-all}
-use borrow.Author.Needs.{needs}
-use Rattle.text.proofs.PrintLaws.{puts-as}
-use Rattle.text.proofs.put_decimal.Statement.{statement}
+use Rattle.lists.specs.Kit.{_≡_, refl, _∙_, _-_, arith, take, drop, length-drop, take-all, needs}
+use Rattle.text.proofs.{PrintLaws.{puts-as}, put_decimal.Statement.{statement}}
 use Rattle.text.proofs.put_decimal.Tie as tie
 
 returns : tie.Need-returns

@@ -1,7 +1,6 @@
 -- `text::put_field` meets its contract: one text after another.
-use borrow.Author.Needs.{needs}
-use Rattle.text.proofs.PrintLaws.{puts-append}
-use Rattle.text.proofs.put_field.Statement.{statement}
+use Rattle.lists.specs.Kit.{needs}
+use Rattle.text.proofs.{PrintLaws.{puts-append}, put_field.Statement.{statement}}
 use Rattle.text.proofs.put_field.Tie as tie
 
 returns : tie.Need-returns

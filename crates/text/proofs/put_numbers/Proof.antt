@@ -1,11 +1,7 @@
 -- `text::put_numbers` meets its contract: the fields of the first i numbers are put. The measure is how many are left.
-use mathlib.Core.Path.{_∙_}
-use Prim.Native.Nat.{_-_}
-use native.Mathlib.Omega.{arith}
-use lib.ListN.{length}
+use Rattle.lists.specs.Kit.{_∙_, _-_, arith, length}
 use Rattle.text.specs.Print.{buffer-at}
-use Rattle.text.proofs.PrintLaws.{Fields, fields-none, fields-next, fields-last, length-putting}
-use Rattle.text.proofs.put_numbers.Statement.{statement}
+use Rattle.text.proofs.{PrintLaws.{Fields, fields-none, fields-next, fields-last, length-putting}, put_numbers.Statement.{statement}}
 use Rattle.text.proofs.put_numbers.Tie as tie
 
 abbrev Inv-loop : tie.InvT-loop

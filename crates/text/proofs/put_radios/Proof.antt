@@ -1,12 +1,7 @@
 -- `text::put_radios` meets its contract: the fields of the first i radios are put. The measure is how many are left.
-use mathlib.Core.Path.{_∙_}
-use Prim.Native.Nat.{_-_}
-use native.Mathlib.Omega.{arith}
-use lib.ListN.{length}
-use borrow.Author.Needs.{needs}
+use Rattle.lists.specs.Kit.{_∙_, _-_, arith, length, needs}
 use Rattle.text.specs.Print.{buffer-at}
-use Rattle.text.proofs.PrintLaws.{Fields, fields-none, fields-next, fields-last, length-putting}
-use Rattle.text.proofs.put_radios.Statement.{statement}
+use Rattle.text.proofs.{PrintLaws.{Fields, fields-none, fields-next, fields-last, length-putting}, put_radios.Statement.{statement}}
 use Rattle.text.proofs.put_radios.Tie as tie
 
 abbrev Inv-loop : tie.InvT-loop

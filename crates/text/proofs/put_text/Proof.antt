@@ -1,12 +1,8 @@
 -- `text::put_text` meets its contract: the bytes that are left take the buffer where the whole text takes the lent one.
 -- The measure is how many are left.
-use Prim.Native.Nat.{_≤_, _+_, _-_}
-use native.Mathlib.Omega.{arith}
-use lib.ListN.{length, drop, drop-of-length-le}
+use Rattle.lists.{specs.Kit.{_≤_, _+_, _-_, arith, length, drop, drop-of-length-le}, proofs.Parts.{drop-first}}
 use Rattle.text.specs.Print.{buffer-at}
-use Rattle.text.proofs.PrintLaws.{Putting, putting-none, putting-piece, putting-end, length-putting}
-use Rattle.lists.proofs.Parts.{drop-first}
-use Rattle.text.proofs.put_text.Statement.{statement}
+use Rattle.text.proofs.{PrintLaws.{Putting, putting-none, putting-piece, putting-end, length-putting}, put_text.Statement.{statement}}
 use Rattle.text.proofs.put_text.Tie as tie
 
 abbrev Inv-loop : tie.InvT-loop

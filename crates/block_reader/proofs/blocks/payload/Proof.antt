@@ -3,8 +3,7 @@ use mathlib.Core.Path.{refl}
 use Prim.Native.Nat.{_+_, _*_}
 use native.Mathlib.Omega.{arith}
 use borrow.Author.Needs.{needs}
-use Rattle.block_reader.proofs.StepLaws.{part-there, part-start-none, part-start-some, part-cut}
-use Rattle.block_reader.proofs.blocks.payload.Statement.{statement}
+use Rattle.block_reader.proofs.{StepLaws.{part-there, part-start-none, part-start-some, part-cut}, blocks.payload.Statement.{statement}}
 use Rattle.block_reader.proofs.blocks.payload.Tie as tie
 
 returns : tie.Need-returns

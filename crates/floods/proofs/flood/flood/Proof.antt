@@ -1,16 +1,10 @@
 -- `flood::flood` meets its contract: what came in is what the flood spreads to over the radios done so far (`Walking`). The measure is
 -- what is left of the most radios that may come in.
-use mathlib.Core.Path.{_≡_, refl, ap, _∙_}
-use mathlib.Core.List.{List}
-use Prim.Native.Nat.{ℕ, _-_}
-use native.Mathlib.Omega.{arith}
-use lib.ListN.{length, length-set}
-use borrow.Author.Needs.{needs}
+use Rattle.lists.specs.Kit.{_≡_, refl, ap, _∙_, List, ℕ, _-_, arith, length, length-set, needs}
 use Rattle.mesh.specs.Limits.{max-radios}
 use Rattle.rows.proofs.SetLaws.{length-take-out}
 use Rattle.floods.specs.Floods.{flood-at}
-use Rattle.floods.proofs.FloodLaws.{Walking, walking-turn, walking-end, flood-starts}
-use Rattle.floods.proofs.flood.flood.Statement.{statement}
+use Rattle.floods.proofs.{FloodLaws.{Walking, walking-turn, walking-end, flood-starts}, flood.flood.Statement.{statement}}
 use Rattle.floods.proofs.flood.flood.Tie as tie
 
 abbrev Inv-loop : tie.InvT-loop

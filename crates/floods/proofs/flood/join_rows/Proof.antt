@@ -1,12 +1,7 @@
 -- `flood::join_rows` meets its contract: before place i the rows are joined (`Rows-joined`). The measure is what is left of the places.
-use mathlib.Core.Path.{_≡_, refl, _∙_}
-use Prim.Native.Nat.{_-_, _≤_}
-use native.Mathlib.Omega.{arith}
-use lib.ListN.{length}
-use borrow.Author.Needs.{needs}
+use Rattle.lists.specs.Kit.{_≡_, refl, _-_, _≤_, arith, length, needs}
 use Rattle.floods.specs.Floods.{Rows-joined}
-use Rattle.floods.proofs.FloodSteps.{rows-joined-none, rows-joined-turn, rows-joined-end}
-use Rattle.floods.proofs.flood.join_rows.Statement.{statement}
+use Rattle.floods.proofs.{FloodSteps.{rows-joined-none, rows-joined-turn, rows-joined-end}, flood.join_rows.Statement.{statement}}
 use Rattle.floods.proofs.flood.join_rows.Tie as tie
 
 abbrev Inv-loop : tie.InvT-loop

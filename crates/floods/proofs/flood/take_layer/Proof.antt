@@ -1,9 +1,7 @@
 -- `flood::take_layer` meets its contract: the rows are joined into an empty set, and what is written into the rest of the queue stands
 -- behind its first entries.
-use native.Mathlib.Omega.{arith}
-use borrow.Author.Needs.{needs}
-use Rattle.floods.proofs.FloodSteps.{layer-taken}
-use Rattle.floods.proofs.flood.take_layer.Statement.{statement}
+use Rattle.lists.specs.Kit.{needs}
+use Rattle.floods.proofs.{FloodSteps.{layer-taken}, flood.take_layer.Statement.{statement}}
 use Rattle.floods.proofs.flood.take_layer.Tie as tie
 
 returns : tie.Need-returns

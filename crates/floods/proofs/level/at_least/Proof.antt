@@ -1,11 +1,7 @@
 -- `level::at_least` meets its contract: the words before word k are the level's (`Level-setting`). The measure is the words that
 -- are left.
-use mathlib.Core.Path.{sym, _∙_}
-use Prim.Native.Nat.{_-_}
-use native.Mathlib.Omega.{arith}
-use borrow.Author.Needs.{needs}
-use Rattle.floods.proofs.LevelLaws.{Level-setting, level-setting-turn, level-setting-end}
-use Rattle.floods.proofs.level.at_least.Statement.{statement}
+use Rattle.lists.specs.Kit.{sym, _∙_, _-_, arith, needs}
+use Rattle.floods.proofs.{LevelLaws.{Level-setting, level-setting-turn, level-setting-end}, level.at_least.Statement.{statement}}
 use Rattle.floods.proofs.level.at_least.Tie as tie
 
 abbrev Inv-loop : tie.InvT-loop

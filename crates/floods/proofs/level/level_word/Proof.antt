@@ -1,13 +1,8 @@
 -- `level::level_word` meets its contract: the first i bits are told, and no other one is set (`Level-wording`). The measure is what is
 -- left of the bits.
-use Prim.Native.Nat.{_+_, _-_}
-use native.Mathlib.Omega.{arith}
-use lib.Dec.{leb}
-use lib.ListN.{getD}
-use borrow.Author.Needs.{needs}
-use Rattle.lists.proofs.Tests.{byte-bit}
-use Rattle.floods.proofs.LevelLaws.{Level-wording, level-wording-none, level-wording-turn, level-wording-end, level-word-past}
-use Rattle.floods.proofs.level.level_word.Statement.{statement}
+use Rattle.lists.{specs.Kit.{_+_, _-_, arith, leb, getD, needs}, proofs.Tests.{byte-bit}}
+use Rattle.floods.proofs.{LevelLaws.{Level-wording, level-wording-none, level-wording-turn, level-wording-end, level-word-past}}
+use Rattle.floods.proofs.{level.level_word.Statement.{statement}}
 use Rattle.floods.proofs.level.level_word.Tie as tie
 
 abbrev Inv-loop : tie.InvT-loop

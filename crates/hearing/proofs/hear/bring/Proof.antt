@@ -1,7 +1,6 @@
 -- `hear::bring` meets its contract: both phases are done, one after the other.
-use borrow.Author.Needs.{needs}
-use Rattle.hearing.proofs.HearCall.{both-brought}
-use Rattle.hearing.proofs.hear.bring.Statement.{statement}
+use Rattle.lists.specs.Kit.{needs}
+use Rattle.hearing.proofs.{HearCall.{both-brought}, hear.bring.Statement.{statement}}
 use Rattle.hearing.proofs.hear.bring.Tie as tie
 
 returns : tie.Need-returns

@@ -1,9 +1,7 @@
 -- `hear::hear` meets its contract: a refusal touches nothing but scratch; else the one-sided pairs are marked, and both phases are done.
-use mathlib.Core.Path.{refl}
-use borrow.Author.Needs.{needs}
+use Rattle.lists.specs.Kit.{refl, needs}
 use Rattle.mesh.specs.Tables.{tables}
-use Rattle.hearing.proofs.HearCall.{hear-refused, hear-prepared, hear-marked, hear-done}
-use Rattle.hearing.proofs.hear.hear.Statement.{statement}
+use Rattle.hearing.proofs.{HearCall.{hear-refused, hear-prepared, hear-marked, hear-done}, hear.hear.Statement.{statement}}
 use Rattle.hearing.proofs.hear.hear.Tie as tie
 
 returns : tie.Need-returns

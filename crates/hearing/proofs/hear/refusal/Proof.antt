@@ -1,10 +1,9 @@
 -- `hear::refusal` meets its contract: the tests are the questions, in their order, and the check finds what the first link needs.
-use borrow.Author.Tests.{not-true, not-false}
-use borrow.Author.Needs.{needs}
+use Rattle.lists.specs.Kit.{not-true, not-false, needs}
 use Rattle.mesh.specs.Tables.{tables}
 use Rattle.calls.specs.Questions.{lengths-of}
-use Rattle.hearing.proofs.HearCall.{heard-sized, hear-lengths, heard-other, further-other, hear-unsound, hear-sound}
-use Rattle.hearing.proofs.hear.refusal.Statement.{statement}
+use Rattle.hearing.proofs.{HearCall.{heard-sized, hear-lengths, heard-other, further-other, hear-unsound, hear-sound}}
+use Rattle.hearing.proofs.{hear.refusal.Statement.{statement}}
 use Rattle.hearing.proofs.hear.refusal.Tie as tie
 
 returns : tie.Need-returns

@@ -1,13 +1,9 @@
 -- `hear::switch_row` meets its contract: what is left of the list gives what the whole list gives (`Row-switching`). The measure is what is
 -- left of the list.
-use Prim.Native.Nat.{_-_}
-use native.Mathlib.Omega.{arith}
-use lib.ListN.{length}
-use borrow.Author.Needs.{needs}
+use Rattle.lists.specs.Kit.{_-_, arith, length, needs}
 use Rattle.mesh.specs.Tables.{tables}
 use Rattle.links.proofs.BatchLaws.{same-lengths}
-use Rattle.hearing.proofs.HearLoops.{Row-switching, switching-none, switching-turn, switching-end}
-use Rattle.hearing.proofs.hear.switch_row.Statement.{statement}
+use Rattle.hearing.proofs.{HearLoops.{Row-switching, switching-none, switching-turn, switching-end}, hear.switch_row.Statement.{statement}}
 use Rattle.hearing.proofs.hear.switch_row.Tie as tie
 
 abbrev Inv-loop : tie.InvT-loop

@@ -1,14 +1,10 @@
 -- `hear::switch_rows` meets its contract: the rows before row a are done (`Rows-switching`), and the list has room for a row. The measure is
 -- the rows left.
-use mathlib.Core.Path.{_≡_, refl, sym, _∙_}
-use Prim.Native.Nat.{suc, _-_}
-use lib.ListN.{length}
-use borrow.Author.Needs.{needs}
-use Rattle.mesh.specs.Limits.{max-neighbours}
-use Rattle.mesh.specs.Tables.{tables}
+use Rattle.lists.specs.Kit.{_≡_, refl, sym, _∙_, suc, _-_, length, needs}
+use Rattle.mesh.specs.{Limits.{max-neighbours}, Tables.{tables}}
 use Rattle.links.proofs.BatchLaws.{same-lengths}
-use Rattle.hearing.proofs.HearLoops.{Rows-switching, rows-none, rows-fit, rows-long, rows-short, rows-turn, rows-done}
-use Rattle.hearing.proofs.hear.switch_rows.Statement.{statement}
+use Rattle.hearing.proofs.{HearLoops.{Rows-switching, rows-none, rows-fit, rows-long, rows-short, rows-turn, rows-done}}
+use Rattle.hearing.proofs.{hear.switch_rows.Statement.{statement}}
 use Rattle.hearing.proofs.hear.switch_rows.Tie as tie
 
 abbrev Inv-loop : tie.InvT-loop

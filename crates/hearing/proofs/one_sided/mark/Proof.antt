@@ -1,12 +1,7 @@
 -- `mark` meets its contract: the rows before row a are marked, and counted with what is left as the whole (`Marking`). The
 -- measure is the rows left.
-use mathlib.Core.Path.{sym, ap, _∙_}
-use Prim.Native.Nat.{ℕ, _-_}
-use native.Mathlib.Omega.{arith}
-use lib.ListN.{length, replicate}
-use borrow.Author.Needs.{needs}
-use Rattle.conditions.specs.Hearing.{Of-size}
-use Rattle.conditions.proofs.MarkLaws.{Marking, marking-none, marking-fits, marking-turn, marking-end}
+use Rattle.lists.specs.Kit.{sym, ap, _∙_, ℕ, _-_, arith, length, replicate, needs}
+use Rattle.conditions.{specs.Hearing.{Of-size}, proofs.MarkLaws.{Marking, marking-none, marking-fits, marking-turn, marking-end}}
 use Rattle.hearing.proofs.one_sided.mark.Statement.{statement}
 use Rattle.hearing.proofs.one_sided.mark.Tie as tie
 

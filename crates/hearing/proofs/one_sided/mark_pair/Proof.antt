@@ -1,6 +1,5 @@
 -- `mark_pair` meets its contract: the test is that of `alone-put`.
-use mathlib.Core.Path.{sym, _∙_}
-use borrow.Author.Needs.{needs}
+use Rattle.lists.specs.Kit.{sym, _∙_, needs}
 use Rattle.conditions.proofs.MarkLaws.{pair-heard, pair-alone}
 use Rattle.hearing.proofs.one_sided.mark_pair.Statement.{statement}
 use Rattle.hearing.proofs.one_sided.mark_pair.Tie as tie

@@ -1,14 +1,9 @@
 -- `mark_row` meets its contract: the words of the row are taken one by one, and what is left of the row gives with what is marked
 -- what the whole row gives (`Words-marking`). The measure is the words that are left.
-use mathlib.Core.Path.{_∙_}
-use Prim.Native.Nat.{ℕ, _+_, _*_, _-_, _<_}
-use native.Mathlib.Omega.{arith}
-use lib.ListN.{getD}
-use borrow.Author.Needs.{needs}
+use Rattle.lists.specs.Kit.{_∙_, ℕ, _+_, _*_, _-_, _<_, arith, getD, needs}
 use Rattle.mesh.specs.Limits.{row-bytes}
 use Rattle.rows.proofs.RowWords.{word-of-row}
-use Rattle.conditions.proofs.TallyLaws.{row-fits}
-use Rattle.conditions.proofs.MarkLaws.{Words-marking, words-marking-none, words-marking-turn, words-marking-end}
+use Rattle.conditions.proofs.{TallyLaws.{row-fits}, MarkLaws.{Words-marking, words-marking-none, words-marking-turn, words-marking-end}}
 use Rattle.hearing.proofs.one_sided.mark_row.Statement.{statement}
 use Rattle.hearing.proofs.one_sided.mark_row.Tie as tie
 

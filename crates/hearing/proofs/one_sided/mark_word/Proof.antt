@@ -1,12 +1,7 @@
 -- `mark_word` meets its contract: each turn takes the lowest set bit off the word and marks its pair, and what is left of the word
 -- gives with what is marked what the whole word gives (`Word-marking`). The measure is the word that is left.
-use Prim.Native.Nat.{_-_}
-use native.Mathlib.Omega.{arith}
-use lib.Bits.{and-le-r}
-use lib.Count.{trailing-le}
-use borrow.Author.Needs.{needs}
-use Rattle.conditions.proofs.TallyLaws.{word-fits}
-use Rattle.conditions.proofs.MarkLaws.{Word-marking, row-none, word-pair, word-end}
+use Rattle.lists.specs.Kit.{_-_, arith, and-le-r, trailing-le, needs}
+use Rattle.conditions.proofs.{TallyLaws.{word-fits}, MarkLaws.{Word-marking, row-none, word-pair, word-end}}
 use Rattle.hearing.proofs.one_sided.mark_word.Statement.{statement}
 use Rattle.hearing.proofs.one_sided.mark_word.Tie as tie
 

@@ -1,10 +1,6 @@
 -- `are_few` meets its contract: as few radios as a radio may have neighbours cannot have more agreed links; else the radios before a have few enough agreed links (`Few-below`), and one that has more decides.
 -- The measure is the radios left.
-use mathlib.Core.Path.{sym, _∙_}
-use Prim.Native.Nat.{_-_}
-use native.Mathlib.Omega.{arith}
-use borrow.Author.Needs.{needs}
-use borrow.Author.Tests.{not-true, not-false}
+use Rattle.lists.specs.Kit.{sym, _∙_, _-_, arith, needs, not-true, not-false}
 use Rattle.conditions.proofs.AskLaws.{Few-below, few-small, few-turn, few-end, few-no}
 use Rattle.hearing.proofs.questions.are_few.Statement.{statement}
 use Rattle.hearing.proofs.questions.are_few.Tie as tie

@@ -1,14 +1,9 @@
 -- `count_agreed` meets its contract: the words of the row are taken one by one, and what is left of the row comes with what is
 -- counted to what the whole row comes to (`Words-counting`). The measure is the words that are left.
-use mathlib.Core.Path.{_∙_}
-use Prim.Native.Nat.{ℕ, _+_, _*_, _-_, _<_}
-use native.Mathlib.Omega.{arith}
-use lib.ListN.{getD}
-use borrow.Author.Needs.{needs}
+use Rattle.lists.specs.Kit.{_∙_, ℕ, _+_, _*_, _-_, _<_, arith, getD, needs}
 use Rattle.mesh.specs.Limits.{row-bytes}
 use Rattle.rows.proofs.RowWords.{word-of-row}
-use Rattle.conditions.specs.Hearing.{hears}
-use Rattle.conditions.proofs.TallyLaws.{row-fits, Words-counting, words-counting-none, words-counting-turn, words-counting-end}
+use Rattle.conditions.{specs.Hearing.{hears}, proofs.TallyLaws.{row-fits, Words-counting, words-counting-none, words-counting-turn, words-counting-end}}
 use Rattle.hearing.proofs.questions.count_agreed.Statement.{statement}
 use Rattle.hearing.proofs.questions.count_agreed.Tie as tie
 

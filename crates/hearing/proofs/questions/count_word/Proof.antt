@@ -1,12 +1,7 @@
 -- `count_word` meets its contract: each turn takes the lowest set bit off the word and counts its radio, and what is left of the
 -- word comes with what is counted to what the whole word comes to (`Word-counting`). The measure is the word that is left.
-use Prim.Native.Nat.{_-_}
-use native.Mathlib.Omega.{arith}
-use lib.Bits.{and-le-r}
-use lib.Count.{trailing-le}
-use borrow.Author.Needs.{needs}
-use Rattle.conditions.specs.Hearing.{hears}
-use Rattle.conditions.proofs.TallyLaws.{Word-counting, counting-none, word-fits, word-counting-turn, word-counting-end}
+use Rattle.lists.specs.Kit.{_-_, arith, and-le-r, trailing-le, needs}
+use Rattle.conditions.{specs.Hearing.{hears}, proofs.TallyLaws.{Word-counting, counting-none, word-fits, word-counting-turn, word-counting-end}}
 use Rattle.hearing.proofs.questions.count_word.Statement.{statement}
 use Rattle.hearing.proofs.questions.count_word.Tie as tie
 

@@ -1,5 +1,5 @@
 -- `is_few` meets its contract: agreed links are at most as many as radios heard, and counted along these.
-use borrow.Author.Needs.{needs}
+use Rattle.lists.specs.Kit.{needs}
 use Rattle.conditions.proofs.AskLaws.{few-heard, few-counted, counted-whole}
 use Rattle.hearing.proofs.questions.is_few.Statement.{statement}
 use Rattle.hearing.proofs.questions.is_few.Tie as tie

@@ -1,10 +1,6 @@
 -- `is_proper` meets its contract: the rows before row a got yes (`Proper-below`), and a row that gets no decides. The measure is
 -- the rows left.
-use mathlib.Core.Path.{sym, _∙_}
-use Prim.Native.Nat.{_-_}
-use native.Mathlib.Omega.{arith}
-use borrow.Author.Needs.{needs}
-use borrow.Author.Tests.{not-true, not-false}
+use Rattle.lists.specs.Kit.{sym, _∙_, _-_, arith, needs, not-true, not-false}
 use Rattle.conditions.proofs.AskLaws.{Proper-below, proper-turn, proper-end, proper-own, proper-past}
 use Rattle.hearing.proofs.questions.is_proper.Statement.{statement}
 use Rattle.hearing.proofs.questions.is_proper.Tie as tie

@@ -1,14 +1,9 @@
 -- `is_within` meets its contract: no radio from n on is marked as far as none from b on is, and none of the word of b from b
 -- on is where what is left of the word is 0. The measure is the radios left.
-use mathlib.Core.Path.{_≡_, refl, _∙_}
-use Prim.Native.Nat.{ℕ, _+_, _*_, _-_, _/_, _<_}
-use native.Mathlib.Omega.{arith}
-use lib.ListN.{getD}
-use borrow.Author.Needs.{needs}
+use Rattle.lists.specs.Kit.{_≡_, refl, _∙_, ℕ, _+_, _*_, _-_, _/_, _<_, arith, getD, needs}
 use Rattle.mesh.specs.Limits.{max-radios, row-bytes}
 use Rattle.rows.proofs.RowWords.{word-of-row}
-use Rattle.conditions.specs.Hearing.{none-from}
-use Rattle.conditions.proofs.AskLaws.{within-end, word-turn, word-no}
+use Rattle.conditions.{specs.Hearing.{none-from}, proofs.AskLaws.{within-end, word-turn, word-no}}
 use Rattle.hearing.proofs.questions.is_within.Statement.{statement}
 use Rattle.hearing.proofs.questions.is_within.Tie as tie
 

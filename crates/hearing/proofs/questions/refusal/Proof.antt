@@ -1,7 +1,5 @@
 -- `refusal` meets its contract: the tests are the questions, in their order.
-use mathlib.Core.Path.{sym, _∙_}
-use borrow.Author.Needs.{needs}
-use borrow.Author.Tests.{not-true, not-false}
+use Rattle.lists.specs.Kit.{sym, _∙_, needs, not-true, not-false}
 use Rattle.conditions.proofs.AskLaws.{refusal-fourteen, refusal-seven, refusal-none}
 use Rattle.hearing.proofs.questions.refusal.Statement.{statement}
 use Rattle.hearing.proofs.questions.refusal.Tie as tie

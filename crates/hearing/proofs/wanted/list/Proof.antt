@@ -1,6 +1,5 @@
 -- `list` meets its contract: what is heard and not one-sided is agreed, so the words of the rows tell the links that are wanted.
-use native.Mathlib.Omega.{arith}
-use borrow.Author.Needs.{needs}
+use Rattle.lists.specs.Kit.{arith, needs}
 use Rattle.conditions.proofs.WantLaws.{further-long, wanted-short, wanted-front}
 use Rattle.hearing.proofs.wanted.list.Statement.{statement}
 use Rattle.hearing.proofs.wanted.list.Tie as tie

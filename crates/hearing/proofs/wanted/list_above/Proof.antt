@@ -1,12 +1,6 @@
 -- `list_above` meets its contract: each turn takes the lowest set bit off the word, and what is left of the radios above a gives with
 -- the ones written what all of them give (`Above-listing`). The measure is the word that is left.
-use Prim.Native.Nat.{_+_, _-_}
-use native.Mathlib.Omega.{arith}
-use lib.Bits.{and-le-r}
-use lib.Count.{trailingZeros, trailing-le}
-use lib.Dec.{ltb}
-use borrow.Author.Needs.{needs}
-use Rattle.lists.proofs.Loops.{counted-fits}
+use Rattle.lists.{specs.Kit.{_+_, _-_, arith, and-le-r, trailingZeros, trailing-le, ltb, needs}, proofs.Loops.{counted-fits}}
 use Rattle.conditions.proofs.WantLaws.{Above-listing, listing-none, listing-full, above-listing-turn, above-listing-end}
 use Rattle.hearing.proofs.wanted.list_above.Statement.{statement}
 use Rattle.hearing.proofs.wanted.list_above.Tie as tie

@@ -1,13 +1,10 @@
 -- `list_words` meets its contract: the words of the rows are taken one by one, and what is left gives with what is written what all of
 -- them give (`Words-listing`). The measure is the words that are left.
-use mathlib.Core.Path.{_≡_, _∙_}
-use Prim.Native.Nat.{_+_, _*_, _-_}
-use native.Mathlib.Omega.{arith}
-use borrow.Author.Needs.{needs}
+use Rattle.lists.specs.Kit.{_≡_, _∙_, _+_, _*_, _-_, arith, needs}
 use Rattle.mesh.specs.Limits.{row-bytes}
 use Rattle.rows.proofs.RowWords.{word-of-row}
-use Rattle.conditions.specs.Hearing.{wanted-in, above-from}
-use Rattle.conditions.proofs.WantLaws.{row-tells, Words-listing, words-listing-none, words-listing-turn, words-listing-end}
+use Rattle.conditions.{specs.Hearing.{wanted-in, above-from}, proofs.WantLaws.{row-tells, Words-listing, words-listing-none, words-listing-turn}}
+use Rattle.conditions.{proofs.WantLaws.{words-listing-end}}
 use Rattle.hearing.proofs.wanted.list_words.Statement.{statement}
 use Rattle.hearing.proofs.wanted.list_words.Tie as tie
 

@@ -1,10 +1,7 @@
 -- `wanted_word` meets its contract: `&` with the complement of a word leaves the bits that the word lacks.
-use mathlib.Core.Path.{_∙_, ap, sym}
-use mathlib.Core.Bool.{Bool}
+use Rattle.lists.specs.Kit.{_∙_, ap, sym, Bool, needs}
 use Rattle.mesh.specs.Tables.{digit}
-use Rattle.conditions.specs.Hearing.{wanted-by}
-use borrow.Author.Needs.{needs}
-use Rattle.conditions.proofs.WantLaws.{word-up, word-down}
+use Rattle.conditions.{specs.Hearing.{wanted-by}, proofs.WantLaws.{word-up, word-down}}
 use Rattle.hearing.proofs.wanted.wanted_word.Statement.{statement}
 use Rattle.hearing.proofs.wanted.wanted_word.Tie as tie
 

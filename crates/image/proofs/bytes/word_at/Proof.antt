@@ -1,6 +1,5 @@
 -- `bytes::word_at` meets its contract.
-use native.Mathlib.Omega.{arith}
-use borrow.Author.Needs.{needs}
+use Rattle.lists.specs.Kit.{arith, needs}
 use Rattle.mesh.specs.Image.{word-at}
 use Rattle.image.proofs.bytes.word_at.Statement.{statement}
 use Rattle.image.proofs.bytes.word_at.Tie as tie

@@ -1,10 +1,6 @@
 -- `checks::add_run` meets its contract: the columns passed in each third have the run. The measure is what is left of a third.
-use mathlib.Core.Path.{refl, sym, _∙_}
-use Prim.Native.Nat.{_*_, _-_, _≤_}
-use native.Mathlib.Omega.{arith}
-use borrow.Author.Needs.{needs}
-use Rattle.image.proofs.ColumnLaws.{Summed, runs-at, adding-none, next-fits, next-added, adding-end}
-use Rattle.image.proofs.checks.add_run.Statement.{statement}
+use Rattle.lists.specs.Kit.{refl, sym, _∙_, _*_, _-_, _≤_, arith, needs}
+use Rattle.image.proofs.{ColumnLaws.{Summed, runs-at, adding-none, next-fits, next-added, adding-end}, checks.add_run.Statement.{statement}}
 use Rattle.image.proofs.checks.add_run.Tie as tie
 
 abbrev Inv-loop : tie.InvT-loop

@@ -1,11 +1,7 @@
 -- `checks::add_runs` meets its contract: the runs passed are added. The measure is the runs left.
-use mathlib.Core.Path.{sym, _∙_}
-use Prim.Native.Nat.{_-_, _≤_}
-use native.Mathlib.Omega.{arith}
-use borrow.Author.Needs.{needs}
+use Rattle.lists.specs.Kit.{sym, _∙_, _-_, _≤_, arith, needs}
 use Rattle.image.specs.Columns.{Columns}
-use Rattle.image.proofs.ColumnLaws.{columns-end}
-use Rattle.image.proofs.checks.add_runs.Statement.{statement}
+use Rattle.image.proofs.{ColumnLaws.{columns-end}, checks.add_runs.Statement.{statement}}
 use Rattle.image.proofs.checks.add_runs.Tie as tie
 
 abbrev Inv-loop : tie.InvT-loop

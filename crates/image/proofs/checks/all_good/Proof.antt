@@ -1,12 +1,7 @@
 -- `checks::all_good` meets its contract: the blocks passed are good, so what is left decides. The measure is the blocks left.
-use mathlib.Core.Path.{sym, _∙_}
-use Prim.Native.Nat.{_-_}
-use native.Mathlib.Omega.{arith}
-use borrow.Author.Needs.{needs}
-use borrow.Author.Tests.{not-true, not-false}
+use Rattle.lists.specs.Kit.{sym, _∙_, _-_, arith, needs, not-true, not-false}
 use Rattle.mesh.specs.Image.{block-check, checks-good}
-use Rattle.image.proofs.CheckLaws.{Testing, testing-none, testing-turn, testing-stop, testing-end}
-use Rattle.image.proofs.checks.all_good.Statement.{statement}
+use Rattle.image.proofs.{CheckLaws.{Testing, testing-none, testing-turn, testing-stop, testing-end}, checks.all_good.Statement.{statement}}
 use Rattle.image.proofs.checks.all_good.Tie as tie
 
 abbrev Inv-loop : tie.InvT-loop

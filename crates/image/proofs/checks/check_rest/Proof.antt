@@ -1,10 +1,7 @@
 -- `checks::check_rest` meets its contract: the sum is the check of the bytes passed, each at most 255 × 512. The measure is
 -- what is left of the bytes.
-use Prim.Native.Nat.{_-_}
-use native.Mathlib.Omega.{arith}
-use borrow.Author.Needs.{needs}
-use Rattle.image.proofs.CheckLaws.{Summing, summing-turn, summing-end, product-fits, sum-fits}
-use Rattle.image.proofs.checks.check_rest.Statement.{statement}
+use Rattle.lists.specs.Kit.{_-_, arith, needs}
+use Rattle.image.proofs.{CheckLaws.{Summing, summing-turn, summing-end, product-fits, sum-fits}, checks.check_rest.Statement.{statement}}
 use Rattle.image.proofs.checks.check_rest.Tie as tie
 
 abbrev Inv-loop : tie.InvT-loop

@@ -1,8 +1,6 @@
 -- `checks::check_runs` meets its contract: the columns' total is the check.
-use mathlib.Core.Path.{_∙_}
-use borrow.Author.Needs.{needs}
-use Rattle.image.proofs.ColumnLaws.{columns-none, columns-fit, columns-check}
-use Rattle.image.proofs.checks.check_runs.Statement.{statement}
+use Rattle.lists.specs.Kit.{_∙_, needs}
+use Rattle.image.proofs.{ColumnLaws.{columns-none, columns-fit, columns-check}, checks.check_runs.Statement.{statement}}
 use Rattle.image.proofs.checks.check_runs.Tie as tie
 
 columns-total-requires : tie.Need-columns-total-requires

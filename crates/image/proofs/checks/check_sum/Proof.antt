@@ -1,10 +1,5 @@
 -- `checks::check_sum` meets its contract: whole runs and what is left of a block; all bytes of less than a block.
-use mathlib.Core.Path.{_≡_, refl, ap, _∙_}
-use Prim.Native.Nat.{ℕ, min}
-use native.Mathlib.Omega.{arith}
-use lib.ListN.{length, take}
-use borrow.Author.Needs.{needs}
-use Rattle.lists.proofs.Parts.{take-min}
+use Rattle.lists.{specs.Kit.{_≡_, refl, ap, _∙_, ℕ, min, arith, length, take, needs}, proofs.Parts.{take-min}}
 use Rattle.mesh.specs.Image.{check-sum, weighted-sum}
 use Rattle.image.proofs.checks.check_sum.Statement.{statement}
 use Rattle.image.proofs.checks.check_sum.Tie as tie

@@ -1,9 +1,7 @@
 -- `checks::columns_total` meets its contract: the sum is the total of the columns passed. The measure is the columns left.
-use Prim.Native.Nat.{_-_}
-use native.Mathlib.Omega.{arith}
-use borrow.Author.Needs.{needs}
-use Rattle.image.proofs.ColumnLaws.{Totalling, totalling-none, totalling-turn, totalling-end, product-small}
-use Rattle.image.proofs.checks.columns_total.Statement.{statement}
+use Rattle.lists.specs.Kit.{_-_, arith, needs}
+use Rattle.image.proofs.{ColumnLaws.{Totalling, totalling-none, totalling-turn, totalling-end, product-small}}
+use Rattle.image.proofs.{checks.columns_total.Statement.{statement}}
 use Rattle.image.proofs.checks.columns_total.Tie as tie
 
 abbrev Inv-loop : tie.InvT-loop

@@ -1,16 +1,7 @@
 -- `checks::is_good` meets its contract: the sum of the block's first 508 bytes is compared with its last four, read as one number.
-use mathlib.Core.Path.{_≡_, sym, ap, ap₂, _∙_}
-use mathlib.Core.Bool.{Bool}
-use Prim.Native.Nat.{_+_, _*_, _-_, _≤_}
-use native.Mathlib.Omega.{arith}
-use lib.Dec.{eqb}
-use lib.ListN.{drop}
-use lib.Seq.{take-take}
-use borrow.Author.Needs.{needs}
-use Rattle.mesh.specs.Image.{block-bytes, check-sum}
-use Rattle.mesh.proofs.Images.Checks.{block-check-value}
-use Rattle.image.proofs.CheckLaws.{words-long}
-use Rattle.image.proofs.checks.is_good.Statement.{statement}
+use Rattle.lists.specs.Kit.{_≡_, sym, ap, ap₂, _∙_, Bool, _+_, _*_, _-_, arith, eqb, drop, take-take, needs}
+use Rattle.mesh.{specs.Image.{block-bytes, check-sum}, proofs.Images.Checks.{block-check-value}}
+use Rattle.image.proofs.{CheckLaws.{words-long}, checks.is_good.Statement.{statement}}
 use Rattle.image.proofs.checks.is_good.Tie as tie
 
 returns : tie.Need-returns

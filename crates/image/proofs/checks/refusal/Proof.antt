@@ -1,6 +1,5 @@
 -- `checks::refusal` meets its contract: each test is a question of the chain, and its "no" the number.
-use borrow.Author.Tests.{not-true, not-false, eq-eqb, ne-eqb}
-use borrow.Author.Needs.{needs}
+use Rattle.lists.specs.Kit.{not-true, not-false, eq-eqb, ne-eqb, needs}
 use Rattle.mesh.specs.Image.{whole-blocks}
 use Rattle.calls.specs.Questions.{ask, block-refusal, blocks-refusal}
 use Rattle.image.proofs.checks.refusal.Statement.{statement}

@@ -1,13 +1,7 @@
 -- `form::are_formed` meets its contract: the blocks passed are formed, so what is left decides. The measure is the blocks left.
-use mathlib.Core.Path.{sym, ap₂, _∙_}
-use mathlib.Core.Bool.{Bool}
-use Prim.Native.Nat.{ℕ, _-_}
-use native.Mathlib.Omega.{arith}
-use borrow.Author.Tests.{not-true, not-false}
-use borrow.Author.Needs.{needs}
+use Rattle.lists.specs.Kit.{sym, ap₂, _∙_, Bool, ℕ, _-_, arith, not-true, not-false, needs}
 use Rattle.image.specs.Form.{block-formed, kind-of, used-of, blocks-formed}
-use Rattle.image.proofs.CheckLaws.{Testing, testing-none, testing-turn, testing-stop, testing-end}
-use Rattle.image.proofs.form.are_formed.Statement.{statement}
+use Rattle.image.proofs.{CheckLaws.{Testing, testing-none, testing-turn, testing-stop, testing-end}, form.are_formed.Statement.{statement}}
 use Rattle.image.proofs.form.are_formed.Tie as tie
 
 abbrev Inv-loop : tie.InvT-loop

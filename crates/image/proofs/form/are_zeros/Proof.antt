@@ -1,12 +1,7 @@
 -- `form::are_zeros` meets its contract: the answer so far is that of the bytes passed. The measure is the bytes left.
-use Prim.Native.Nat.{ℕ, _+_, _-_}
-use native.Mathlib.Omega.{arith}
-use lib.Dec.{eqb}
-use lib.ListN.{getD}
-use borrow.Author.Needs.{needs}
+use Rattle.lists.specs.Kit.{ℕ, _+_, _-_, arith, eqb, getD, needs}
 use Rattle.image.specs.Form.{zeros}
-use Rattle.image.proofs.CheckLaws.{Passing, passing-none, passing-turn, passing-end}
-use Rattle.image.proofs.form.are_zeros.Statement.{statement}
+use Rattle.image.proofs.{CheckLaws.{Passing, passing-none, passing-turn, passing-end}, form.are_zeros.Statement.{statement}}
 use Rattle.image.proofs.form.are_zeros.Tie as tie
 
 abbrev Inv-loop : tie.InvT-loop

@@ -1,6 +1,5 @@
 -- `form::is_block` meets its contract: each test is a part of the definition.
-use borrow.Author.Tests.{eq-eqb, ne-eqb}
-use borrow.Author.Needs.{needs}
+use Rattle.lists.specs.Kit.{eq-eqb, ne-eqb, needs}
 use Rattle.image.specs.Form.{block-formed}
 use Rattle.image.proofs.form.is_block.Statement.{statement}
 use Rattle.image.proofs.form.is_block.Tie as tie

@@ -1,7 +1,5 @@
 -- `form::is_formed` meets its contract: the header's number of radios is the image's, and each test is a part of the definition.
-use mathlib.Core.Path.{sym}
-use borrow.Author.Tests.{eq-eqb, ne-eqb}
-use borrow.Author.Needs.{needs}
+use Rattle.lists.specs.Kit.{sym, eq-eqb, ne-eqb, needs}
 use Rattle.image.specs.Form.{is-formed}
 use Rattle.image.proofs.form.is_formed.Statement.{statement}
 use Rattle.image.proofs.form.is_formed.Tie as tie

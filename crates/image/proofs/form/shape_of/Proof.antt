@@ -1,11 +1,7 @@
 -- `form::shape_of` meets its contract: by the block's kind.
-use mathlib.Core.Path.{ap, _∙_}
-use Prim.Native.Nat.{ℕ, _-_, _*_, min}
-use native.Mathlib.Omega.{arith}
-use borrow.Author.Needs.{needs}
+use Rattle.lists.specs.Kit.{ap, _∙_, ℕ, _-_, _*_, min, arith, needs}
 use Rattle.mesh.specs.Image.{block-links, order-blocks, block-count, blocks-for}
-use Rattle.image.proofs.FormLaws.{shape-counts, shape-order, shape-links, links-most}
-use Rattle.image.proofs.form.shape_of.Statement.{statement}
+use Rattle.image.proofs.{FormLaws.{shape-counts, shape-order, shape-links, links-most}, form.shape_of.Statement.{statement}}
 use Rattle.image.proofs.form.shape_of.Tie as tie
 
 mul-left : tie.Need-mul-left

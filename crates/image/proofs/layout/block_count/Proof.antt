@@ -1,6 +1,5 @@
 -- `layout::block_count` meets its contract: one block, the order's and the links'.
-use native.Mathlib.Omega.{arith}
-use borrow.Author.Needs.{needs}
+use Rattle.lists.specs.Kit.{arith, needs}
 use Rattle.mesh.specs.Image.{order-blocks, block-count, blocks-for}
 use Rattle.image.proofs.layout.block_count.Statement.{statement}
 use Rattle.image.proofs.layout.block_count.Tie as tie

@@ -1,9 +1,6 @@
 -- `layout::blocks_for` meets its contract: rounded up.
-use mathlib.Core.Path.{sym}
-use native.Mathlib.Omega.{arith}
-use borrow.Author.Needs.{needs}
-use Rattle.image.proofs.LayoutLaws.{blocks-even, blocks-more, blocks-most}
-use Rattle.image.proofs.layout.blocks_for.Statement.{statement}
+use Rattle.lists.specs.Kit.{sym, arith, needs}
+use Rattle.image.proofs.{LayoutLaws.{blocks-even, blocks-more, blocks-most}, layout.blocks_for.Statement.{statement}}
 use Rattle.image.proofs.layout.blocks_for.Tie as tie
 
 add-result : tie.Need-add-result

@@ -1,10 +1,5 @@
 -- `blocks::bump` meets its contract: the test as a number is 1 where it holds.
-use mathlib.Core.Path.{ap}
-use Prim.Native.Nat.{ℕ, _+_}
-use native.Mathlib.Omega.{arith}
-use lib.ListN.{getD, set}
-use borrow.Author.Needs.{needs}
-use Rattle.lists.proofs.Tests.{byte-bit, bit-one}
+use Rattle.lists.{specs.Kit.{ap, ℕ, _+_, arith, getD, set, needs}, proofs.Tests.{byte-bit, bit-one}}
 use Rattle.image_reader.proofs.blocks.bump.Statement.{statement}
 use Rattle.image_reader.proofs.blocks.bump.Tie as tie
 

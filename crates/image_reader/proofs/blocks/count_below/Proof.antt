@@ -1,8 +1,6 @@
 -- `blocks::count_below` meets its contract: each end counts by its test.
-use native.Mathlib.Omega.{arith}
-use borrow.Author.Needs.{needs}
-use Rattle.image_reader.proofs.TallyLaws.{high-fits-still, link-counted}
-use Rattle.image_reader.proofs.blocks.count_below.Statement.{statement}
+use Rattle.lists.specs.Kit.{arith, needs}
+use Rattle.image_reader.proofs.{TallyLaws.{high-fits-still, link-counted}, blocks.count_below.Statement.{statement}}
 use Rattle.image_reader.proofs.blocks.count_below.Tie as tie
 
 bump-requires-2 : tie.Need-bump-requires-2

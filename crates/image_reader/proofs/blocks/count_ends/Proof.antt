@@ -1,10 +1,6 @@
 -- `blocks::count_ends` meets its contract: with no ranks and a slack of 1, each end counts.
-use mathlib.Core.Path.{refl}
-use mathlib.Core.Bool.{true}
-use native.Mathlib.Omega.{arith}
-use borrow.Author.Needs.{needs}
-use Rattle.image_reader.proofs.TallyLaws.{high-fits-still, link-counted}
-use Rattle.image_reader.proofs.blocks.count_ends.Statement.{statement}
+use Rattle.lists.specs.Kit.{refl, true, arith, needs}
+use Rattle.image_reader.proofs.{TallyLaws.{high-fits-still, link-counted}, blocks.count_ends.Statement.{statement}}
 use Rattle.image_reader.proofs.blocks.count_ends.Tie as tie
 
 bump-requires-2 : tie.Need-bump-requires-2

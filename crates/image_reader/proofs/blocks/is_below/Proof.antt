@@ -1,6 +1,5 @@
 -- `blocks::is_below` meets its contract: entries are below 65536, so the sum fits.
-use native.Mathlib.Omega.{arith}
-use borrow.Author.Needs.{needs}
+use Rattle.lists.specs.Kit.{arith, needs}
 use Rattle.image_reader.proofs.blocks.is_below.Statement.{statement}
 use Rattle.image_reader.proofs.blocks.is_below.Tie as tie
 

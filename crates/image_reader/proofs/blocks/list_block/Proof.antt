@@ -1,14 +1,10 @@
 -- `blocks::list_block` meets its contract: whether all links are listed well is what the links passed and the rest decide. The measure
 -- is the block's links left.
-use mathlib.Core.Path.{_≡_, refl}
-use Prim.Native.Nat.{_+_, _*_, _-_, _≤_}
-use native.Mathlib.Omega.{arith}
-use borrow.Author.Needs.{needs}
+use Rattle.lists.specs.Kit.{_≡_, refl, _+_, _*_, _-_, _≤_, arith, needs}
 use Rattle.mesh.specs.Image.{block-links}
 use Rattle.image_reader.specs.Site.{Listed}
-use Rattle.image_reader.proofs.BlockLaws.{link-in, link-inside, link-index, block-passed}
-use Rattle.image_reader.proofs.ListedLaws.{listed-at, listed-turn}
-use Rattle.image_reader.proofs.blocks.list_block.Statement.{statement}
+use Rattle.image_reader.proofs.{BlockLaws.{link-in, link-inside, link-index, block-passed}, ListedLaws.{listed-at, listed-turn}}
+use Rattle.image_reader.proofs.{blocks.list_block.Statement.{statement}}
 use Rattle.image_reader.proofs.blocks.list_block.Tie as tie
 
 abbrev Inv-loop : tie.InvT-loop

@@ -1,13 +1,8 @@
 -- `blocks::order_block` meets its contract: the block's entries passed are read. The measure is its entries left.
-use mathlib.Core.Path.{_≡_, refl, _∙_}
-use Prim.Native.Nat.{_+_, _*_, _-_, _%_, _≤_, _<_, min}
-use native.Mathlib.Omega.{arith}
-use lib.ListN.{length, set, length-set}
-use borrow.Author.Needs.{needs}
+use Rattle.lists.specs.Kit.{_≡_, refl, _∙_, _+_, _*_, _-_, _%_, _≤_, _<_, min, arith, length, set, length-set, needs}
 use Rattle.mesh.specs.Image.{block-entries}
 use Rattle.image_reader.specs.Site.{Order-read}
-use Rattle.image_reader.proofs.ListedLaws.{order-at, order-in, order-turn}
-use Rattle.image_reader.proofs.blocks.order_block.Statement.{statement}
+use Rattle.image_reader.proofs.{ListedLaws.{order-at, order-in, order-turn}, blocks.order_block.Statement.{statement}}
 use Rattle.image_reader.proofs.blocks.order_block.Tie as tie
 
 abbrev Inv-loop : tie.InvT-loop

@@ -1,9 +1,5 @@
 -- `reader::put_numbers` meets its contract: 8-bit entries being written. The measure is the entries left.
-use mathlib.Core.Path.{refl}
-use Prim.Native.Nat.{ℕ, _-_}
-use native.Mathlib.Omega.{arith}
-use lib.ListN.{length, getD}
-use borrow.Author.Needs.{needs}
+use Rattle.lists.specs.Kit.{refl, ℕ, _-_, arith, length, getD, needs}
 use Rattle.tables.proofs.WidthLaws.{Writing, writing-none, writing-turn, writing-all}
 use Rattle.image_reader.proofs.reader.put_numbers.Statement.{statement}
 use Rattle.image_reader.proofs.reader.put_numbers.Tie as tie

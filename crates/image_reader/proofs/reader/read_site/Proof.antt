@@ -1,13 +1,8 @@
 -- `reader::read_site` meets its contract: nothing is written before questions 15 and 11 got yes.
-use mathlib.Core.Path.{refl}
-use native.Mathlib.Omega.{arith}
-use borrow.Author.Needs.{needs}
-use Rattle.lists.specs.Facts.{Bytes}
-use Rattle.mesh.specs.Tables.{tables}
-use Rattle.mesh.proofs.Sizes.{size-good-true}
-use Rattle.image_reader.proofs.SiteLaws.{site-accepted, links-room}
-use Rattle.image_reader.proofs.SourceLaws.{source-refused, source-accepted, source-site, source-says}
-use Rattle.image_reader.proofs.reader.read_site.Statement.{statement}
+use Rattle.lists.specs.{Kit.{refl, arith, needs}, Facts.{Bytes}}
+use Rattle.mesh.{specs.Tables.{tables}, proofs.Sizes.{size-good-true}}
+use Rattle.image_reader.proofs.{SiteLaws.{site-accepted, links-room}, SourceLaws.{source-refused, source-accepted, source-site, source-says}}
+use Rattle.image_reader.proofs.{reader.read_site.Statement.{statement}}
 use Rattle.image_reader.proofs.reader.read_site.Tie as tie
 
 returns : tie.Need-returns

@@ -1,10 +1,6 @@
 -- `reader::refusal` meets its contract: n, then the header, then of which tables it is the image. Scratch is cut to the header's radios.
-use mathlib.Core.Path.{sym, _∙_}
-use lib.Seq.{length-take-le}
-use borrow.Author.Tests.{not-true, not-false}
-use borrow.Author.Needs.{needs}
-use Rattle.image_reader.proofs.ReadLaws.{header-small, header-room, alone-no-size, alone-header, alone-decided}
-use Rattle.image_reader.proofs.reader.refusal.Statement.{statement}
+use Rattle.lists.specs.Kit.{sym, _∙_, length-take-le, not-true, not-false, needs}
+use Rattle.image_reader.proofs.{ReadLaws.{header-small, header-room, alone-no-size, alone-header, alone-decided}, reader.refusal.Statement.{statement}}
 use Rattle.image_reader.proofs.reader.refusal.Tie as tie
 
 ruleset laws = (needs, header-small, length-take-le)

@@ -1,9 +1,5 @@
 -- `site::are_few` meets its contract: the answer so far is that of the counts passed. The measure is the counts left.
-use Prim.Native.Nat.{_-_}
-use native.Mathlib.Omega.{arith}
-use lib.Dec.{leb}
-use lib.ListN.{length, getD}
-use borrow.Author.Needs.{needs}
+use Rattle.lists.specs.Kit.{_-_, arith, leb, length, getD, needs}
 use Rattle.mesh.specs.Limits.{max-neighbours}
 use Rattle.image.proofs.CheckLaws.{Passing, passing-none, passing-turn, passing-end}
 use Rattle.image_reader.proofs.site.are_few.Statement.{statement}

@@ -1,12 +1,9 @@
 -- `site::are_listed` meets its contract: what the blocks passed and the rest decide is what all links decide. The measure is the blocks
 -- left.
-use mathlib.Core.Path.{sym}
-use Prim.Native.Nat.{_-_}
-use borrow.Author.Needs.{needs}
+use Rattle.lists.specs.Kit.{sym, _-_, needs}
 use Rattle.image_reader.specs.Site.{passed, Listed}
-use Rattle.image_reader.proofs.BlockLaws.{block-there, passed-none, passed-all}
-use Rattle.image_reader.proofs.ListedLaws.{listed-none, listed-at, listed-end}
-use Rattle.image_reader.proofs.site.are_listed.Statement.{statement}
+use Rattle.image_reader.proofs.{BlockLaws.{block-there, passed-none, passed-all}, ListedLaws.{listed-none, listed-at, listed-end}}
+use Rattle.image_reader.proofs.{site.are_listed.Statement.{statement}}
 use Rattle.image_reader.proofs.site.are_listed.Tie as tie
 
 abbrev Inv-loop : tie.InvT-loop

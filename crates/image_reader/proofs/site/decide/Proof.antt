@@ -1,12 +1,7 @@
 -- `site::decide` meets its contract: links that are not listed well refuse, and else the rest decides.
-use mathlib.Core.Path.{ap, _∙_}
-use Prim.Native.Nat.{ℕ}
-use native.Mathlib.Omega.{arith}
-use borrow.Author.Tests.{not-true, not-false}
-use borrow.Author.Needs.{needs}
+use Rattle.lists.specs.Kit.{ap, _∙_, ℕ, arith, not-true, not-false, needs}
 use Rattle.mesh.specs.Image.{image-order}
-use Rattle.image_reader.proofs.SoundLaws.{orders-inside, not-listed, is-proper, is-ascending, site-decided}
-use Rattle.image_reader.proofs.site.decide.Statement.{statement}
+use Rattle.image_reader.proofs.{SoundLaws.{orders-inside, not-listed, is-proper, is-ascending, site-decided}, site.decide.Statement.{statement}}
 use Rattle.image_reader.proofs.site.decide.Tie as tie
 
 are-listed-requires : tie.Need-are-listed-requires

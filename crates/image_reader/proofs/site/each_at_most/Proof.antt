@@ -1,11 +1,7 @@
 -- `site::each_at_most` meets its contract: the answer so far is that of the entries passed. The measure is the entries left.
-use Prim.Native.Nat.{_-_}
-use native.Mathlib.Omega.{arith}
-use lib.ListN.{length}
-use borrow.Author.Needs.{needs}
+use Rattle.lists.specs.Kit.{_-_, arith, length, needs}
 use Rattle.image.proofs.CheckLaws.{Passing, passing-none, passing-turn, passing-end}
-use Rattle.image_reader.proofs.KOrderLaws.{at-most}
-use Rattle.image_reader.proofs.site.each_at_most.Statement.{statement}
+use Rattle.image_reader.proofs.{KOrderLaws.{at-most}, site.each_at_most.Statement.{statement}}
 use Rattle.image_reader.proofs.site.each_at_most.Tie as tie
 
 abbrev Inv-loop : tie.InvT-loop

@@ -1,11 +1,7 @@
 -- `site::is_k_order` meets its contract: each step hands its counts to the next; the mathematics is in `proofs.KOrderLaws`.
-use mathlib.Core.Path.{ap, _∙_}
-use Prim.Native.Nat.{ℕ}
-use native.Mathlib.Omega.{arith}
-use borrow.Author.Needs.{needs}
+use Rattle.lists.specs.Kit.{ap, _∙_, ℕ, arith, needs}
 use Rattle.mesh.specs.Orders.{each-once}
-use Rattle.image_reader.proofs.KOrderLaws.{k-order-decided}
-use Rattle.image_reader.proofs.site.is_k_order.Statement.{statement}
+use Rattle.image_reader.proofs.{KOrderLaws.{k-order-decided}, site.is_k_order.Statement.{statement}}
 use Rattle.image_reader.proofs.site.is_k_order.Tie as tie
 
 run-maxima-requires : tie.Need-run-maxima-requires

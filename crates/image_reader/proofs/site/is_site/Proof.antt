@@ -1,6 +1,5 @@
 -- `site::is_site` meets its contract: the decision's answer. Scratch is cut to n.
-use lib.Seq.{length-take-le}
-use borrow.Author.Needs.{needs}
+use Rattle.lists.specs.Kit.{length-take-le, needs}
 use Rattle.image_reader.proofs.site.is_site.Statement.{statement}
 use Rattle.image_reader.proofs.site.is_site.Tie as tie
 

@@ -1,10 +1,7 @@
 -- `site::is_sound` meets its contract: places, degrees and the k-order, the first of which that gets no refuses.
-use mathlib.Core.Path.{_∙_}
-use borrow.Author.Tests.{not-true, not-false}
-use borrow.Author.Needs.{needs}
-use Rattle.image_reader.proofs.KOrderLaws.{few-tallied, not-placed, order-counted}
-use Rattle.image_reader.proofs.SoundLaws.{not-few, sound-decided}
-use Rattle.image_reader.proofs.site.is_sound.Statement.{statement}
+use Rattle.lists.specs.Kit.{_∙_, not-true, not-false, needs}
+use Rattle.image_reader.proofs.{KOrderLaws.{few-tallied, not-placed, order-counted}, SoundLaws.{not-few, sound-decided}}
+use Rattle.image_reader.proofs.{site.is_sound.Statement.{statement}}
 use Rattle.image_reader.proofs.site.is_sound.Tie as tie
 
 returns : tie.Need-returns

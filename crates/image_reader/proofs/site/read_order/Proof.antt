@@ -1,13 +1,8 @@
 -- `site::read_order` meets its contract: the blocks passed are read. The measure is what is left of the entries.
-use mathlib.Core.Path.{_≡_, refl, _∙_}
-use Prim.Native.Nat.{_+_, _*_, _-_, _≤_, min}
-use native.Mathlib.Omega.{arith}
-use lib.ListN.{length}
-use borrow.Author.Needs.{needs}
+use Rattle.lists.specs.Kit.{_≡_, refl, _∙_, _+_, _*_, _-_, _≤_, min, arith, length, needs}
 use Rattle.mesh.specs.Image.{block-entries, order-blocks, blocks-for}
 use Rattle.image_reader.specs.Site.{Order-read}
-use Rattle.image_reader.proofs.ListedLaws.{order-at, order-whole}
-use Rattle.image_reader.proofs.site.read_order.Statement.{statement}
+use Rattle.image_reader.proofs.{ListedLaws.{order-at, order-whole}, site.read_order.Statement.{statement}}
 use Rattle.image_reader.proofs.site.read_order.Tie as tie
 
 abbrev Inv-loop : tie.InvT-loop

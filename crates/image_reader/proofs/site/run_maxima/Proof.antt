@@ -1,11 +1,6 @@
 -- `site::run_maxima` meets its contract: the radios passed have their maximum. The measure is the entries left.
-use mathlib.Core.Path.{refl}
-use Prim.Native.Nat.{ℕ, _-_}
-use native.Mathlib.Omega.{arith}
-use lib.ListN.{length, getD}
-use borrow.Author.Needs.{needs}
-use Rattle.image_reader.proofs.MaximaLaws.{Running, running-none, running-turn, running-end, entry-room}
-use Rattle.image_reader.proofs.site.run_maxima.Statement.{statement}
+use Rattle.lists.specs.Kit.{refl, ℕ, _-_, arith, length, getD, needs}
+use Rattle.image_reader.proofs.{MaximaLaws.{Running, running-none, running-turn, running-end, entry-room}, site.run_maxima.Statement.{statement}}
 use Rattle.image_reader.proofs.site.run_maxima.Tie as tie
 
 abbrev Inv-loop : tie.InvT-loop

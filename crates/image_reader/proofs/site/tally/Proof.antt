@@ -1,13 +1,7 @@
 -- `site::tally` meets its contract: the blocks passed are counted. The measure is the blocks left.
-use mathlib.Core.Path.{_≡_, refl, _∙_}
-use Prim.Native.Nat.{_-_}
-use native.Mathlib.Omega.{arith}
-use lib.ListN.{length}
-use borrow.Author.Needs.{needs}
+use Rattle.lists.specs.Kit.{_≡_, refl, _∙_, _-_, arith, length, needs}
 use Rattle.image_reader.specs.Site.{links-up-to, passed, Tallied}
-use Rattle.image_reader.proofs.BlockLaws.{block-there, passed-none, passed-all}
-use Rattle.image_reader.proofs.TallyLaws.{tallied-none, tallied-at}
-use Rattle.image_reader.proofs.site.tally.Statement.{statement}
+use Rattle.image_reader.proofs.{BlockLaws.{block-there, passed-none, passed-all}, TallyLaws.{tallied-none, tallied-at}, site.tally.Statement.{statement}}
 use Rattle.image_reader.proofs.site.tally.Tie as tie
 
 abbrev Inv-loop : tie.InvT-loop

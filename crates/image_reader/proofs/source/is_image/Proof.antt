@@ -1,9 +1,6 @@
 -- `source::is_image` meets its contract: an image that is not formed is none, and else its site decides.
-use borrow.Author.Tests.{not-true, not-false}
-use borrow.Author.Needs.{needs}
-use Rattle.lists.specs.Facts.{Bytes}
-use Rattle.image_reader.proofs.SiteLaws.{site-room, not-formed, image-decided}
-use Rattle.image_reader.proofs.source.is_image.Statement.{statement}
+use Rattle.lists.specs.{Kit.{not-true, not-false, needs}, Facts.{Bytes}}
+use Rattle.image_reader.proofs.{SiteLaws.{site-room, not-formed, image-decided}, source.is_image.Statement.{statement}}
 use Rattle.image_reader.proofs.source.is_image.Tie as tie
 
 returns : tie.Need-returns

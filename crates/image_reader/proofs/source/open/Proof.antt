@@ -1,8 +1,6 @@
 -- `source::open` meets its contract: questions 9 and 10, then the size that the header says.
-use borrow.Author.Tests.{not-true, not-false}
-use borrow.Author.Needs.{needs}
-use Rattle.image_reader.proofs.SourceLaws.{opened-blocks, first-block, opened-no-size, opened-size}
-use Rattle.image_reader.proofs.source.open.Statement.{statement}
+use Rattle.lists.specs.Kit.{not-true, not-false, needs}
+use Rattle.image_reader.proofs.{SourceLaws.{opened-blocks, first-block, opened-no-size, opened-size}, source.open.Statement.{statement}}
 use Rattle.image_reader.proofs.source.open.Tie as tie
 
 returns : tie.Need-returns

@@ -1,8 +1,6 @@
 -- `source::refusal` meets its contract: the bytes are an image of the header's m or of none, and m is n or another.
-use borrow.Author.Tests.{not-true, not-false}
-use borrow.Author.Needs.{needs}
-use Rattle.image_reader.proofs.SourceLaws.{source-none, source-other, source-this}
-use Rattle.image_reader.proofs.source.refusal.Statement.{statement}
+use Rattle.lists.specs.Kit.{not-true, not-false, needs}
+use Rattle.image_reader.proofs.{SourceLaws.{source-none, source-other, source-this}, source.refusal.Statement.{statement}}
 use Rattle.image_reader.proofs.source.refusal.Tie as tie
 
 returns : tie.Need-returns

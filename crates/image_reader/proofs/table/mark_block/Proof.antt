@@ -1,14 +1,8 @@
 -- `table::mark_block` meets its contract: the block's links passed are marked. The measure is its links left.
-use mathlib.Core.Path.{_≡_, refl, _∙_}
-use Prim.Native.Nat.{_+_, _*_, _-_, _≤_}
-use native.Mathlib.Omega.{arith}
-use lib.ListN.{length}
-use borrow.Author.Needs.{needs}
+use Rattle.lists.specs.Kit.{_≡_, refl, _∙_, _+_, _*_, _-_, _≤_, arith, length, needs}
 use Rattle.mesh.specs.Image.{block-links}
-use Rattle.image_reader.proofs.BlockLaws.{link-in, link-inside, link-index, block-passed}
-use Rattle.image_reader.proofs.TallyLaws.{proper-pair}
-use Rattle.image_reader.proofs.TableWritten.{Linking, linking-at, linking-turn, rows-there}
-use Rattle.image_reader.proofs.table.mark_block.Statement.{statement}
+use Rattle.image_reader.proofs.{BlockLaws.{link-in, link-inside, link-index, block-passed}, TallyLaws.{proper-pair}, TableWritten.{Linking, linking-at}}
+use Rattle.image_reader.proofs.{TableWritten.{linking-turn, rows-there}, table.mark_block.Statement.{statement}}
 use Rattle.image_reader.proofs.table.mark_block.Tie as tie
 
 abbrev Inv-loop : tie.InvT-loop

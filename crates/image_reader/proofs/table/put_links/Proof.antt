@@ -1,12 +1,8 @@
 -- `table::put_links` meets its contract: the blocks passed are marked. The measure is the blocks left.
-use mathlib.Core.Path.{_≡_, refl, sym, _∙_}
-use Prim.Native.Nat.{_-_}
-use lib.ListN.{length}
-use borrow.Author.Needs.{needs}
+use Rattle.lists.specs.Kit.{_≡_, refl, sym, _∙_, _-_, length, needs}
 use Rattle.image_reader.specs.Site.{passed}
-use Rattle.image_reader.proofs.BlockLaws.{block-there, passed-none, passed-all}
-use Rattle.image_reader.proofs.TableWritten.{Linking, linking-none, linking-at}
-use Rattle.image_reader.proofs.table.put_links.Statement.{statement}
+use Rattle.image_reader.proofs.{BlockLaws.{block-there, passed-none, passed-all}, TableWritten.{Linking, linking-none, linking-at}}
+use Rattle.image_reader.proofs.{table.put_links.Statement.{statement}}
 use Rattle.image_reader.proofs.table.put_links.Tie as tie
 
 abbrev Inv-loop : tie.InvT-loop

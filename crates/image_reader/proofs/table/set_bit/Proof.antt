@@ -1,7 +1,6 @@
 -- `table::set_bit` meets its contract: `|` with the mask of the bit sets it.
-use borrow.Author.Needs.{needs}
-use Rattle.image_reader.proofs.TableWritten.{put-bit-through}
-use Rattle.image_reader.proofs.table.set_bit.Statement.{statement}
+use Rattle.lists.specs.Kit.{needs}
+use Rattle.image_reader.proofs.{TableWritten.{put-bit-through}, table.set_bit.Statement.{statement}}
 use Rattle.image_reader.proofs.table.set_bit.Tie as tie
 
 pub set-bit-spec : {M : Type 1} → statement M

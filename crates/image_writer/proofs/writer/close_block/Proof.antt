@@ -1,12 +1,7 @@
 -- `writer::close_block` meets its contract: the check's two lower and two upper bytes.
-use mathlib.Core.Path.{ap, _∙_}
-use mathlib.Core.List.{List}
-use Prim.Native.Nat.{ℕ, _/_}
-use lib.Seq.{sets}
-use borrow.Author.Needs.{needs}
+use Rattle.lists.specs.Kit.{ap, _∙_, List, ℕ, _/_, sets, needs}
 use Rattle.mesh.specs.Image.{word}
-use Rattle.image_writer.proofs.FillerLaws.{sealed-sets}
-use Rattle.image_writer.proofs.writer.close_block.Statement.{statement}
+use Rattle.image_writer.proofs.{FillerLaws.{sealed-sets}, writer.close_block.Statement.{statement}}
 use Rattle.image_writer.proofs.writer.close_block.Tie as tie
 
 returns : tie.Need-returns

@@ -1,9 +1,7 @@
 -- `writer::fill_block` meets its contract: the block's kind goes by its number.
-use native.Mathlib.Omega.{arith}
-use borrow.Author.Needs.{needs}
+use Rattle.lists.specs.Kit.{arith, needs}
 use Rattle.mesh.specs.Image.{order-blocks, blocks-for}
-use Rattle.image_writer.proofs.BlockFilling.{front-counts, front-order}
-use Rattle.image_writer.proofs.writer.fill_block.Statement.{statement}
+use Rattle.image_writer.proofs.{BlockFilling.{front-counts, front-order}, writer.fill_block.Statement.{statement}}
 use Rattle.image_writer.proofs.writer.fill_block.Tie as tie
 
 returns : tie.Need-returns

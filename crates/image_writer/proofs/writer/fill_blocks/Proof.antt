@@ -1,14 +1,8 @@
 -- `writer::fill_blocks` meets its contract: the blocks so far stand in front of the buffer, and the rest is as it was. The measure is
 -- the blocks left.
-use Prim.Native.Nat.{_+_, _*_, _-_, _≤_}
-use mathlib.Core.Path.{_≡_}
-use native.Mathlib.Omega.{arith}
-use lib.ListN.{drop, length-drop}
-use lib.Seq.{length-take-le}
-use borrow.Author.Needs.{needs}
+use Rattle.lists.specs.Kit.{_+_, _*_, _-_, _≤_, _≡_, arith, drop, length-drop, length-take-le, needs}
 use Rattle.image_writer.specs.Blocks.{front-block}
-use Rattle.image_writer.proofs.BlockFilling.{Filling, filling-none, filling-turn, filling-end}
-use Rattle.image_writer.proofs.writer.fill_blocks.Statement.{statement}
+use Rattle.image_writer.proofs.{BlockFilling.{Filling, filling-none, filling-turn, filling-end}, writer.fill_blocks.Statement.{statement}}
 use Rattle.image_writer.proofs.writer.fill_blocks.Tie as tie
 
 abbrev Inv-loop : tie.InvT-loop

@@ -1,13 +1,8 @@
 -- `writer::fill_counts` meets its contract: the payload of an opened block, which is then sealed.
-use mathlib.Core.Path.{ap, _∙_}
-use mathlib.Core.List.{List}
-use Prim.Native.Nat.{ℕ}
-use lib.Seq.{sets}
-use borrow.Author.Needs.{needs}
+use Rattle.lists.specs.Kit.{ap, _∙_, List, ℕ, sets, needs}
 use Rattle.mesh.specs.Image.{word}
 use Rattle.image_writer.specs.Filler.{sealed}
-use Rattle.image_writer.proofs.FillerLaws.{sealed-counts}
-use Rattle.image_writer.proofs.writer.fill_counts.Statement.{statement}
+use Rattle.image_writer.proofs.{FillerLaws.{sealed-counts}, writer.fill_counts.Statement.{statement}}
 use Rattle.image_writer.proofs.writer.fill_counts.Tie as tie
 
 returns : tie.Need-returns

@@ -1,17 +1,9 @@
 -- `writer::fill_link_blocks` meets its contract: the cursor stands before the links that the next block is to hold (`Linking`). The measure is
 -- the links left, and a block more.
-use mathlib.Core.Path.{_≡_, refl, sym, ap, _∙_}
-use Prim.Native.Nat.{_+_, _*_, _-_, _^_, _≤_, _<_}
-use native.Mathlib.Omega.{arith}
-use lib.ListN.{length, drop, length-drop}
-use lib.Seq.{length-take-le}
-use borrow.Author.Needs.{needs}
-use borrow.Rule.Slice.PartMut.{putMid}
-use Rattle.mesh.specs.Image.{blocks-for}
+use Rattle.lists.specs.Kit.{_≡_, refl, ap, _∙_, _+_, _*_, _-_, arith, length, drop, length-drop, length-take-le, needs}
 use Rattle.rows.specs.Links.{links-from}
-use Rattle.image_writer.proofs.LinksPut.{full-same, full-left}
-use Rattle.image_writer.proofs.BlockFilling.{Linking, first-same, linking-none, linking-more, linking-room, linking-count, linking-turn, linking-end}
-use Rattle.image_writer.proofs.writer.fill_link_blocks.Statement.{statement}
+use Rattle.image_writer.proofs.{LinksPut.{full-same, full-left}, BlockFilling.{Linking, first-same, linking-none, linking-more, linking-room}}
+use Rattle.image_writer.proofs.{BlockFilling.{linking-count, linking-turn, linking-end}, writer.fill_link_blocks.Statement.{statement}}
 use Rattle.image_writer.proofs.writer.fill_link_blocks.Tie as tie
 use Rattle.image_writer.proofs.writer.fill_link_blocks.Reads as reads
 use Rattle.image_writer.proofs.writer.fill_link_blocks.Lts as lts

@@ -1,14 +1,8 @@
 -- `writer::fill_links` meets its contract: head and links stand in the part, zeros after them, and the block is sealed.
-use mathlib.Core.Path.{refl, ap, _∙_}
-use Prim.Native.Nat.{_-_}
-use native.Mathlib.Omega.{arith}
-use lib.ListN.{length, length-set}
-use borrow.Author.Needs.{needs}
+use Rattle.lists.specs.Kit.{refl, ap, _∙_, _-_, arith, length, length-set, needs}
 use borrow.Rule.Slice.PartMut.{same-len-mid}
 use Rattle.image_writer.specs.Filler.{sealed}
-use Rattle.image_writer.proofs.FillerLaws.{zeros-put}
-use Rattle.image_writer.proofs.BlockFilling.{links-sealed, next-full}
-use Rattle.image_writer.proofs.writer.fill_links.Statement.{statement}
+use Rattle.image_writer.proofs.{FillerLaws.{zeros-put}, BlockFilling.{links-sealed, next-full}, writer.fill_links.Statement.{statement}}
 use Rattle.image_writer.proofs.writer.fill_links.Tie as tie
 
 slice-write-part : tie.Need-slice-write-part

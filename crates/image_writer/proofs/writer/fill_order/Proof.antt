@@ -1,13 +1,8 @@
 -- `writer::fill_order` meets its contract: the payload of an opened block, which is then sealed.
-use mathlib.Core.Path.{ap, _∙_}
-use mathlib.Core.List.{List, flatMap}
-use Prim.Native.Nat.{ℕ}
-use lib.Seq.{sets}
-use borrow.Author.Needs.{needs}
+use Rattle.lists.specs.Kit.{ap, _∙_, List, flatMap, ℕ, sets, needs}
 use Rattle.mesh.specs.Image.{word}
 use Rattle.image_writer.specs.Filler.{sealed}
-use Rattle.image_writer.proofs.FillerLaws.{sealed-payload, order-part, length-order-bytes}
-use Rattle.image_writer.proofs.writer.fill_order.Statement.{statement}
+use Rattle.image_writer.proofs.{FillerLaws.{sealed-payload, order-part, length-order-bytes}, writer.fill_order.Statement.{statement}}
 use Rattle.image_writer.proofs.writer.fill_order.Tie as tie
 
 returns : tie.Need-returns

@@ -1,12 +1,6 @@
 -- `writer::has_room` meets its contract: fewer links want no more blocks, so the most that a site may have tell where there is room
 -- for all; else the links are counted.
-use mathlib.Core.Path.{ap, sym, _∙_}
-use Prim.Native.Nat.{ℕ, _*_}
-use native.Mathlib.Omega.{arith}
-use lib.Dec.{leb}
-use lib.ListN.{length}
-use borrow.Author.Needs.{needs}
-use borrow.Author.Tests.{le-leb}
+use Rattle.lists.specs.Kit.{ap, sym, _∙_, ℕ, _*_, arith, leb, length, needs, le-leb}
 use Rattle.rows.specs.Links.{links-from}
 use Rattle.mesh.specs.Image.{block-count, order-blocks, blocks-for}
 use Rattle.image_writer.proofs.writer.has_room.Statement.{statement}

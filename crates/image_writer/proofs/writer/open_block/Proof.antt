@@ -1,13 +1,7 @@
 -- `writer::open_block` meets its contract: zeros, then the kind and the index.
-use mathlib.Core.Path.{ap, _∙_}
-use Prim.Native.Nat.{ℕ}
-use native.Mathlib.Omega.{arith}
-use lib.Seq.{length-sets}
-use lib.ListN.{length, replicate, set, length-replicate, length-set}
-use borrow.Author.Needs.{needs}
+use Rattle.lists.specs.Kit.{ap, _∙_, ℕ, arith, length-sets, length, replicate, set, length-replicate, length-set, needs}
 use Rattle.mesh.specs.Image.{word}
-use Rattle.image_writer.proofs.FillerLaws.{opened-sets}
-use Rattle.image_writer.proofs.writer.open_block.Statement.{statement}
+use Rattle.image_writer.proofs.{FillerLaws.{opened-sets}, writer.open_block.Statement.{statement}}
 use Rattle.image_writer.proofs.writer.open_block.Tie as tie
 
 put-word-requires : tie.Need-put-word-requires

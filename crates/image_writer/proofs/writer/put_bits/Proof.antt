@@ -1,20 +1,9 @@
 -- `writer::put_bits` meets its contract: each turn takes the lowest set bit off the word, and what is put so far leaves the links of the others
 -- (`Links-put`). The measure is the word that is left.
-use mathlib.Core.Path.{_≡_, refl, _∙_}
-use mathlib.Core.Logic.{inl, inr}
-use Prim.Native.Nat.{_+_, _%_, _-_, _^_, _≤_, _<_}
-use native.Mathlib.Omega.{arith}
-use lib.Bits.{and-le-l, and-le-r}
-use lib.Count.{trailing-le}
-use lib.ListN.{length}
-use lib.Seq.{length-sets}
-use borrow.Author.Needs.{needs}
-use Rattle.mesh.specs.Image.{block-bytes}
-use Rattle.rows.specs.Rows.{set-bits}
-use Rattle.rows.specs.Links.{links-to}
+use Rattle.lists.specs.Kit.{_≡_, refl, _∙_, inl, inr, _%_, _-_, _^_, _<_, arith, and-le-l, and-le-r, trailing-le, length, needs}
+use Rattle.rows.specs.{Rows.{set-bits}, Links.{links-to}}
 use Rattle.image_writer.specs.Blocks.{Links-put}
-use Rattle.image_writer.proofs.LinksPut.{put-none, bits-turn}
-use Rattle.image_writer.proofs.writer.put_bits.Statement.{statement}
+use Rattle.image_writer.proofs.{LinksPut.{put-none, bits-turn}, writer.put_bits.Statement.{statement}}
 use Rattle.image_writer.proofs.writer.put_bits.Tie as tie
 
 abbrev Inv-loop : tie.InvT-loop

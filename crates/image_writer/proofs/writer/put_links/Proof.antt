@@ -1,10 +1,6 @@
 -- `writer::put_links` meets its contract: what the cursor leaves of its row first; where nothing of that is left, the rows after it.
-use mathlib.Core.Path.{refl, _∙_}
-use mathlib.Core.Logic.{inl}
-use native.Mathlib.Omega.{arith}
-use borrow.Author.Needs.{needs}
-use Rattle.image_writer.proofs.LinksPut.{left-stop-as, left-turn-as, row-none, row-full}
-use Rattle.image_writer.proofs.writer.put_links.Statement.{statement}
+use Rattle.lists.specs.Kit.{_∙_, inl, arith, needs}
+use Rattle.image_writer.proofs.{LinksPut.{left-stop-as, left-turn-as, row-none, row-full}, writer.put_links.Statement.{statement}}
 use Rattle.image_writer.proofs.writer.put_links.Tie as tie
 
 put-row-requires : tie.Need-put-row-requires

@@ -1,11 +1,8 @@
 -- `writer::put_order` meets its contract: the entries so far stand in the payload. The measure is the entries left.
-use Prim.Native.Nat.{_+_, _-_}
-use native.Mathlib.Omega.{arith}
-use borrow.Author.Needs.{needs}
-use Rattle.mesh.specs.Image.{word}
-use Rattle.mesh.proofs.Images.Words.{length-word}
-use Rattle.image_writer.proofs.FillerLaws.{Putting, putting-none, putting-turn, putting-end, order-part, length-order-part, getD-order-part}
-use Rattle.image_writer.proofs.writer.put_order.Statement.{statement}
+use Rattle.lists.specs.Kit.{_+_, _-_, arith, needs}
+use Rattle.mesh.{specs.Image.{word}, proofs.Images.Words.{length-word}}
+use Rattle.image_writer.proofs.{FillerLaws.{Putting, putting-none, putting-turn, putting-end, order-part, length-order-part, getD-order-part}}
+use Rattle.image_writer.proofs.{writer.put_order.Statement.{statement}}
 use Rattle.image_writer.proofs.writer.put_order.Tie as tie
 
 abbrev Inv-loop : tie.InvT-loop

@@ -1,10 +1,6 @@
 -- `writer::put_row` meets its contract: the cursor's word first; where nothing of it is left, the words after it.
-use mathlib.Core.Path.{refl, _∙_}
-use mathlib.Core.Logic.{inr}
-use native.Mathlib.Omega.{arith}
-use borrow.Author.Needs.{needs}
-use Rattle.image_writer.proofs.LinksPut.{row-stop, row-turn, full-of}
-use Rattle.image_writer.proofs.writer.put_row.Statement.{statement}
+use Rattle.lists.specs.Kit.{refl, _∙_, inr, arith, needs}
+use Rattle.image_writer.proofs.{LinksPut.{row-stop, row-turn, full-of}, writer.put_row.Statement.{statement}}
 use Rattle.image_writer.proofs.writer.put_row.Tie as tie
 
 put-bits-requires : tie.Need-put-bits-requires

@@ -1,14 +1,9 @@
 -- `writer::put_rows` meets its contract: what is put so far leaves the links of the rows from a on. The measure is the rows left.
-use mathlib.Core.Path.{_≡_, refl, _∙_}
-use mathlib.Core.Logic.{inl, inr}
-use Prim.Native.Nat.{_-_, _%_, _≤_}
-use native.Mathlib.Omega.{arith}
-use lib.ListN.{length}
-use borrow.Author.Needs.{needs}
+use Rattle.lists.specs.Kit.{_≡_, refl, _∙_, inl, inr, _-_, _%_, _≤_, arith, length, needs}
 use Rattle.rows.specs.Links.{links-from}
 use Rattle.image_writer.specs.Blocks.{Links-put}
-use Rattle.image_writer.proofs.LinksPut.{put-none, rows-stop-as, rows-turn-as, rows-end, links-left-end, row-none, row-full}
-use Rattle.image_writer.proofs.writer.put_rows.Statement.{statement}
+use Rattle.image_writer.proofs.{LinksPut.{put-none, rows-stop-as, rows-turn-as, rows-end, links-left-end, row-none, row-full}}
+use Rattle.image_writer.proofs.{writer.put_rows.Statement.{statement}}
 use Rattle.image_writer.proofs.writer.put_rows.Tie as tie
 
 abbrev Inv-loop : tie.InvT-loop

@@ -1,8 +1,5 @@
 -- `writer::put_word` meets its contract: two stores, one after the other.
-use native.Mathlib.Omega.{arith}
-use native.Mathlib.Numerals.{add-one}
-use lib.ListN.{length-set}
-use borrow.Author.Needs.{needs}
+use Rattle.lists.specs.Kit.{arith, add-one, length-set, needs}
 use Rattle.mesh.specs.Image.{word}
 use Rattle.image_writer.proofs.writer.put_word.Statement.{statement}
 use Rattle.image_writer.proofs.writer.put_word.Tie as tie

@@ -1,15 +1,8 @@
 -- `writer::put_words` meets its contract: what is put so far leaves the links of the words from k on. The measure is the words left.
-use mathlib.Core.Path.{_≡_, refl, _∙_}
-use mathlib.Core.Logic.{inl, inr}
-use Prim.Native.Nat.{_-_, _%_, _≤_}
-use native.Mathlib.Omega.{arith}
-use lib.ListN.{length}
-use borrow.Author.Needs.{needs}
-use Rattle.rows.specs.Rows.{row-from}
-use Rattle.rows.specs.Links.{links-to}
+use Rattle.lists.specs.Kit.{_≡_, refl, _∙_, inl, inr, _-_, _%_, _≤_, arith, length, needs}
+use Rattle.rows.specs.{Rows.{row-from}, Links.{links-to}}
 use Rattle.image_writer.specs.Blocks.{Links-put}
-use Rattle.image_writer.proofs.LinksPut.{put-none, words-stop, words-turn, words-end, row-left-none, full-of}
-use Rattle.image_writer.proofs.writer.put_words.Statement.{statement}
+use Rattle.image_writer.proofs.{LinksPut.{put-none, words-stop, words-turn, words-end, row-left-none, full-of}, writer.put_words.Statement.{statement}}
 use Rattle.image_writer.proofs.writer.put_words.Tie as tie
 
 abbrev Inv-loop : tie.InvT-loop

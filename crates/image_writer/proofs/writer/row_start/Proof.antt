@@ -1,9 +1,6 @@
 -- `writer::row_start` meets its contract: what is left of the row's own word above the radio, and the words after it, are the radios above.
-use mathlib.Core.Path.{refl, sym, _∙_}
-use native.Mathlib.Omega.{arith}
-use borrow.Author.Needs.{needs}
-use Rattle.image_writer.proofs.LinksPut.{row-left-is, links-row}
-use Rattle.image_writer.proofs.writer.row_start.Statement.{statement}
+use Rattle.lists.specs.Kit.{refl, sym, _∙_, arith, needs}
+use Rattle.image_writer.proofs.{LinksPut.{row-left-is, links-row}, writer.row_start.Statement.{statement}}
 use Rattle.image_writer.proofs.writer.row_start.Tie as tie
 
 row-word-requires : tie.Need-row-word-requires

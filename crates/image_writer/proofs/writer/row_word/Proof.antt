@@ -1,10 +1,6 @@
 -- `writer::row_word` meets its contract: the eight bytes are lent by themselves, so that no test of their place is left.
-use mathlib.Core.Path.{_∙_}
-use Prim.Native.Nat.{_+_, _*_, _-_}
-use native.Mathlib.Omega.{arith}
-use borrow.Author.Needs.{needs}
-use Rattle.image_writer.proofs.LinksPut.{word-of-part}
-use Rattle.image_writer.proofs.writer.row_word.Statement.{statement}
+use Rattle.lists.specs.Kit.{_∙_, _+_, _*_, _-_, arith, needs}
+use Rattle.image_writer.proofs.{LinksPut.{word-of-part}, writer.row_word.Statement.{statement}}
 use Rattle.image_writer.proofs.writer.row_word.Tie as tie
 
 returns : tie.Need-returns

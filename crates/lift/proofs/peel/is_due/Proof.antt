@@ -1,7 +1,6 @@
 -- `peel::is_due` meets its contract: the tests are the ones of `is-due`, in its order.
-use borrow.Author.Needs.{needs}
-use Rattle.lift.proofs.PeelLaws.{due-high, due-own, due-short, due-other}
-use Rattle.lift.proofs.peel.is_due.Statement.{statement}
+use Rattle.lists.specs.Kit.{needs}
+use Rattle.lift.proofs.{PeelLaws.{due-high, due-own, due-short, due-other}, peel.is_due.Statement.{statement}}
 use Rattle.lift.proofs.peel.is_due.Tie as tie
 
 pub is-due-spec : {M : Type 1} → statement M

@@ -1,7 +1,6 @@
 -- `peel::is_gone` meets its contract: its two tests in turn.
-use borrow.Author.Needs.{needs}
-use Rattle.lift.proofs.PeelLaws.{gone-taken, gone-short}
-use Rattle.lift.proofs.peel.is_gone.Statement.{statement}
+use Rattle.lists.specs.Kit.{needs}
+use Rattle.lift.proofs.{PeelLaws.{gone-taken, gone-short}, peel.is_gone.Statement.{statement}}
 use Rattle.lift.proofs.peel.is_gone.Tie as tie
 
 pub is-gone-spec : {M : Type 1} → statement M

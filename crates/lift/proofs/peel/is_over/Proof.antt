@@ -1,7 +1,6 @@
 -- `peel::is_over` meets its contract: its two tests in turn.
-use borrow.Author.Needs.{needs}
-use Rattle.lift.proofs.PeelLaws.{over-gone, over-stop}
-use Rattle.lift.proofs.peel.is_over.Statement.{statement}
+use Rattle.lists.specs.Kit.{needs}
+use Rattle.lift.proofs.{PeelLaws.{over-gone, over-stop}, peel.is_over.Statement.{statement}}
 use Rattle.lift.proofs.peel.is_over.Tie as tie
 
 pub is-over-spec : {M : Type 1} → statement M

@@ -1,12 +1,6 @@
 -- `peel::lower` meets its contract: the listed radios from place i on are left (`Lowering`). The measure is the radios that are left.
-use mathlib.Core.Path.{_≡_, sym, _∙_}
-use Prim.Native.Nat.{_-_}
-use native.Mathlib.Omega.{arith}
-use lib.ListN.{take, getD}
-use lib.Seq.{length-take-le, getD-take}
-use borrow.Author.Needs.{needs}
-use Rattle.lift.proofs.PeelLaws.{Lowering, lowering-none, lowering-turn, lowering-end}
-use Rattle.lift.proofs.peel.lower.Statement.{statement}
+use Rattle.lists.specs.Kit.{_≡_, sym, _∙_, _-_, arith, take, getD, length-take-le, getD-take, needs}
+use Rattle.lift.proofs.{PeelLaws.{Lowering, lowering-none, lowering-turn, lowering-end}, peel.lower.Statement.{statement}}
 use Rattle.lift.proofs.peel.lower.Tie as tie
 
 abbrev Inv-loop : tie.InvT-loop

@@ -1,9 +1,6 @@
 -- `peel::lower_one` meets its contract: of a radio that is left the counter falls by one, and the test says whether it is due.
-use mathlib.Core.Path.{sym, _∙_}
-use Rattle.lists.proofs.Tests.{cond-true, cond-false}
-use borrow.Author.Needs.{needs}
-use Rattle.lift.proofs.PeelLaws.{lowered-gone, lowered-one}
-use Rattle.lift.proofs.peel.lower_one.Statement.{statement}
+use Rattle.lists.{specs.Kit.{sym, _∙_, needs}, proofs.Tests.{cond-true, cond-false}}
+use Rattle.lift.proofs.{PeelLaws.{lowered-gone, lowered-one}, peel.lower_one.Statement.{statement}}
 use Rattle.lift.proofs.peel.lower_one.Tie as tie
 
 returns : tie.Need-returns

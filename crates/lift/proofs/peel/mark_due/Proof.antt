@@ -1,17 +1,8 @@
 -- `peel::mark_due` meets its contract: of the radios below v, those that are due are in the set (`Putting`). The measure is the radios left.
-use mathlib.Core.Path.{_≡_, sym, _∙_}
-use mathlib.Core.Logic.{⊎-elim}
-use mathlib.Core.Bool.{true, cond}
-use Prim.Native.Nat.{_-_}
-use native.Mathlib.Omega.{arith}
-use lib.ListN.{length-replicate}
-use borrow.Author.Needs.{needs}
-use Rattle.lists.proofs.Tests.{cond-true, cond-false}
-use Rattle.mesh.specs.Limits.{max-radios}
-use Rattle.mesh.specs.Tables.{put-bit}
+use Rattle.lists.{specs.Kit.{_≡_, sym, _∙_, ⊎-elim, true, cond, _-_, arith, needs}, proofs.Tests.{cond-true, cond-false}}
+use Rattle.mesh.specs.{Limits.{max-radios}, Tables.{put-bit}}
 use Rattle.lift.specs.Peels.{is-due}
-use Rattle.lift.proofs.PeelLaws.{Putting, putting-none, putting-turn, putting-end}
-use Rattle.lift.proofs.peel.mark_due.Statement.{statement}
+use Rattle.lift.proofs.{PeelLaws.{Putting, putting-none, putting-turn, putting-end}, peel.mark_due.Statement.{statement}}
 use Rattle.lift.proofs.peel.mark_due.Tie as tie
 
 abbrev Inv-loop : tie.InvT-loop

@@ -1,12 +1,8 @@
 -- `peel::peel` meets its contract: before each turn it is not over and v is the first radio due (`Peeling-on`). The measure is the radios left.
-use mathlib.Core.Path.{_≡_, sym, _∙_}
-use native.Mathlib.Omega.{arith}
-use borrow.Author.Needs.{needs}
-use Rattle.lists.specs.Lists.{count, range}
+use Rattle.lists.specs.{Kit.{sym, _∙_, arith, needs}, Lists.{count, range}}
 use Rattle.mesh.specs.Limits.{max-radios}
 use Rattle.lifting.specs.Peeling.{left}
-use Rattle.lift.proofs.PeelSteps.{first-due, inside-left, Peeling-on, peel-starts, peel-over, peel-on, peel-done}
-use Rattle.lift.proofs.peel.peel.Statement.{statement}
+use Rattle.lift.proofs.{PeelSteps.{first-due, inside-left, Peeling-on, peel-starts, peel-over, peel-on, peel-done}, peel.peel.Statement.{statement}}
 use Rattle.lift.proofs.peel.peel.Tie as tie
 
 abbrev Inv-loop : tie.InvT-loop

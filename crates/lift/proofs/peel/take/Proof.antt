@@ -1,16 +1,9 @@
 -- `peel::take` meets its contract: its counter grows, the listed neighbours are the radio's own, and they are lowered (`state-takes`).
-use mathlib.Core.Path.{refl, sym, ap, subst, _∙_}
-use Prim.Native.Nat.{_+_}
-use native.Mathlib.Omega.{arith}
-use lib.ListN.{length, getD, replicate, length-set}
-use borrow.Author.Needs.{needs}
-use Rattle.lists.specs.Facts.{Distinct}
-use Rattle.lists.specs.Lists.{Entries-below}
-use Rattle.mesh.specs.Limits.{max-radios, max-neighbours}
-use Rattle.mesh.proofs.Tables.Laws.{length-put-bit}
+use Rattle.lists.specs.{Kit.{refl, sym, ap, subst, _∙_, _+_, arith, length, getD, replicate, length-set, needs}, Facts.{Distinct}, Lists.{Entries-below}}
+use Rattle.mesh.{specs.Limits.{max-radios, max-neighbours}, proofs.Tables.Laws.{length-put-bit}}
 use Rattle.rows.proofs.RowListLaws.{distinct-neighbours-of}
-use Rattle.lift.proofs.PeelSteps.{own-radio, own-small, own-long, row-taken, neighbours-below, state-takes, state-fewer}
-use Rattle.lift.proofs.peel.take.Statement.{statement}
+use Rattle.lift.proofs.{PeelSteps.{own-radio, own-small, own-long, row-taken, neighbours-below, state-takes, state-fewer}}
+use Rattle.lift.proofs.{peel.take.Statement.{statement}}
 use Rattle.lift.proofs.peel.take.Tie as tie
 
 add-counters : tie.Need-add-counters

@@ -1,7 +1,6 @@
 -- `search::begins_tight` meets its contract: the test picks the end that stands first.
-use borrow.Author.Needs.{needs}
-use Rattle.lift.proofs.OrderLaws.{first-second, first-own}
-use Rattle.lift.proofs.search.begins_tight.Statement.{statement}
+use Rattle.lists.specs.Kit.{needs}
+use Rattle.lift.proofs.{OrderLaws.{first-second, first-own}, search.begins_tight.Statement.{statement}}
 use Rattle.lift.proofs.search.begins_tight.Tie as tie
 
 pub begins-tight-spec : {M : Type 1} → statement M

@@ -1,14 +1,7 @@
 -- `search::count_later` meets its contract: of the first i radios so many stand later (`Later-counting`). The measure is the ones left.
-use mathlib.Core.Path.{sym}
-use Prim.Native.Nat.{_-_}
-use native.Mathlib.Omega.{arith}
-use lib.Dec.{ltb}
-use lib.ListN.{getD, take}
-use lib.Seq.{length-take-le, getD-take}
-use borrow.Author.Needs.{needs}
+use Rattle.lists.specs.Kit.{sym, _-_, arith, ltb, getD, take, length-take-le, getD-take, needs}
 use Rattle.soundness.proofs.Tallies.{count-fits}
-use Rattle.lift.proofs.OrderLaws.{Later-counting, later-none, later-turn, later-end}
-use Rattle.lift.proofs.search.count_later.Statement.{statement}
+use Rattle.lift.proofs.{OrderLaws.{Later-counting, later-none, later-turn, later-end}, search.count_later.Statement.{statement}}
 use Rattle.lift.proofs.search.count_later.Tie as tie
 
 abbrev Inv-loop : tie.InvT-loop

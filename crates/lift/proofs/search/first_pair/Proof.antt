@@ -1,14 +1,8 @@
 -- `search::first_pair` meets its contract: no pair whose lower radio is below a lifts r. The measure is the radios left.
-use Prim.Native.Nat.{_-_, _≤_}
-use native.Mathlib.Omega.{arith}
-use lib.ListN.{length}
-use borrow.Author.Needs.{needs}
-use Rattle.lifting.specs.Search.{None-below}
-use Rattle.lifting.proofs.Search.{none-start}
+use Rattle.lists.specs.Kit.{_-_, _≤_, arith, length, needs}
+use Rattle.lifting.{specs.Search.{None-below}, proofs.Search.{none-start}}
 use Rattle.lift.specs.Peels.{graph-of}
-use Rattle.lift.proofs.TrySteps.{site-small}
-use Rattle.lift.proofs.SearchSteps.{pair-some, pair-next, pair-none}
-use Rattle.lift.proofs.search.first_pair.Statement.{statement}
+use Rattle.lift.proofs.{TrySteps.{site-small}, SearchSteps.{pair-some, pair-next, pair-none}, search.first_pair.Statement.{statement}}
 use Rattle.lift.proofs.search.first_pair.Tie as tie
 
 abbrev Inv-loop : tie.InvT-loop

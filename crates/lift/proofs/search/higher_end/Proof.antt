@@ -1,17 +1,10 @@
 -- `search::higher_end` meets its contract: a has no candidates, or of its pairs only untried ones can lift r, b the lowest (`Settled`). The
 -- measure is the untried radios.
-use mathlib.Core.Path.{_≡_, sym, _∙_}
-use native.Mathlib.Omega.{arith}
-use lib.ListN.{length, getD}
-use borrow.Author.Needs.{needs}
-use borrow.Author.Tests.{not-true, not-false}
-use Rattle.lists.specs.Lists.{count, range}
-use Rattle.mesh.specs.Limits.{max-radios, row-bytes}
-use Rattle.mesh.specs.Tables.{marked}
+use Rattle.lists.specs.{Kit.{_≡_, sym, _∙_, arith, length, getD, needs, not-true, not-false}, Lists.{count, range}}
+use Rattle.mesh.specs.{Limits.{max-radios, row-bytes}, Tables.{marked}}
 use Rattle.lift.specs.Tries.{Settled}
-use Rattle.lift.proofs.TrySteps.{site-small, settling-start}
-use Rattle.lift.proofs.SearchSteps.{end-closed, end-empty, end-number, trying-start, end-found, end-none, settling-next}
-use Rattle.lift.proofs.search.higher_end.Statement.{statement}
+use Rattle.lift.proofs.{TrySteps.{site-small, settling-start}, SearchSteps.{end-closed, end-empty, end-number, trying-start, end-found, end-none}}
+use Rattle.lift.proofs.{SearchSteps.{settling-next}, search.higher_end.Statement.{statement}}
 use Rattle.lift.proofs.search.higher_end.Tie as tie
 
 abbrev Inv-loop : tie.InvT-loop

@@ -1,8 +1,6 @@
 -- `search::is_tight` meets its contract: its tests are the ones of `is-tight`, in its order.
-use native.Mathlib.Omega.{arith}
-use borrow.Author.Needs.{needs}
-use Rattle.lift.proofs.OrderLaws.{tight-other, tight-late, tight-test, places-links, places-radios}
-use Rattle.lift.proofs.search.is_tight.Statement.{statement}
+use Rattle.lists.specs.Kit.{arith, needs}
+use Rattle.lift.proofs.{OrderLaws.{tight-other, tight-late, tight-test, places-links, places-radios}, search.is_tight.Statement.{statement}}
 use Rattle.lift.proofs.search.is_tight.Tie as tie
 
 shared-slice-read-if2 : tie.Need-shared-slice-read-if2

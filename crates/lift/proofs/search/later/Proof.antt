@@ -1,12 +1,7 @@
 -- `search::later` meets its contract: the row's neighbours are listed, and the later ones counted.
-use native.Mathlib.Omega.{arith}
-use mathlib.Core.Path.{refl}
-use lib.ListN.{replicate}
-use borrow.Author.Needs.{needs}
+use Rattle.lists.specs.Kit.{arith, refl, replicate, needs}
 use Rattle.mesh.specs.Limits.{max-neighbours}
-use Rattle.lift.proofs.PeelSteps.{row-taken}
-use Rattle.lift.proofs.OrderLaws.{near-placed, near-later}
-use Rattle.lift.proofs.search.later.Statement.{statement}
+use Rattle.lift.proofs.{PeelSteps.{row-taken}, OrderLaws.{near-placed, near-later}, search.later.Statement.{statement}}
 use Rattle.lift.proofs.search.later.Tie as tie
 
 count-later-requires : tie.Need-count-later-requires

@@ -1,14 +1,8 @@
 -- `search::mark_ends` meets its contract: the radios below c are marked where the pair may lift (`Marking`). The measure is the radios left.
-use mathlib.Core.Path.{_∙_, ap}
-use mathlib.Core.Bool.{Bool}
-use Prim.Native.Nat.{_-_, _≤_}
-use native.Mathlib.Omega.{arith}
-use lib.ListN.{length}
+use Rattle.lists.specs.Kit.{_∙_, ap, Bool, _-_, _≤_, arith, length, needs}
 use Rattle.mesh.specs.Tables.{put-bit}
 use Rattle.lift.specs.Search.{may-lift}
-use Rattle.lift.proofs.PeelLaws.{Marking, marking-none, marking-turn}
-use borrow.Author.Needs.{needs}
-use Rattle.lift.proofs.search.mark_ends.Statement.{statement}
+use Rattle.lift.proofs.{PeelLaws.{Marking, marking-none, marking-turn}, search.mark_ends.Statement.{statement}}
 use Rattle.lift.proofs.search.mark_ends.Tie as tie
 
 abbrev Inv-loop : tie.InvT-loop

@@ -1,14 +1,8 @@
 -- `search::mark_free` meets its contract: the radios below v are marked where they may be ends (`Marking`). The measure is the radios left.
-use mathlib.Core.Path.{_∙_, ap}
-use mathlib.Core.Bool.{Bool}
-use Prim.Native.Nat.{_-_}
-use native.Mathlib.Omega.{arith}
-use lib.ListN.{length}
+use Rattle.lists.specs.Kit.{_∙_, ap, Bool, _-_, arith, length, needs}
 use Rattle.mesh.specs.Tables.{put-bit}
 use Rattle.lift.specs.Search.{is-free}
-use Rattle.lift.proofs.PeelLaws.{Marking, marking-none, marking-turn}
-use borrow.Author.Needs.{needs}
-use Rattle.lift.proofs.search.mark_free.Statement.{statement}
+use Rattle.lift.proofs.{PeelLaws.{Marking, marking-none, marking-turn}, search.mark_free.Statement.{statement}}
 use Rattle.lift.proofs.search.mark_free.Tie as tie
 
 abbrev Inv-loop : tie.InvT-loop

@@ -1,14 +1,8 @@
 -- `search::mark_tight` meets its contract: the radios below v are marked where a pair may begin (`Marking`). The measure is the radios left.
-use mathlib.Core.Path.{_≡_, _∙_, ap, refl}
-use mathlib.Core.Bool.{Bool}
-use Prim.Native.Nat.{_-_}
-use native.Mathlib.Omega.{arith}
-use lib.ListN.{length, getD}
+use Rattle.lists.specs.Kit.{_≡_, _∙_, ap, refl, Bool, _-_, arith, length, getD, needs}
 use Rattle.mesh.specs.Tables.{put-bit}
 use Rattle.lift.specs.Search.{is-tight}
-use Rattle.lift.proofs.PeelLaws.{Marking, marking-none, marking-turn}
-use borrow.Author.Needs.{needs}
-use Rattle.lift.proofs.search.mark_tight.Statement.{statement}
+use Rattle.lift.proofs.{PeelLaws.{Marking, marking-none, marking-turn}, search.mark_tight.Statement.{statement}}
 use Rattle.lift.proofs.search.mark_tight.Tie as tie
 
 abbrev Inv-loop : tie.InvT-loop

@@ -1,7 +1,6 @@
 -- `search::may_lift` meets its contract: its tests are the ones of `may-lift`, in its order.
-use Rattle.lift.proofs.SearchLaws.{lift-low, lift-full, lift-other, lift-test}
-use borrow.Author.Needs.{needs}
-use Rattle.lift.proofs.search.may_lift.Statement.{statement}
+use Rattle.lists.specs.Kit.{needs}
+use Rattle.lift.proofs.{SearchLaws.{lift-low, lift-full, lift-other, lift-test}, search.may_lift.Statement.{statement}}
 use Rattle.lift.proofs.search.may_lift.Tie as tie
 
 pub may-lift-spec : {M : Type 1} → statement M

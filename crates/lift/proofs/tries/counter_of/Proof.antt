@@ -1,7 +1,6 @@
 -- `tries::counter_of` meets its contract: each return is a case of `counter-start`.
-use Rattle.lift.proofs.TryLaws.{start-past, start-other, start-own}
-use borrow.Author.Needs.{needs}
-use Rattle.lift.proofs.tries.counter_of.Statement.{statement}
+use Rattle.lists.specs.Kit.{needs}
+use Rattle.lift.proofs.{TryLaws.{start-past, start-other, start-own}, tries.counter_of.Statement.{statement}}
 use Rattle.lift.proofs.tries.counter_of.Tie as tie
 
 returns : tie.Need-returns

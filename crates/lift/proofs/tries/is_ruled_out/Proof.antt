@@ -1,8 +1,6 @@
 -- `tries::is_ruled_out` meets its contract: each return is a case of `ruled-out`.
-use native.Mathlib.Omega.{arith}
-use Rattle.lift.proofs.TryLaws.{ruled-above, ruled-left, ruled-taken}
-use borrow.Author.Needs.{needs}
-use Rattle.lift.proofs.tries.is_ruled_out.Statement.{statement}
+use Rattle.lists.specs.Kit.{arith, needs}
+use Rattle.lift.proofs.{TryLaws.{ruled-above, ruled-left, ruled-taken}, tries.is_ruled_out.Statement.{statement}}
 use Rattle.lift.proofs.tries.is_ruled_out.Tie as tie
 
 pub is-ruled-out-spec : {M : Type 1} → statement M

@@ -1,12 +1,8 @@
 -- `tries::lifts` meets its contract: the peel goes through with both ends (`tried-found`), or what it took rules the pair out (`tried-not`).
-use mathlib.Core.Path.{_∙_}
-use native.Mathlib.Omega.{arith}
-use lib.ListN.{replicate}
-use borrow.Author.Needs.{needs}
-use Rattle.lists.proofs.Overwrite.{overwrite-take}
+use Rattle.lists.{specs.Kit.{_∙_, arith, replicate, needs}, proofs.Overwrite.{overwrite-take}}
 use Rattle.mesh.specs.Limits.{max-radios}
-use Rattle.lift.proofs.TrySteps.{site-links, site-small, settled-radio, settled-small, pair-begin, tried-found, tried-not}
-use Rattle.lift.proofs.tries.lifts.Statement.{statement}
+use Rattle.lift.proofs.{TrySteps.{site-links, site-small, settled-radio, settled-small, pair-begin, tried-found, tried-not}}
+use Rattle.lift.proofs.{tries.lifts.Statement.{statement}}
 use Rattle.lift.proofs.tries.lifts.Tie as tie
 
 stop-of-requires : tie.Need-stop-of-requires

@@ -1,6 +1,5 @@
 -- `tries::peel_around` meets its contract: the radios due are marked, and the peel begins.
-use mathlib.Core.Path.{refl}
-use borrow.Author.Needs.{needs}
+use Rattle.lists.specs.Kit.{refl, needs}
 use Rattle.lift.proofs.tries.peel_around.Statement.{statement}
 use Rattle.lift.proofs.tries.peel_around.Tie as tie
 

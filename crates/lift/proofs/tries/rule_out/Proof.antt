@@ -1,15 +1,7 @@
 -- `tries::rule_out` meets its contract: the radios below c are ruled out or stay (`Ruling`). The measure is the radios left.
-use mathlib.Core.Path.{_≡_, sym, _∙_}
-use mathlib.Core.Logic.{⊎-elim}
-use mathlib.Core.Bool.{false, cond}
-use Prim.Native.Nat.{_-_, _≤_}
-use native.Mathlib.Omega.{arith}
-use lib.ListN.{length}
-use Rattle.lists.proofs.Tests.{cond-true, cond-false}
+use Rattle.lists.{specs.Kit.{_≡_, sym, _∙_, ⊎-elim, false, cond, _-_, _≤_, arith, length, needs}, proofs.Tests.{cond-true, cond-false}}
 use Rattle.mesh.specs.Tables.{put-bit}
-use Rattle.lift.proofs.TryLaws.{Ruling, ruling-none, ruling-turn, ruling-end}
-use borrow.Author.Needs.{needs}
-use Rattle.lift.proofs.tries.rule_out.Statement.{statement}
+use Rattle.lift.proofs.{TryLaws.{Ruling, ruling-none, ruling-turn, ruling-end}, tries.rule_out.Statement.{statement}}
 use Rattle.lift.proofs.tries.rule_out.Tie as tie
 
 abbrev Inv-loop : tie.InvT-loop

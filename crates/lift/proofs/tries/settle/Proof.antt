@@ -1,12 +1,7 @@
 -- `tries::settle` meets its contract: the peel shows that no pair of a lifts r (`settled-none`), or some untried radios are ruled out
 -- (`settled-some`).
-use mathlib.Core.Path.{_≡_, refl, sym, _∙_}
-use native.Mathlib.Omega.{arith}
-use borrow.Author.Needs.{needs}
-use borrow.Author.Tests.{not-true, not-false}
-use Rattle.lists.proofs.Tests.{never}
-use Rattle.lift.proofs.TrySteps.{site-links, site-small, settled-none, settled-some, ruled-fewer}
-use Rattle.lift.proofs.tries.settle.Statement.{statement}
+use Rattle.lists.{specs.Kit.{refl, sym, _∙_, arith, needs, not-true, not-false}, proofs.Tests.{never}}
+use Rattle.lift.proofs.{TrySteps.{site-links, site-small, settled-none, settled-some, ruled-fewer}, tries.settle.Statement.{statement}}
 use Rattle.lift.proofs.tries.settle.Tie as tie
 
 peel-around-requires : tie.Need-peel-around-requires

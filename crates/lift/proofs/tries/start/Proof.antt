@@ -1,10 +1,7 @@
 -- `tries::start` meets its contract: the counters of the radios below v stand (`Starting`). The measure is the radios left.
-use Prim.Native.Nat.{_-_}
-use native.Mathlib.Omega.{arith}
+use Rattle.lists.specs.Kit.{_-_, arith, needs}
 use Rattle.mesh.specs.Limits.{max-radios}
-use Rattle.lift.proofs.TryLaws.{Starting, starting-none, starting-turn, starting-end}
-use borrow.Author.Needs.{needs}
-use Rattle.lift.proofs.tries.start.Statement.{statement}
+use Rattle.lift.proofs.{TryLaws.{Starting, starting-none, starting-turn, starting-end}, tries.start.Statement.{statement}}
 use Rattle.lift.proofs.tries.start.Tie as tie
 
 abbrev Inv-loop : tie.InvT-loop

@@ -1,10 +1,7 @@
 -- `apply::apply` meets its contract: a plan that does not fit touches nothing, and of one that fits each table is written by one call.
-use mathlib.Core.Path.{sym, _∙_}
-use borrow.Author.Tests.{not-true, not-false}
-use borrow.Author.Needs.{needs}
+use Rattle.lists.specs.Kit.{sym, _∙_, not-true, not-false, needs}
 use Rattle.mesh.specs.Tables.{tables}
-use Rattle.links.proofs.ChangeLaws.{stepped-held, unapplied, applied}
-use Rattle.links.proofs.apply.apply.Statement.{statement}
+use Rattle.links.proofs.{ChangeLaws.{stepped-held, unapplied, applied}, apply.apply.Statement.{statement}}
 use Rattle.links.proofs.apply.apply.Tie as tie
 
 returns : tie.Need-returns

@@ -1,7 +1,6 @@
 -- `apply::fits` meets its contract: each test settles one part of `plan-fits`.
-use native.Mathlib.Omega.{arith}
-use Rattle.links.proofs.ChangeLaws.{fits-taken, fits-stretch, fits-none, fits-order}
-use Rattle.links.proofs.apply.fits.Statement.{statement}
+use Rattle.lists.specs.Kit.{arith}
+use Rattle.links.proofs.{ChangeLaws.{fits-taken, fits-stretch, fits-none, fits-order}, apply.fits.Statement.{statement}}
 use Rattle.links.proofs.apply.fits.Tie as tie
 
 returns : tie.Need-returns

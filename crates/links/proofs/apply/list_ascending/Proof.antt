@@ -1,13 +1,7 @@
 -- `apply::list_ascending` meets its contract: the radios marked in an empty row are listed by it, ascending.
-use mathlib.Core.Path.{refl, ap, _∙_}
-use mathlib.Core.List.{List}
-use Prim.Native.Nat.{ℕ}
-use lib.ListN.{length, take}
-use borrow.Author.Needs.{needs}
-use Rattle.lists.specs.Lists.{overwrite}
+use Rattle.lists.specs.{Kit.{refl, ap, _∙_, List, ℕ, length, take, needs}, Lists.{overwrite}}
 use Rattle.rows.specs.Rows.{row-listed}
-use Rattle.links.proofs.Marking.{row-listed-all-marked}
-use Rattle.links.proofs.apply.list_ascending.Statement.{statement}
+use Rattle.links.proofs.{Marking.{row-listed-all-marked}, apply.list_ascending.Statement.{statement}}
 use Rattle.links.proofs.apply.list_ascending.Tie as tie
 
 returns : tie.Need-returns

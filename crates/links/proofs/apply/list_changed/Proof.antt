@@ -1,13 +1,7 @@
 -- `apply::list_changed` meets its contract: each way lists the changed part of the stretch.
-use mathlib.Core.Path.{ap, _∙_}
-use mathlib.Core.List.{List}
-use Prim.Native.Nat.{ℕ}
-use lib.ListN.{length, take}
-use borrow.Author.Needs.{needs}
-use Rattle.lists.specs.Lists.{overwrite}
+use Rattle.lists.specs.{Kit.{ap, _∙_, List, ℕ, length, take, needs}, Lists.{overwrite}}
 use Rattle.links.specs.Changes.{in-order}
-use Rattle.links.proofs.ChangeLaws.{changed-up, changed-down}
-use Rattle.links.proofs.apply.list_changed.Statement.{statement}
+use Rattle.links.proofs.{ChangeLaws.{changed-up, changed-down}, apply.list_changed.Statement.{statement}}
 use Rattle.links.proofs.apply.list_changed.Tie as tie
 
 returns : tie.Need-returns

@@ -1,13 +1,7 @@
 -- `apply::list_part` meets its contract: what it cuts out of the stretch is listed.
-use mathlib.Core.Path.{sym, ap, _∙_}
-use mathlib.Core.List.{List}
-use Prim.Native.Nat.{ℕ}
-use lib.ListN.{length, take}
-use borrow.Author.Needs.{needs}
-use Rattle.lists.specs.Lists.{overwrite}
+use Rattle.lists.specs.{Kit.{sym, ap, _∙_, List, ℕ, length, take, needs}, Lists.{overwrite}}
 use Rattle.links.specs.Changes.{in-order}
-use Rattle.links.proofs.ChangeLaws.{part-cut}
-use Rattle.links.proofs.apply.list_part.Statement.{statement}
+use Rattle.links.proofs.{ChangeLaws.{part-cut}, apply.list_part.Statement.{statement}}
 use Rattle.links.proofs.apply.list_part.Tie as tie
 
 returns : tie.Need-returns

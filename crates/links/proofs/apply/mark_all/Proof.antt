@@ -1,13 +1,7 @@
 -- `apply::mark_all` meets its contract: what is left of the list marks the row to what the whole list marks it to.
 -- The measure is what is left of the list.
-use mathlib.Core.Bool.{true}
-use Prim.Native.Nat.{_-_}
-use native.Mathlib.Omega.{arith}
-use lib.ListN.{length}
-use borrow.Author.Needs.{needs}
-use Rattle.lists.proofs.Loops.{Folding, folding-none, folding-turn, folding-end, folding-long}
-use Rattle.mesh.specs.Tables.{put-bit}
-use Rattle.mesh.proofs.Tables.Laws.{length-put-bit}
+use Rattle.lists.{specs.Kit.{true, _-_, arith, length, needs}, proofs.Loops.{Folding, folding-none, folding-turn, folding-end, folding-long}}
+use Rattle.mesh.{specs.Tables.{put-bit}, proofs.Tables.Laws.{length-put-bit}}
 use Rattle.links.specs.Changes.{all-marked}
 use Rattle.links.proofs.apply.mark_all.Statement.{statement}
 use Rattle.links.proofs.apply.mark_all.Tie as tie

@@ -1,6 +1,5 @@
 -- `apply::put_before` meets its contract: the part of the order that is lent is as long as what is copied over it.
-use native.Mathlib.Omega.{arith}
-use borrow.Author.Needs.{needs}
+use Rattle.lists.specs.Kit.{arith, needs}
 use Rattle.plan.proofs.Pasted.{put-part}
 use Rattle.links.proofs.apply.put_before.Statement.{statement}
 use Rattle.links.proofs.apply.put_before.Tie as tie

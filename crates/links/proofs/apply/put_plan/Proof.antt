@@ -1,7 +1,6 @@
 -- `apply::put_plan` meets its contract: each table is written by one call.
-use borrow.Author.Needs.{needs}
-use Rattle.links.proofs.ChangeLaws.{fits-true, stepped-fits}
-use Rattle.links.proofs.apply.put_plan.Statement.{statement}
+use Rattle.lists.specs.Kit.{needs}
+use Rattle.links.proofs.{ChangeLaws.{fits-true, stepped-fits}, apply.put_plan.Statement.{statement}}
 use Rattle.links.proofs.apply.put_plan.Tie as tie
 
 put-stretch-requires : tie.Need-put-stretch-requires

@@ -1,10 +1,6 @@
 -- `apply::put_stretch` meets its contract: both parts of the stretch, one behind the other.
-use mathlib.Core.Path.{refl, sym}
-use native.Mathlib.Omega.{arith}
-use lib.Seq.{length-take-le}
-use borrow.Author.Needs.{needs}
-use Rattle.links.proofs.ChangeLaws.{paste-stretch}
-use Rattle.links.proofs.apply.put_stretch.Statement.{statement}
+use Rattle.lists.specs.Kit.{refl, sym, arith, length-take-le, needs}
+use Rattle.links.proofs.{ChangeLaws.{paste-stretch}, apply.put_stretch.Statement.{statement}}
 use Rattle.links.proofs.apply.put_stretch.Tie as tie
 
 slice-aggregate-put-before : tie.Need-slice-aggregate-put-before

@@ -1,8 +1,6 @@
 -- `apply::report` meets its contract: the radios are listed by one call, and the step is that of their count.
-use mathlib.Core.Path.{refl}
-use borrow.Author.Needs.{needs}
-use Rattle.links.proofs.ChangeLaws.{counted-step-held}
-use Rattle.links.proofs.apply.report.Statement.{statement}
+use Rattle.lists.specs.Kit.{refl, needs}
+use Rattle.links.proofs.{ChangeLaws.{counted-step-held}, apply.report.Statement.{statement}}
 use Rattle.links.proofs.apply.report.Tie as tie
 
 returns : tie.Need-returns

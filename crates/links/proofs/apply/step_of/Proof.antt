@@ -1,6 +1,5 @@
 -- `apply::step_of` meets its contract: a count of 0, a way up, or a way down.
-use Rattle.links.proofs.ChangeLaws.{counted-step-none, counted-step-up, counted-step-down}
-use Rattle.links.proofs.apply.step_of.Statement.{statement}
+use Rattle.links.proofs.{ChangeLaws.{counted-step-none, counted-step-up, counted-step-down}, apply.step_of.Statement.{statement}}
 use Rattle.links.proofs.apply.step_of.Tie as tie
 
 pub step-of-spec : {M : Type 1} → statement M

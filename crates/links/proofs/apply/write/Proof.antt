@@ -1,10 +1,7 @@
 -- `apply::write` meets its contract: a plan that does not fit touches nothing.
-use mathlib.Core.Path.{sym, _∙_}
-use borrow.Author.Tests.{not-true, not-false}
-use borrow.Author.Needs.{needs}
+use Rattle.lists.specs.Kit.{sym, _∙_, not-true, not-false, needs}
 use Rattle.mesh.specs.Tables.{tables}
-use Rattle.links.proofs.ChangeLaws.{stepped-fits, unwritten, written}
-use Rattle.links.proofs.apply.write.Statement.{statement}
+use Rattle.links.proofs.{ChangeLaws.{stepped-fits, unwritten, written}, apply.write.Statement.{statement}}
 use Rattle.links.proofs.apply.write.Tie as tie
 
 returns : tie.Need-returns

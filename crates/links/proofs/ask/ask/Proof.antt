@@ -1,9 +1,7 @@
 -- `ask::ask` meets its contract: a refusal touches nothing but scratch, and the plan of an accepted call is reported.
-use mathlib.Core.Path.{refl, sym}
-use borrow.Author.Needs.{needs}
+use Rattle.lists.specs.Kit.{refl, sym, needs}
 use Rattle.mesh.specs.Tables.{tables}
-use Rattle.links.proofs.ProposalLaws.{ask-refused, ask-accepted}
-use Rattle.links.proofs.ask.ask.Statement.{statement}
+use Rattle.links.proofs.{ProposalLaws.{ask-refused, ask-accepted}, ask.ask.Statement.{statement}}
 use Rattle.links.proofs.ask.ask.Tie as tie
 
 returns : tie.Need-returns

@@ -1,9 +1,7 @@
 -- `batch::batch` meets its contract: a refusal by 1 to 3 touches nothing but scratch; else the links are taken up.
-use mathlib.Core.Path.{refl}
-use borrow.Author.Needs.{needs}
+use Rattle.lists.specs.Kit.{refl, needs}
 use Rattle.mesh.specs.Tables.{tables}
-use Rattle.links.proofs.BatchLaws.{batch-refused, batch-ready, batch-carried}
-use Rattle.links.proofs.batch.batch.Statement.{statement}
+use Rattle.links.proofs.{BatchLaws.{batch-refused, batch-ready, batch-carried}, batch.batch.Statement.{statement}}
 use Rattle.links.proofs.batch.batch.Tie as tie
 
 returns : tie.Need-returns

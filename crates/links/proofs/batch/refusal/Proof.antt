@@ -1,10 +1,8 @@
 -- `batch::refusal` meets its contract: the tests are the questions, in their order, and the check finds what the first link needs.
-use borrow.Author.Tests.{not-true, not-false}
-use borrow.Author.Needs.{needs}
+use Rattle.lists.specs.Kit.{not-true, not-false, needs}
 use Rattle.mesh.specs.Tables.{tables}
 use Rattle.calls.specs.Questions.{lengths-of}
-use Rattle.links.proofs.BatchLaws.{batch-lengths, batch-odd, batch-unsound, batch-sound}
-use Rattle.links.proofs.batch.refusal.Statement.{statement}
+use Rattle.links.proofs.{BatchLaws.{batch-lengths, batch-odd, batch-unsound, batch-sound}, batch.refusal.Statement.{statement}}
 use Rattle.links.proofs.batch.refusal.Tie as tie
 
 returns : tie.Need-returns

@@ -1,12 +1,9 @@
 -- `batch::take_links` meets its contract: what is left of the list gives, of the tables as they are, what the whole list gives of the
 -- tables as they were (`Batching`). The measure is what is left of the list.
-use Prim.Native.Nat.{_+_, _-_}
-use native.Mathlib.Omega.{arith}
-use lib.ListN.{length}
-use borrow.Author.Needs.{needs}
+use Rattle.lists.specs.Kit.{_+_, _-_, arith, length, needs}
 use Rattle.mesh.specs.Tables.{tables}
-use Rattle.links.proofs.BatchLaws.{same-lengths, Batching, batching-none, batching-fits, batching-place, batching-end, batching-pair, batching-turn, batching-halt}
-use Rattle.links.proofs.batch.take_links.Statement.{statement}
+use Rattle.links.proofs.{BatchLaws.{same-lengths, Batching, batching-none, batching-fits, batching-place, batching-end, batching-pair, batching-turn}}
+use Rattle.links.proofs.{BatchLaws.{batching-halt}, batch.take_links.Statement.{statement}}
 use Rattle.links.proofs.batch.take_links.Tie as tie
 
 abbrev Inv-loop : tie.InvT-loop

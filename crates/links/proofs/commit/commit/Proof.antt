@@ -1,16 +1,9 @@
 -- `commit::commit` meets its contract: a refusal touches nothing but scratch, by the questions of the link call or by 16, and the plan of an
 -- accepted call is applied.
-use mathlib.Core.Path.{refl, sym}
-use Prim.Native.Nat.{_≤_}
+use Rattle.lists.specs.Kit.{refl, sym, _≤_, arith, length, needs, not-true, not-false}
 use mir.Facts.{toZ-ofZ}
-use native.Mathlib.Omega.{arith}
-use lib.ListN.{length}
-use borrow.Author.Needs.{needs}
-use borrow.Author.Tests.{not-true, not-false}
-use Rattle.mesh.specs.Limits.{max-radios}
-use Rattle.mesh.specs.Tables.{tables}
-use Rattle.links.proofs.ProposalLaws.{commit-refused, commit-not, list-few, commit-accepted}
-use Rattle.links.proofs.commit.commit.Statement.{statement}
+use Rattle.mesh.specs.{Limits.{max-radios}, Tables.{tables}}
+use Rattle.links.proofs.{ProposalLaws.{commit-refused, commit-not, list-few, commit-accepted}, commit.commit.Statement.{statement}}
 use Rattle.links.proofs.commit.commit.Tie as tie
 
 returns : tie.Need-returns

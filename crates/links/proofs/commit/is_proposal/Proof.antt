@@ -1,9 +1,6 @@
 -- `commit::is_proposal` meets its contract: another step settles it, else the lists decide.
-use borrow.Author.Needs.{needs}
-use mathlib.Core.Path.{refl, sym, _∙_}
-use lib.Seq.{length-take-le}
-use Rattle.links.proofs.ProposalLaws.{count-fits, other-step, same-list}
-use Rattle.links.proofs.commit.is_proposal.Statement.{statement}
+use Rattle.lists.specs.Kit.{needs, refl, sym, _∙_, length-take-le}
+use Rattle.links.proofs.{ProposalLaws.{count-fits, other-step, same-list}, commit.is_proposal.Statement.{statement}}
 use Rattle.links.proofs.commit.is_proposal.Tie as tie
 
 returns : tie.Need-returns

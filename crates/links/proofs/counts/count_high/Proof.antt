@@ -1,16 +1,8 @@
 -- `counts::count_high` meets its contract: what is counted so far and what the listed radios from place i on come to is the whole
 -- count. The measure is the radios that are left.
-use mathlib.Core.Path.{_≡_}
-use Prim.Native.Nat.{ℕ, _-_, _≤_}
-use native.Mathlib.Omega.{arith}
-use lib.Dec.{leb}
-use lib.ListN.{length, getD, take}
-use lib.Seq.{length-take-le}
-use borrow.Author.Needs.{needs}
-use Rattle.lists.proofs.Loops.{Counted-from, counted-end}
+use Rattle.lists.{specs.Kit.{_≡_, ℕ, _-_, _≤_, arith, leb, length, getD, take, length-take-le, needs}, proofs.Loops.{Counted-from, counted-end}}
 use Rattle.plan.proofs.LevelCounts.{counted-byte}
-use Rattle.links.proofs.CountLaws.{counted-front}
-use Rattle.links.proofs.counts.count_high.Statement.{statement}
+use Rattle.links.proofs.{CountLaws.{counted-front}, counts.count_high.Statement.{statement}}
 use Rattle.links.proofs.counts.count_high.Tie as tie
 
 abbrev Inv-loop : tie.InvT-loop

@@ -1,10 +1,7 @@
 -- `counts::high_of` meets its contract: the list has room for the row, so all neighbours are counted.
-use mathlib.Core.Path.{refl}
-use lib.ListN.{length, replicate}
-use borrow.Author.Needs.{needs}
+use Rattle.lists.specs.Kit.{refl, length, replicate, needs}
 use Rattle.mesh.specs.Limits.{max-neighbours}
-use Rattle.links.proofs.CountLaws.{near-asked, high-listed}
-use Rattle.links.proofs.counts.high_of.Statement.{statement}
+use Rattle.links.proofs.{CountLaws.{near-asked, high-listed}, counts.high_of.Statement.{statement}}
 use Rattle.links.proofs.counts.high_of.Tie as tie
 
 count-high-requires : tie.Need-count-high-requires

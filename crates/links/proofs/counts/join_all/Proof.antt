@@ -1,13 +1,7 @@
 -- `counts::join_all` meets its contract: what is left of the list brings the set to what the whole list brings it to (`Joining`). The
 -- measure is the radios that are left.
-use mathlib.Core.Path.{sym}
-use Prim.Native.Nat.{_-_}
-use native.Mathlib.Omega.{arith}
-use lib.ListN.{take}
-use lib.Seq.{length-take-le, getD-take}
-use borrow.Author.Needs.{needs}
-use Rattle.links.proofs.CountLaws.{Joining, joining-none, joining-turn, joining-end}
-use Rattle.links.proofs.counts.join_all.Statement.{statement}
+use Rattle.lists.specs.Kit.{sym, _-_, arith, take, length-take-le, getD-take, needs}
+use Rattle.links.proofs.{CountLaws.{Joining, joining-none, joining-turn, joining-end}, counts.join_all.Statement.{statement}}
 use Rattle.links.proofs.counts.join_all.Tie as tie
 
 abbrev Inv-loop : tie.InvT-loop

@@ -1,7 +1,6 @@
 -- `counts::join_around` meets its contract: a radio put in, and its row.
-use borrow.Author.Needs.{needs}
-use Rattle.links.proofs.CountLaws.{joined-around}
-use Rattle.links.proofs.counts.join_around.Statement.{statement}
+use Rattle.lists.specs.Kit.{needs}
+use Rattle.links.proofs.{CountLaws.{joined-around}, counts.join_around.Statement.{statement}}
 use Rattle.links.proofs.counts.join_around.Tie as tie
 
 returns : tie.Need-returns

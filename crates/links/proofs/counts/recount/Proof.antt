@@ -1,11 +1,7 @@
 -- `counts::recount` meets its contract: the words of the set are counted one by one, and the radios from word k on bring the counts to what
 -- all of them bring them to (`Set-recounting`). The measure is the words that are left.
-use Prim.Native.Nat.{_-_}
-use native.Mathlib.Omega.{arith}
-use lib.ListN.{length}
-use borrow.Author.Needs.{needs}
-use Rattle.links.proofs.CountLaws.{Set-recounting, set-none, bits-known, set-turn, set-end}
-use Rattle.links.proofs.counts.recount.Statement.{statement}
+use Rattle.lists.specs.Kit.{_-_, arith, length, needs}
+use Rattle.links.proofs.{CountLaws.{Set-recounting, set-none, bits-known, set-turn, set-end}, counts.recount.Statement.{statement}}
 use Rattle.links.proofs.counts.recount.Tie as tie
 
 abbrev Inv-loop : tie.InvT-loop

@@ -1,14 +1,8 @@
 -- `counts::recount_word` meets its contract: each turn takes the lowest set bit off the word and counts its radio anew, and what is left of
 -- the set bits brings the counts to what all of them bring them to (`Word-recounting`). The measure is the word that is left.
-use mathlib.Core.Path.{ap}
-use Prim.Native.Nat.{ℕ, _+_, _-_}
-use native.Mathlib.Omega.{arith}
-use lib.Bits.{and-le-r}
-use lib.Count.{trailingZeros, trailing-le}
-use lib.ListN.{length, set}
-use borrow.Author.Needs.{needs}
-use Rattle.links.proofs.CountLaws.{recounting-none, Word-recounting, lowest-known, word-recounted, word-recounted-end}
-use Rattle.links.proofs.counts.recount_word.Statement.{statement}
+use Rattle.lists.specs.Kit.{ap, ℕ, _+_, _-_, arith, and-le-r, trailingZeros, trailing-le, length, set, needs}
+use Rattle.links.proofs.{CountLaws.{recounting-none, Word-recounting, lowest-known, word-recounted, word-recounted-end}}
+use Rattle.links.proofs.{counts.recount_word.Statement.{statement}}
 use Rattle.links.proofs.counts.recount_word.Tie as tie
 
 abbrev Inv-loop : tie.InvT-loop

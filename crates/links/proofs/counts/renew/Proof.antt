@@ -1,16 +1,8 @@
 -- `counts::renew` meets its contract: the set has the touched radios, which are all radios of the site.
-use mathlib.Core.Path.{sym, ap, subst, _∙_}
-use mathlib.Core.List.{List}
-use Prim.Native.Nat.{ℕ}
-use native.Mathlib.Omega.{arith}
-use lib.ListN.{length, take, length-take}
-use lib.Seq.{getD-take}
-use borrow.Author.Needs.{needs}
-use Rattle.lists.specs.Lists.{In}
+use Rattle.lists.specs.{Kit.{sym, ap, subst, _∙_, List, ℕ, arith, length, take, length-take, getD-take, needs}, Lists.{In}}
 use Rattle.rows.proofs.SetLaws.{length-put-in}
 use Rattle.links.specs.Steps.{recounted}
-use Rattle.links.proofs.CountLaws.{around-asked, touched-listed, touched-radio}
-use Rattle.links.proofs.counts.renew.Statement.{statement}
+use Rattle.links.proofs.{CountLaws.{around-asked, touched-listed, touched-radio}, counts.renew.Statement.{statement}}
 use Rattle.links.proofs.counts.renew.Tie as tie
 
 join-all-requires : tie.Need-join-all-requires

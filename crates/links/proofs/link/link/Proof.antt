@@ -1,10 +1,7 @@
 -- `link::link` meets its contract: a refusal touches nothing but scratch, and the plan of an accepted call is applied.
-use mathlib.Core.Path.{refl, sym}
-use native.Mathlib.Omega.{arith}
-use borrow.Author.Needs.{needs}
+use Rattle.lists.specs.Kit.{refl, sym, needs}
 use Rattle.mesh.specs.Tables.{tables}
-use Rattle.links.proofs.LinkCalls.{link-refused, link-accepted}
-use Rattle.links.proofs.link.link.Statement.{statement}
+use Rattle.links.proofs.{LinkCalls.{link-refused, link-accepted}, link.link.Statement.{statement}}
 use Rattle.links.proofs.link.link.Tie as tie
 
 returns : tie.Need-returns

@@ -1,9 +1,7 @@
 -- `step::change` meets its contract: the counters are a copy of the not-lower counts, so the plan can be made, and the changed radios have
 -- room.
-use mathlib.Core.Path.{refl, sym}
-use borrow.Author.Needs.{needs}
-use Rattle.links.proofs.StepLaws.{step-plan, step-changed}
-use Rattle.links.proofs.step.change.Statement.{statement}
+use Rattle.lists.specs.Kit.{refl, sym, needs}
+use Rattle.links.proofs.{StepLaws.{step-plan, step-changed}, step.change.Statement.{statement}}
 use Rattle.links.proofs.step.change.Tie as tie
 
 plan-link-requires : tie.Need-plan-link-requires

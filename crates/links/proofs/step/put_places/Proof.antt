@@ -1,13 +1,7 @@
 -- `step::put_places` meets its contract: what is left of the places brings the table to what all of them bring it to. The measure is the
 -- places that are left.
-use mathlib.Core.Path.{sym, ap}
-use Prim.Native.Nat.{ℕ, _+_, _-_}
-use native.Mathlib.Omega.{arith}
-use lib.ListN.{getD, set, length-set}
-use borrow.Author.Needs.{needs}
-use Rattle.lists.specs.Lists.{range}
-use Rattle.lists.proofs.Loops.{Folding, folding-none, folding-turn, folding-end, folding-long}
-use Rattle.lists.proofs.Range.{getD-range, length-range}
+use Rattle.lists.{specs.Kit.{sym, ap, ℕ, _+_, _-_, arith, getD, set, length-set, needs}, specs.Lists.{range}, proofs.Loops.{Folding, folding-none}}
+use Rattle.lists.{proofs.Loops.{folding-turn, folding-end, folding-long}, proofs.Range.{getD-range, length-range}}
 use Rattle.links.specs.Steps.{places-put}
 use Rattle.links.proofs.step.put_places.Statement.{statement}
 use Rattle.links.proofs.step.put_places.Tie as tie

@@ -1,9 +1,8 @@
 -- `step::step` meets its contract: a refusal touches nothing. Of the tables after the change the places are put where the order may be
 -- another, and the not-lower counts are found anew of the radios that the change touched.
-use mathlib.Core.Path.{refl}
-use borrow.Author.Needs.{needs}
-use Rattle.links.proofs.StepLaws.{step-asked, step-refused, step-ready, step-done, put-ready, renew-ready, step-carried}
-use Rattle.links.proofs.step.step.Statement.{statement}
+use Rattle.lists.specs.Kit.{refl, needs}
+use Rattle.links.proofs.{StepLaws.{step-asked, step-refused, step-ready, step-done, put-ready, renew-ready, step-carried}}
+use Rattle.links.proofs.{step.step.Statement.{statement}}
 use Rattle.links.proofs.step.step.Tie as tie
 
 ends-refusal-requires : tie.Need-ends-refusal-requires

@@ -1,8 +1,6 @@
 -- `names::is_alphanumeric` meets its contract: by the bounds of 0 to 9 and A to Z.
-use mathlib.Core.Path.{sym}
-use borrow.Author.Needs.{needs}
-use Rattle.marks.proofs.Left.{alphanumeric-low, alphanumeric-digit, alphanumeric-gap, alphanumeric-high}
-use Rattle.marks.proofs.names.is_alphanumeric.Statement.{statement}
+use Rattle.lists.specs.Kit.{sym}
+use Rattle.marks.proofs.{Left.{alphanumeric-low, alphanumeric-digit, alphanumeric-gap, alphanumeric-high}, names.is_alphanumeric.Statement.{statement}}
 use Rattle.marks.proofs.names.is_alphanumeric.Tie as tie
 
 returns : tie.Need-returns

@@ -1,12 +1,7 @@
 -- `names::is_before` meets its contract: the bytes passed are equal, so what is left decides. The measure is what is left of a.
-use mathlib.Core.Path.{_≡_, refl, sym}
-use Prim.Native.Nat.{_-_}
-use native.Mathlib.Omega.{arith}
-use lib.ListN.{length, drop}
+use Rattle.lists.specs.Kit.{_≡_, refl, sym, _-_, arith, length, drop, needs}
 use Rattle.mesh.specs.Marks.{before}
-use borrow.Author.Needs.{needs}
-use Rattle.marks.proofs.Left.{before-short, before-less, before-more, before-pass, before-end}
-use Rattle.marks.proofs.names.is_before.Statement.{statement}
+use Rattle.marks.proofs.{Left.{before-short, before-less, before-more, before-pass, before-end}, names.is_before.Statement.{statement}}
 use Rattle.marks.proofs.names.is_before.Tie as tie
 
 abbrev Inv-loop : tie.InvT-loop

@@ -1,9 +1,6 @@
 -- `names::is_name` meets its contract: each test is a part of the definition.
-use mathlib.Core.Path.{_≡_, sym, ap, _∙_}
-use mathlib.Core.Bool.{false}
-use borrow.Author.Tests.{eq-eqb, ne-eqb, not-true, not-false}
+use Rattle.lists.specs.Kit.{eq-eqb, ne-eqb, not-true, not-false, needs}
 use Rattle.mesh.specs.Marks.{is-name}
-use borrow.Author.Needs.{needs}
 use Rattle.marks.proofs.names.is_name.Statement.{statement}
 use Rattle.marks.proofs.names.is_name.Tie as tie
 

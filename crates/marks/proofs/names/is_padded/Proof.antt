@@ -1,15 +1,7 @@
 -- `names::is_padded` meets its contract: the bytes passed are alphanumeric, so what is left decides. The measure is the bytes left.
-use mathlib.Core.Path.{_≡_, refl, sym, ap, _∙_}
-use Prim.Native.Nat.{ℕ, _-_}
-use native.Mathlib.Omega.{arith}
-use lib.ListN.{length, drop}
-use lib.Dec.{eqb}
-use borrow.Author.Needs.{needs}
-use borrow.Author.Tests.{not-true, not-false}
-use Rattle.lists.specs.Lists.{all}
+use Rattle.lists.specs.{Kit.{_≡_, refl, sym, ap, _∙_, ℕ, _-_, arith, length, drop, eqb, needs, not-true, not-false}, Lists.{all}}
 use Rattle.mesh.specs.Marks.{alphanumerics-then-spaces}
-use Rattle.marks.proofs.Left.{padded-pass, padded-stop, padded-end, rest-part}
-use Rattle.marks.proofs.names.is_padded.Statement.{statement}
+use Rattle.marks.proofs.{Left.{padded-pass, padded-stop, padded-end, rest-part}, names.is_padded.Statement.{statement}}
 use Rattle.marks.proofs.names.is_padded.Tie as tie
 
 abbrev Inv-loop : tie.InvT-loop

@@ -1,7 +1,6 @@
 -- `places::image_size` meets its contract: the header stands after the name.
-use borrow.Author.Needs.{needs}
-use Rattle.marks.proofs.MarkTests.{image-size-at, image-size-less}
-use Rattle.marks.proofs.places.image_size.Statement.{statement}
+use Rattle.lists.specs.Kit.{needs}
+use Rattle.marks.proofs.{MarkTests.{image-size-at, image-size-less}, places.image_size.Statement.{statement}}
 use Rattle.marks.proofs.places.image_size.Tie as tie
 
 returns : tie.Need-returns

@@ -1,11 +1,6 @@
 -- `places::is_mark` meets its contract: name, image and zeros, each through its part of the place.
-use mathlib.Core.Path.{_≡_, sym, ap, _∙_}
-use native.Mathlib.Omega.{arith}
-use lib.Seq.{length-take-le}
-use borrow.Author.Needs.{needs}
-use borrow.Author.Tests.{not-true, not-false}
-use Rattle.marks.proofs.MarkTests.{not-name, not-long, not-image, image-and-zeros}
-use Rattle.marks.proofs.places.is_mark.Statement.{statement}
+use Rattle.lists.specs.Kit.{sym, _∙_, arith, length-take-le, needs, not-true, not-false}
+use Rattle.marks.proofs.{MarkTests.{not-name, not-long, not-image, image-and-zeros}, places.is_mark.Statement.{statement}}
 use Rattle.marks.proofs.places.is_mark.Tie as tie
 
 slice-aggregate-is-name : tie.Need-slice-aggregate-is-name

@@ -1,10 +1,6 @@
 -- `shift::move_down` meets its contract: the bytes before i stand one place lower. The measure is the bytes left.
-use mathlib.Core.Path.{_≡_, refl}
-use Prim.Native.Nat.{_-_}
-use native.Mathlib.Omega.{arith}
-use borrow.Author.Needs.{needs}
-use Rattle.marks.proofs.Moving.{Moving-down, moving-down-turn, moving-down-end, down-none}
-use Rattle.marks.proofs.shift.move_down.Statement.{statement}
+use Rattle.lists.specs.Kit.{refl, _-_, arith, needs}
+use Rattle.marks.proofs.{Moving.{Moving-down, moving-down-turn, moving-down-end, down-none}, shift.move_down.Statement.{statement}}
 use Rattle.marks.proofs.shift.move_down.Tie as tie
 
 abbrev Inv-loop : tie.InvT-loop

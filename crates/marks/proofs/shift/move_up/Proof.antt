@@ -1,10 +1,6 @@
 -- `shift::move_up` meets its contract: the bytes from i on stand one place higher. The measure is the bytes left.
-use mathlib.Core.Path.{_≡_, refl}
-use Prim.Native.Nat.{_-_}
-use native.Mathlib.Omega.{arith}
-use borrow.Author.Needs.{needs}
-use Rattle.marks.proofs.Moving.{Moving-up, moving-up-turn, moving-up-end, up-none}
-use Rattle.marks.proofs.shift.move_up.Statement.{statement}
+use Rattle.lists.specs.Kit.{refl, _-_, arith, needs}
+use Rattle.marks.proofs.{Moving.{Moving-up, moving-up-turn, moving-up-end, up-none}, shift.move_up.Statement.{statement}}
 use Rattle.marks.proofs.shift.move_up.Tie as tie
 
 abbrev Inv-loop : tie.InvT-loop

@@ -1,10 +1,7 @@
 -- `store::count_used` meets its contract: the places passed are used, so what is left decides. The measure is the places left.
-use Prim.Native.Nat.{_-_}
-use native.Mathlib.Omega.{arith}
-use borrow.Author.Needs.{needs}
+use Rattle.lists.specs.Kit.{_-_, arith, needs}
 use Rattle.mesh.specs.Marks.{places}
-use Rattle.marks.proofs.StoreLoops.{Counting, counting-none, counting-turn, counting-stop, counting-end}
-use Rattle.marks.proofs.store.count_used.Statement.{statement}
+use Rattle.marks.proofs.{StoreLoops.{Counting, counting-none, counting-turn, counting-stop, counting-end}, store.count_used.Statement.{statement}}
 use Rattle.marks.proofs.store.count_used.Tie as tie
 
 abbrev Inv-loop : tie.InvT-loop

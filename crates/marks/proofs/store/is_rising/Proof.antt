@@ -1,7 +1,6 @@
 -- `store::is_rising` meets its contract: the names are parts of the store.
-use Rattle.marks.proofs.StoreLoops.{rising-first, rising-next}
-use borrow.Author.Needs.{needs}
-use Rattle.marks.proofs.store.is_rising.Statement.{statement}
+use Rattle.lists.specs.Kit.{needs}
+use Rattle.marks.proofs.{StoreLoops.{rising-first, rising-next}, store.is_rising.Statement.{statement}}
 use Rattle.marks.proofs.store.is_rising.Tie as tie
 
 returns : tie.Need-returns

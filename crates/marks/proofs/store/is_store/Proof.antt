@@ -1,12 +1,8 @@
 -- `store::is_store` meets its contract: the used places passed are marks in rising order, so what is left decides. The measure is the
 -- used places left.
-use mathlib.Core.Path.{sym}
-use Prim.Native.Nat.{_-_}
-use native.Mathlib.Omega.{arith}
-use borrow.Author.Needs.{needs}
-use borrow.Author.Tests.{not-true, not-false}
-use Rattle.marks.proofs.StoreLoops.{Testing-marks, testing-none, testing-turn, store-not-mark, store-not-rising, store-tested}
-use Rattle.marks.proofs.store.is_store.Statement.{statement}
+use Rattle.lists.specs.Kit.{sym, _-_, arith, needs, not-true, not-false}
+use Rattle.marks.proofs.{StoreLoops.{Testing-marks, testing-none, testing-turn, store-not-mark, store-not-rising, store-tested}}
+use Rattle.marks.proofs.{store.is_store.Statement.{statement}}
 use Rattle.marks.proofs.store.is_store.Tie as tie
 
 abbrev Inv-loop : tie.InvT-loop

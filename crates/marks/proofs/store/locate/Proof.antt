@@ -1,9 +1,6 @@
 -- `store::locate` meets its contract: the names before the given one are counted, and the next name is compared.
-use mathlib.Core.Path.{refl}
-use native.Mathlib.Omega.{arith}
-use borrow.Author.Needs.{needs}
-use Rattle.marks.proofs.StoreLoops.{located-end, located-at}
-use Rattle.marks.proofs.store.locate.Statement.{statement}
+use Rattle.lists.specs.Kit.{refl, arith, needs}
+use Rattle.marks.proofs.{StoreLoops.{located-end, located-at}, store.locate.Statement.{statement}}
 use Rattle.marks.proofs.store.locate.Tie as tie
 
 returns : tie.Need-returns

@@ -1,11 +1,7 @@
 -- `store::rank_of` meets its contract: the names passed stand before the given one, so what is left decides. The measure is the used
 -- places left.
-use Prim.Native.Nat.{_-_}
-use native.Mathlib.Omega.{arith}
-use borrow.Author.Needs.{needs}
-use borrow.Author.Tests.{not-true, not-false}
-use Rattle.marks.proofs.StoreLoops.{Ranking, ranking-none, ranking-turn, ranking-stop, ranking-end}
-use Rattle.marks.proofs.store.rank_of.Statement.{statement}
+use Rattle.lists.specs.Kit.{_-_, arith, needs, not-true, not-false}
+use Rattle.marks.proofs.{StoreLoops.{Ranking, ranking-none, ranking-turn, ranking-stop, ranking-end}, store.rank_of.Statement.{statement}}
 use Rattle.marks.proofs.store.rank_of.Tie as tie
 
 abbrev Inv-loop : tie.InvT-loop

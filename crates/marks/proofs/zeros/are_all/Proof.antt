@@ -1,14 +1,6 @@
 -- `bytes::are_all` meets its contract: the bytes passed are x, so what is left decides. The measure is the bytes left.
-use mathlib.Core.Path.{_≡_, refl, sym}
-use Prim.Native.Nat.{ℕ, _-_}
-use native.Mathlib.Omega.{arith}
-use lib.Dec.{eqb}
-use lib.ListN.{length, drop}
-use borrow.Author.Tests.{eq-eqb, ne-eqb}
-use Rattle.lists.specs.Lists.{all}
-use borrow.Author.Needs.{needs}
-use Rattle.marks.proofs.Left.{all-pass, all-stop, all-end}
-use Rattle.marks.proofs.zeros.are_all.Statement.{statement}
+use Rattle.lists.specs.{Kit.{_≡_, refl, sym, ℕ, _-_, arith, eqb, length, drop, eq-eqb, ne-eqb, needs}, Lists.{all}}
+use Rattle.marks.proofs.{Left.{all-pass, all-stop, all-end}, zeros.are_all.Statement.{statement}}
 use Rattle.marks.proofs.zeros.are_all.Tie as tie
 
 abbrev Inv-loop : tie.InvT-loop

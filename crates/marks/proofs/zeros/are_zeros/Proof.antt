@@ -1,9 +1,6 @@
 -- `bytes::are_zeros` meets its contract: a first byte that is not zero decides, else all are joined.
-use mathlib.Core.Path.{sym}
-use native.Mathlib.Omega.{arith}
-use borrow.Author.Needs.{needs}
-use Rattle.marks.proofs.Left.{first-nonzero}
-use Rattle.marks.proofs.zeros.are_zeros.Statement.{statement}
+use Rattle.lists.specs.Kit.{sym, arith, needs}
+use Rattle.marks.proofs.{Left.{first-nonzero}, zeros.are_zeros.Statement.{statement}}
 use Rattle.marks.proofs.zeros.are_zeros.Tie as tie
 
 returns : tie.Need-returns

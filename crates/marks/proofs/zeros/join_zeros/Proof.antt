@@ -1,12 +1,7 @@
 -- `bytes::join_zeros` meets its contract: the bytes passed are joined, and joined they are zero exactly if all are. The measure is the
 -- bytes left.
-use mathlib.Core.Path.{_≡_, refl}
-use Prim.Native.Nat.{ℕ, _-_}
-use native.Mathlib.Omega.{arith}
-use lib.ListN.{length}
-use borrow.Author.Needs.{needs}
-use Rattle.marks.proofs.Left.{Joining, joining-none, joining-turn, joining-end}
-use Rattle.marks.proofs.zeros.join_zeros.Statement.{statement}
+use Rattle.lists.specs.Kit.{_-_, arith, length, needs}
+use Rattle.marks.proofs.{Left.{Joining, joining-none, joining-turn, joining-end}, zeros.join_zeros.Statement.{statement}}
 use Rattle.marks.proofs.zeros.join_zeros.Tie as tie
 
 abbrev Inv-loop : tie.InvT-loop

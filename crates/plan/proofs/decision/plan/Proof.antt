@@ -1,9 +1,8 @@
 -- `plan::plan` meets its contract: a refusal touches nothing but scratch; else the questions leave what a plan is made from, and the
 -- lent stretch has room for it.
-use borrow.Author.Needs.{needs}
+use Rattle.lists.specs.Kit.{needs}
 use Rattle.mesh.specs.Tables.{tables}
-use Rattle.plan.proofs.CallLaws.{plan-ready, plan-made, plan-refused}
-use Rattle.plan.proofs.decision.plan.Statement.{statement}
+use Rattle.plan.proofs.{CallLaws.{plan-ready, plan-made, plan-refused}, decision.plan.Statement.{statement}}
 use Rattle.plan.proofs.decision.plan.Tie as tie
 
 returns : tie.Need-returns

@@ -1,7 +1,5 @@
 -- `plan::plan_link` meets its contract: up and down, a plan of the call.
-use borrow.Author.Needs.{needs}
-use Rattle.plan.proofs.CallLaws.{ready-as, planned-for}
-use Rattle.plan.proofs.decision.plan_link.Statement.{statement}
+use Rattle.plan.proofs.{CallLaws.{ready-as, planned-for}, decision.plan_link.Statement.{statement}}
 use Rattle.plan.proofs.decision.plan_link.Tie as tie
 
 plan-up-requires : tie.Need-plan-up-requires

@@ -1,15 +1,10 @@
 -- `ends_refusal` meets its contract: each test is a question of the chain, and proper rows mark the links and count the
 -- neighbours of the graph that the questions are put to.
-use mathlib.Core.Path.{sym, _∙_}
-use native.Mathlib.Omega.{arith}
-use borrow.Author.Tests.{not-true, not-false}
-use borrow.Author.Needs.{needs}
-use Rattle.mesh.specs.Limits.{max-neighbours}
-use Rattle.mesh.specs.Tables.{graph-in}
+use Rattle.lists.specs.Kit.{sym, _∙_, arith, not-true, not-false, needs}
+use Rattle.mesh.specs.{Limits.{max-neighbours}, Tables.{graph-in}}
 use Rattle.rows.specs.Rows.{row-count}
-use Rattle.plan.proofs.EndsLaws.{linked-marked, degree-listed, ends-four-first, ends-four-second, ends-five, ends-six, ends-down, ends-seven-first}
-use Rattle.plan.proofs.EndsLaws.{ends-seven-second, ends-up}
-use Rattle.plan.proofs.end_questions.ends_refusal.Statement.{statement}
+use Rattle.plan.proofs.{EndsLaws.{linked-marked, degree-listed, ends-four-first, ends-four-second, ends-five, ends-six, ends-down, ends-seven-first}}
+use Rattle.plan.proofs.{EndsLaws.{ends-seven-second, ends-up}, end_questions.ends_refusal.Statement.{statement}}
 use Rattle.plan.proofs.end_questions.ends_refusal.Tie as tie
 
 returns : tie.Need-returns

@@ -1,7 +1,6 @@
 -- `ends::beginning` meets its contract: each branch answers what `beginning-end` names.
-use borrow.Author.Needs.{needs}
-use Rattle.plan.proofs.PlaceLaws.{begins-lower, begins-higher, begins-earlier, begins-later}
-use Rattle.plan.proofs.ends.beginning.Statement.{statement}
+use Rattle.lists.specs.Kit.{needs}
+use Rattle.plan.proofs.{PlaceLaws.{begins-lower, begins-higher, begins-earlier, begins-later}, ends.beginning.Statement.{statement}}
 use Rattle.plan.proofs.ends.beginning.Tie as tie
 
 returns : tie.Need-returns

@@ -1,7 +1,5 @@
 -- `ends::number_of` meets its contract: past the end an entry counts as 0.
-use mathlib.Core.Path.{sym}
-use lib.ListN.{List·getD-eq-default}
-use borrow.Author.Needs.{needs}
+use Rattle.lists.specs.Kit.{sym, List·getD-eq-default, needs}
 use Rattle.plan.proofs.ends.number_of.Statement.{statement}
 use Rattle.plan.proofs.ends.number_of.Tie as tie
 

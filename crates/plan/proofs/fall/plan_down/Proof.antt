@@ -1,12 +1,7 @@
 -- `fall::plan_down` meets its contract: each call's facts are handed to the next; the mathematics is in `proofs.FallPlan`.
-use mathlib.Core.Path.{sym, ap, _∙_}
-use native.Mathlib.Omega.{arith}
-use lib.ListN.{length}
-use borrow.Author.Needs.{needs}
-use Rattle.plan.proofs.PlanCall.{plan-level, plan-stuck, plan-done}
-use Rattle.plan.proofs.PlanLevel.{a-below, b-below}
-use Rattle.plan.proofs.FallPlan.{fall-release, fall-peel, fall-unmoved}
-use Rattle.plan.proofs.fall.plan_down.Statement.{statement}
+use Rattle.lists.specs.Kit.{sym, ap, _∙_, arith, length, needs}
+use Rattle.plan.proofs.{PlanCall.{plan-level, plan-stuck, plan-done}, PlanLevel.{a-below, b-below}, FallPlan.{fall-release, fall-peel, fall-unmoved}}
+use Rattle.plan.proofs.{fall.plan_down.Statement.{statement}}
 use Rattle.plan.proofs.fall.plan_down.Tie as tie
 
 cast-both : tie.Need-cast-both

@@ -1,7 +1,6 @@
 -- `peel::begin` meets its contract: the ends differ, so what is counted for one leaves the other's counter.
-use borrow.Author.Needs.{needs}
-use Rattle.plan.proofs.BeginLaws.{begin-a, begin-b, begin-done}
-use Rattle.plan.proofs.peel.begin.Statement.{statement}
+use Rattle.lists.specs.Kit.{needs}
+use Rattle.plan.proofs.{BeginLaws.{begin-a, begin-b, begin-done}, peel.begin.Statement.{statement}}
 use Rattle.plan.proofs.peel.begin.Tie as tie
 
 count-end-requires-2 : tie.Need-count-end-requires-2

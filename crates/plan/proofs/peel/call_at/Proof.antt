@@ -1,10 +1,6 @@
 -- `peel::call_at` meets its contract: going up the bound is the level, going down one less, and the level is then above 0.
-use mathlib.Core.Path.{refl, ap, _∙_}
-use Prim.Native.Nat.{ℕ, _-_}
-use native.Mathlib.Omega.{arith}
-use borrow.Author.Needs.{needs}
-use Rattle.plan.proofs.BeginLaws.{bound-up, bound-down}
-use Rattle.plan.proofs.peel.call_at.Statement.{statement}
+use Rattle.lists.specs.Kit.{refl, ap, _∙_, ℕ, _-_, arith, needs}
+use Rattle.plan.proofs.{BeginLaws.{bound-up, bound-down}, peel.call_at.Statement.{statement}}
 use Rattle.plan.proofs.peel.call_at.Tie as tie
 
 returns : tie.Need-returns

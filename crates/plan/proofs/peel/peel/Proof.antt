@@ -1,5 +1,4 @@
 -- `peel::peel` meets its contract: both peels do.
-use borrow.Author.Needs.{needs}
 use Rattle.plan.proofs.peel.peel.Statement.{statement}
 use Rattle.plan.proofs.peel.peel.Tie as tie
 

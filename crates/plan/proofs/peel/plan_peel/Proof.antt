@@ -1,9 +1,6 @@
 -- `peel::plan_peel` meets its contract: each call's facts are handed to the next; the mathematics is in `proofs.PlanCall`.
-use mathlib.Core.Path.{_∙_}
-use native.Mathlib.Omega.{arith}
-use borrow.Author.Needs.{needs}
-use Rattle.plan.proofs.PlanCall.{plan-level, plan-begin, plan-peel, plan-stuck, plan-done}
-use Rattle.plan.proofs.peel.plan_peel.Statement.{statement}
+use Rattle.lists.specs.Kit.{_∙_, arith, needs}
+use Rattle.plan.proofs.{PlanCall.{plan-level, plan-begin, plan-peel, plan-stuck, plan-done}, peel.plan_peel.Statement.{statement}}
 use Rattle.plan.proofs.peel.plan_peel.Tie as tie
 
 begin-requires : tie.Need-begin-requires

@@ -1,10 +1,8 @@
 -- `places::list_entries` meets its contract: what is listed so far and the places from word k on give what the whole set gives
 -- (`Set-entries`). The measure is the words that are left.
-use Prim.Native.Nat.{_-_}
-use native.Mathlib.Omega.{arith}
-use borrow.Author.Needs.{needs}
-use Rattle.plan.proofs.EntryLists.{Set-entries, set-entries-none, set-entries-stand, set-entries-turn, set-entries-end}
-use Rattle.plan.proofs.places.list_entries.Statement.{statement}
+use Rattle.lists.specs.Kit.{_-_, arith, needs}
+use Rattle.plan.proofs.{EntryLists.{Set-entries, set-entries-none, set-entries-stand, set-entries-turn, set-entries-end}}
+use Rattle.plan.proofs.{places.list_entries.Statement.{statement}}
 use Rattle.plan.proofs.places.list_entries.Tie as tie
 
 abbrev Inv-loop : tie.InvT-loop

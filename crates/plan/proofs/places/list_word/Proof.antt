@@ -1,15 +1,8 @@
 -- `places::list_word` meets its contract: each turn takes the lowest set bit off the word, and what is left of its set bits gives what all
 -- of them give (`Word-entries`). The measure is the word that is left.
-use mathlib.Core.Path.{ap, _∙_}
-use Prim.Native.Nat.{_-_}
-use native.Mathlib.Omega.{arith}
-use lib.Bits.{and-le-r}
-use lib.Count.{trailing-le}
-use borrow.Author.Needs.{needs}
-use Rattle.rows.specs.Rows.{set-bits}
-use Rattle.rows.proofs.WordLaws.{set-bits-nothing}
-use Rattle.plan.proofs.EntryLists.{Word-entries, entries-none, entries-end, word-place, word-room, word-turn}
-use Rattle.plan.proofs.places.list_word.Statement.{statement}
+use Rattle.lists.specs.Kit.{ap, _∙_, _-_, arith, and-le-r, trailing-le, needs}
+use Rattle.rows.{specs.Rows.{set-bits}, proofs.WordLaws.{set-bits-nothing}}
+use Rattle.plan.proofs.{EntryLists.{Word-entries, entries-none, entries-end, word-place, word-room, word-turn}, places.list_word.Statement.{statement}}
 use Rattle.plan.proofs.places.list_word.Tie as tie
 
 abbrev Inv-loop : tie.InvT-loop

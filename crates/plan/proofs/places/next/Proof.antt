@@ -1,8 +1,6 @@
 -- `places::next` meets its contract: each branch answers what `next-place` names.
-use native.Mathlib.Omega.{arith}
-use borrow.Author.Needs.{needs}
-use Rattle.plan.proofs.PlaceLaws.{next-none, next-before, next-end, next-on}
-use Rattle.plan.proofs.places.next.Statement.{statement}
+use Rattle.lists.specs.Kit.{arith, needs}
+use Rattle.plan.proofs.{PlaceLaws.{next-none, next-before, next-end, next-on}, places.next.Statement.{statement}}
 use Rattle.plan.proofs.places.next.Tie as tie
 
 returns : tie.Need-returns

@@ -1,11 +1,10 @@
 -- `questions::refusal` meets its contract: the first two questions are put to the lengths, the third by the check, whose
 -- scratch is long enough, and the others to rows that are then proper.
-use borrow.Author.Tests.{not-true, not-false}
-use borrow.Author.Needs.{needs}
+use Rattle.lists.specs.Kit.{not-true, not-false, needs}
 use Rattle.mesh.specs.Tables.{tables}
 use Rattle.calls.specs.Questions.{lengths-of}
-use Rattle.plan.proofs.Asking.{rows-asked, lent-asked, refused-lengths, sound-asked, refused-unsound, asked-all}
-use Rattle.plan.proofs.questions.refusal.Statement.{statement}
+use Rattle.plan.proofs.{Asking.{rows-asked, lent-asked, refused-lengths, sound-asked, refused-unsound, asked-all}}
+use Rattle.plan.proofs.{questions.refusal.Statement.{statement}}
 use Rattle.plan.proofs.questions.refusal.Tie as tie
 
 returns : tie.Need-returns

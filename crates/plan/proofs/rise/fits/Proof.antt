@@ -1,7 +1,5 @@
 -- `rise::fits` meets its contract: at an end the link adds one neighbour, so that fewer than `most` are few enough.
-use borrow.Author.Needs.{needs}
-use Rattle.plan.proofs.RisePlan.{fits-a, fits-b, fits-other}
-use Rattle.plan.proofs.rise.fits.Statement.{statement}
+use Rattle.plan.proofs.{RisePlan.{fits-a, fits-b, fits-other}, rise.fits.Statement.{statement}}
 use Rattle.plan.proofs.rise.fits.Tie as tie
 
 returns : tie.Need-returns

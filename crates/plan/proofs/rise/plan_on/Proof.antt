@@ -1,10 +1,7 @@
 -- `rise::plan_on` meets its contract: the order from the beginning end's place on is what the walk is made from, and each branch's plan is
 -- document 01's; the mathematics is in `proofs.WalkPlan`.
-use mathlib.Core.Path.{refl}
-use native.Mathlib.Omega.{arith}
-use borrow.Author.Needs.{needs}
-use Rattle.plan.proofs.WalkPlan.{begins-inside, site-lent, settled-lent, walked-lent, planned-as}
-use Rattle.plan.proofs.rise.plan_on.Statement.{statement}
+use Rattle.lists.specs.Kit.{refl, arith, needs}
+use Rattle.plan.proofs.{WalkPlan.{begins-inside, site-lent, settled-lent, walked-lent, planned-as}, rise.plan_on.Statement.{statement}}
 use Rattle.plan.proofs.rise.plan_on.Tie as tie
 
 mul-tail : tie.Need-mul-tail

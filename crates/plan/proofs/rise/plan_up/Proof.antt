@@ -1,13 +1,7 @@
 -- `rise::plan_up` meets its contract: the beginning end has a place, and each branch's plan is document 01's; the mathematics is in
 -- `proofs.RisePlan` and `proofs.WalkPlan`.
-use mathlib.Core.Path.{ap}
-use Prim.Native.Nat.{ℕ}
-use native.Mathlib.Omega.{arith}
-use lib.ListN.{getD}
-use borrow.Author.Needs.{needs}
-use Rattle.plan.proofs.RisePlan.{stretch-known, whole-lent}
-use Rattle.plan.proofs.WalkPlan.{ends-known, begins-below}
-use Rattle.plan.proofs.rise.plan_up.Statement.{statement}
+use Rattle.lists.specs.Kit.{ap, ℕ, arith, getD, needs}
+use Rattle.plan.proofs.{RisePlan.{stretch-known, whole-lent}, WalkPlan.{ends-known, begins-below}, rise.plan_up.Statement.{statement}}
 use Rattle.plan.proofs.rise.plan_up.Tie as tie
 
 shared-slice-read-lower : tie.Need-shared-slice-read-lower

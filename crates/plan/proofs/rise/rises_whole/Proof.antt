@@ -1,13 +1,8 @@
 -- `rise::rises_whole` meets its contract: the radios passed do not fit, so the others decide (`Stretch-passing`). The measure is the places
 -- that are left.
-use mathlib.Core.Path.{sym, ap, _∙_}
-use mathlib.Core.Bool.{not}
-use Prim.Native.Nat.{_+_, _-_}
-use native.Mathlib.Omega.{arith}
-use borrow.Author.Needs.{needs}
+use Rattle.lists.specs.Kit.{sym, ap, _∙_, not, _+_, _-_, arith, needs}
 use Rattle.plan.specs.Turns.{stays-linked}
-use Rattle.plan.proofs.StretchLoops.{Stretch-passing, passing-none, passing-turn, passing-stop, passing-end}
-use Rattle.plan.proofs.rise.rises_whole.Statement.{statement}
+use Rattle.plan.proofs.{StretchLoops.{Stretch-passing, passing-none, passing-turn, passing-stop, passing-end}, rise.rises_whole.Statement.{statement}}
 use Rattle.plan.proofs.rise.rises_whole.Tie as tie
 
 abbrev Inv-loop : tie.InvT-loop

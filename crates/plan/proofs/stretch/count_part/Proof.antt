@@ -1,14 +1,7 @@
 -- `stretch::count_part` meets its contract: what is counted so far and what the numbers from place i on come to is the whole count. The
 -- measure is the numbers that are left.
-use mathlib.Core.Path.{_≡_}
-use Prim.Native.Nat.{_-_, _≤_, _<_}
-use native.Mathlib.Omega.{arith}
-use lib.Dec.{ltb, eqb}
-use lib.ListN.{length, getD}
-use borrow.Author.Needs.{needs}
-use Rattle.lists.proofs.Loops.{Counted-from, counted-turn, counted-end}
-use Rattle.plan.proofs.LevelCounts.{counted-byte}
-use Rattle.plan.proofs.stretch.count_part.Statement.{statement}
+use Rattle.lists.{specs.Kit.{_≡_, _-_, _≤_, _<_, arith, ltb, eqb, length, getD, needs}, proofs.Loops.{Counted-from, counted-turn, counted-end}}
+use Rattle.plan.proofs.{LevelCounts.{counted-byte}, stretch.count_part.Statement.{statement}}
 use Rattle.plan.proofs.stretch.count_part.Tie as tie
 
 abbrev Inv-loop : tie.InvT-loop

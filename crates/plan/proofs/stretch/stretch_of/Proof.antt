@@ -1,14 +1,7 @@
 -- `stretch::stretch_of` meets its contract: what is counted so far and what the numbers from place i on come to is the whole
 -- count. The measure is the numbers that are left.
-use mathlib.Core.Path.{_≡_}
-use Prim.Native.Nat.{_+_, _-_, _≤_}
-use native.Mathlib.Omega.{arith}
-use lib.Dec.{ltb, eqb}
-use lib.ListN.{length, drop, length-take}
-use borrow.Author.Needs.{needs}
-use Rattle.lists.proofs.Loops.{Counted-from, counted-end}
-use Rattle.plan.proofs.LevelCounts.{counted-part}
-use Rattle.plan.proofs.stretch.stretch_of.Statement.{statement}
+use Rattle.lists.{specs.Kit.{_≡_, _+_, _-_, _≤_, arith, ltb, eqb, length, drop, length-take, needs}, proofs.Loops.{Counted-from, counted-end}}
+use Rattle.plan.proofs.{LevelCounts.{counted-part}, stretch.stretch_of.Statement.{statement}}
 use Rattle.plan.proofs.stretch.stretch_of.Tie as tie
 
 abbrev Inv-loop : tie.InvT-loop

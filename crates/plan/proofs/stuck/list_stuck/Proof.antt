@@ -1,15 +1,7 @@
 -- `stretch::list_stuck` meets its contract: the entries listed so far and the ones from place i of the stretch on are all that
 -- pass (`Stretch-listed`). The measure is the places that are left.
-use mathlib.Core.Path.{_∙_}
-use mathlib.Core.Logic.{⊎-elim}
-use Prim.Native.Nat.{_+_, _-_, _<_}
-use native.Mathlib.Omega.{arith}
-use lib.Dec.{ltb}
-use lib.ListN.{getD}
-use borrow.Author.Needs.{needs}
-use borrow.Author.Tests.{lt-ltb, le-ltb}
-use Rattle.plan.proofs.StretchLoops.{Stretch-listed, stretch-none, stretch-passed, stretch-failed, stretch-end}
-use Rattle.plan.proofs.stuck.list_stuck.Statement.{statement}
+use Rattle.lists.specs.Kit.{_∙_, ⊎-elim, _+_, _-_, _<_, arith, ltb, getD, needs, lt-ltb, le-ltb}
+use Rattle.plan.proofs.{StretchLoops.{Stretch-listed, stretch-none, stretch-passed, stretch-failed, stretch-end}, stuck.list_stuck.Statement.{statement}}
 use Rattle.plan.proofs.stuck.list_stuck.Tie as tie
 
 abbrev Inv-loop : tie.InvT-loop

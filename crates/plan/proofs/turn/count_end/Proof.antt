@@ -1,7 +1,5 @@
 -- `turn::count_end` meets its contract: each branch stores what `end-counted` names.
-use native.Mathlib.Omega.{arith}
-use borrow.Author.Needs.{needs}
-use borrow.Author.Tests.{eq-eqb, ne-eqb}
+use Rattle.lists.specs.Kit.{arith, needs, eq-eqb, ne-eqb}
 use Rattle.plan.specs.Turns.{end-counted}
 use Rattle.plan.proofs.turn.count_end.Statement.{statement}
 use Rattle.plan.proofs.turn.count_end.Tie as tie

@@ -1,7 +1,6 @@
 -- `turn::end_neighbours` meets its contract: the copied row is listed.
-use borrow.Author.Needs.{needs}
-use Rattle.plan.proofs.NearLaws.{lists-copy}
-use Rattle.plan.proofs.turn.end_neighbours.Statement.{statement}
+use Rattle.lists.specs.Kit.{needs}
+use Rattle.plan.proofs.{NearLaws.{lists-copy}, turn.end_neighbours.Statement.{statement}}
 use Rattle.plan.proofs.turn.end_neighbours.Tie as tie
 
 returns : tie.Need-returns

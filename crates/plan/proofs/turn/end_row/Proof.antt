@@ -1,11 +1,7 @@
 -- `turn::end_row` meets its contract: a copy of the row with one bit put marks what the row with that bit put marks.
-use Prim.Native.Nat.{ℕ, _+_, _*_, _-_}
-use native.Mathlib.Omega.{arith}
-use lib.ListN.{replicate, length-replicate}
-use borrow.Author.Needs.{needs}
+use Rattle.lists.specs.Kit.{ℕ, _+_, _*_, _-_, arith, replicate, length-replicate, needs}
 use Rattle.mesh.specs.Limits.{row-bytes}
-use Rattle.plan.proofs.NearLaws.{row-copied}
-use Rattle.plan.proofs.turn.end_row.Statement.{statement}
+use Rattle.plan.proofs.{NearLaws.{row-copied}, turn.end_row.Statement.{statement}}
 use Rattle.plan.proofs.turn.end_row.Tie as tie
 
 returns : tie.Need-returns

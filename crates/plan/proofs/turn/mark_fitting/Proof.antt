@@ -1,17 +1,9 @@
 -- `turn::mark_fitting` meets its contract: the places from p on give what all places give (`Fitting-from`). The measure is the
 -- places that are left.
-use mathlib.Core.Path.{_≡_, _∙_}
-use mathlib.Core.Logic.{⊎-elim}
-use mathlib.Core.Bool.{true, cond}
-use Prim.Native.Nat.{_+_, _-_}
-use native.Mathlib.Omega.{arith}
-use lib.Dec.{leb}
-use lib.ListN.{getD}
-use borrow.Author.Needs.{needs}
-use borrow.Author.Tests.{le-leb, lt-leb}
+use Rattle.lists.specs.Kit.{_≡_, _∙_, ⊎-elim, true, cond, _+_, _-_, arith, leb, getD, needs, le-leb, lt-leb}
 use Rattle.mesh.specs.Tables.{put-bit}
-use Rattle.plan.proofs.TurnLoops.{cond-passed, cond-failed, Fitting-from, fitting-none, fitting-turn, fitting-end}
-use Rattle.plan.proofs.turn.mark_fitting.Statement.{statement}
+use Rattle.plan.proofs.{TurnLoops.{cond-passed, cond-failed, Fitting-from, fitting-none, fitting-turn, fitting-end}}
+use Rattle.plan.proofs.{turn.mark_fitting.Statement.{statement}}
 use Rattle.plan.proofs.turn.mark_fitting.Tie as tie
 
 abbrev Inv-loop : tie.InvT-loop

@@ -1,7 +1,6 @@
 -- `turn::neighbours_after` meets its contract: the rows of both ends are read with one bit put, the other rows as they are.
-use borrow.Author.Needs.{needs}
-use Rattle.plan.proofs.NearLaws.{end-ready, lists-end, lists-other}
-use Rattle.plan.proofs.turn.neighbours_after.Statement.{statement}
+use Rattle.lists.specs.Kit.{needs}
+use Rattle.plan.proofs.{NearLaws.{end-ready, lists-end, lists-other}, turn.neighbours_after.Statement.{statement}}
 use Rattle.plan.proofs.turn.neighbours_after.Tie as tie
 
 end-neighbours-requires : tie.Need-end-neighbours-requires

@@ -1,13 +1,7 @@
 -- `turn::release` meets its contract: the listed radios from place i on give what all of them give (`List-releasing`). The measure
 -- is the radios that are left.
-use mathlib.Core.Path.{sym}
-use Prim.Native.Nat.{_-_}
-use native.Mathlib.Omega.{arith}
-use lib.ListN.{take}
-use lib.Seq.{length-take-le, getD-take}
-use borrow.Author.Needs.{needs}
-use Rattle.plan.proofs.TurnLoops.{releasing-none, List-releasing, list-next, list-turn, list-end}
-use Rattle.plan.proofs.turn.release.Statement.{statement}
+use Rattle.lists.specs.Kit.{sym, _-_, arith, take, length-take-le, getD-take, needs}
+use Rattle.plan.proofs.{TurnLoops.{releasing-none, List-releasing, list-next, list-turn, list-end}, turn.release.Statement.{statement}}
 use Rattle.plan.proofs.turn.release.Tie as tie
 
 abbrev Inv-loop : tie.InvT-loop

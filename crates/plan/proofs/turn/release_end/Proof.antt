@@ -1,8 +1,6 @@
 -- `turn::release_end` meets its contract: the copied row is released.
-use mathlib.Core.Path.{refl}
-use borrow.Author.Needs.{needs}
-use Rattle.plan.proofs.NearLaws.{releasable-same, released-same}
-use Rattle.plan.proofs.turn.release_end.Statement.{statement}
+use Rattle.lists.specs.Kit.{refl, needs}
+use Rattle.plan.proofs.{NearLaws.{releasable-same, released-same}, turn.release_end.Statement.{statement}}
 use Rattle.plan.proofs.turn.release_end.Tie as tie
 
 release-row-requires : tie.Need-release-row-requires

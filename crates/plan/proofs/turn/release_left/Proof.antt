@@ -1,12 +1,8 @@
 -- `turn::release_left` meets its contract: the words of the row are released one by one, each without what is taken, and the radios that
 -- are left from word k on give what all of them give (`Words-releasing`). The measure is the words that are left.
-use mathlib.Core.Path.{refl}
-use Prim.Native.Nat.{_-_}
-use native.Mathlib.Omega.{arith}
-use borrow.Author.Needs.{needs}
-use Rattle.plan.proofs.NearLaws.{releasable-same, released-same}
-use Rattle.plan.proofs.TurnLoops.{Words-releasing, words-none, words-ready, words-turn, words-end, left-from, left-from-zero, left-from-end, left-split}
-use Rattle.plan.proofs.turn.release_left.Statement.{statement}
+use Rattle.lists.specs.Kit.{refl, _-_, arith, needs}
+use Rattle.plan.proofs.{NearLaws.{releasable-same, released-same}, TurnLoops.{Words-releasing, words-none, words-ready, words-turn, words-end}}
+use Rattle.plan.proofs.{TurnLoops.{left-from, left-from-zero, left-from-end, left-split}, turn.release_left.Statement.{statement}}
 use Rattle.plan.proofs.turn.release_left.Tie as tie
 
 abbrev Inv-loop : tie.InvT-loop

@@ -1,9 +1,6 @@
 -- `turn::release_one` meets its contract: each branch stores what `counter-less` and `place-marked` name.
-use mathlib.Core.Path.{_∙_}
-use native.Mathlib.Omega.{arith}
-use borrow.Author.Needs.{needs}
-use Rattle.plan.proofs.TurnLoops.{release-fits, release-unfit, release-other}
-use Rattle.plan.proofs.turn.release_one.Statement.{statement}
+use Rattle.lists.specs.Kit.{_∙_, arith, needs}
+use Rattle.plan.proofs.{TurnLoops.{release-fits, release-unfit, release-other}, turn.release_one.Statement.{statement}}
 use Rattle.plan.proofs.turn.release_one.Tie as tie
 
 sub-counters : tie.Need-sub-counters

@@ -1,14 +1,9 @@
 -- `turn::release_row` meets its contract: the words of the row are released one by one, and the radios from word k on give what the whole
 -- row gives (`Words-releasing`). The measure is the words that are left.
-use mathlib.Core.Path.{refl}
-use Prim.Native.Nat.{_-_}
-use native.Mathlib.Omega.{arith}
-use borrow.Author.Needs.{needs}
-use Rattle.rows.specs.Rows.{row-from}
-use Rattle.rows.proofs.RowWords.{row-from-zero, row-from-end}
-use Rattle.plan.proofs.NearLaws.{releasable-same, released-same}
-use Rattle.plan.proofs.TurnLoops.{Words-releasing, words-none, words-ready, words-turn, words-end, row-split}
-use Rattle.plan.proofs.turn.release_row.Statement.{statement}
+use Rattle.lists.specs.Kit.{refl, _-_, arith, needs}
+use Rattle.rows.{specs.Rows.{row-from}, proofs.RowWords.{row-from-zero, row-from-end}}
+use Rattle.plan.proofs.{NearLaws.{releasable-same, released-same}, TurnLoops.{Words-releasing, words-none, words-ready, words-turn, words-end}}
+use Rattle.plan.proofs.{TurnLoops.{row-split}, turn.release_row.Statement.{statement}}
 use Rattle.plan.proofs.turn.release_row.Tie as tie
 
 abbrev Inv-loop : tie.InvT-loop

@@ -1,12 +1,7 @@
 -- `turn::release_word` meets its contract: each turn takes the lowest set bit off the word and releases its radio, and what is left of
 -- the set bits gives what all of them give (`Word-releasing`). The measure is the word that is left.
-use Prim.Native.Nat.{_-_}
-use native.Mathlib.Omega.{arith}
-use lib.Bits.{and-le-r}
-use lib.Count.{trailing-le}
-use borrow.Author.Needs.{needs}
-use Rattle.plan.proofs.TurnLoops.{releasing-none, Word-releasing, word-next, word-turn, word-end}
-use Rattle.plan.proofs.turn.release_word.Statement.{statement}
+use Rattle.lists.specs.Kit.{_-_, arith, and-le-r, trailing-le, needs}
+use Rattle.plan.proofs.{TurnLoops.{releasing-none, Word-releasing, word-next, word-turn, word-end}, turn.release_word.Statement.{statement}}
 use Rattle.plan.proofs.turn.release_word.Tie as tie
 
 abbrev Inv-loop : tie.InvT-loop

@@ -1,12 +1,8 @@
 -- `turn::take_left` meets its contract: of the row of an end, with one bit put, and of any other row as it is, what is left is released.
-use mathlib.Core.Path.{_∙_}
-use mathlib.Core.Bool.{true}
-use Prim.Native.Nat.{_+_, _*_, _-_}
-use native.Mathlib.Omega.{arith}
-use borrow.Author.Needs.{needs}
+use Rattle.lists.specs.Kit.{_∙_, true, _+_, _*_, _-_, arith, needs}
 use Rattle.mesh.specs.Limits.{row-bytes}
-use Rattle.plan.proofs.NearLaws.{releasable-same, released-same, near-left-same, length-part, neighbours-of-end, neighbours-of-lent}
-use Rattle.plan.proofs.turn.take_left.Statement.{statement}
+use Rattle.plan.proofs.{NearLaws.{releasable-same, released-same, near-left-same, length-part, neighbours-of-end, neighbours-of-lent}}
+use Rattle.plan.proofs.{turn.take_left.Statement.{statement}}
 use Rattle.plan.proofs.turn.take_left.Tie as tie
 
 end-row-requires : tie.Need-end-row-requires

@@ -1,10 +1,8 @@
 -- `turn::take_radio` meets its contract: the row of an end is released with one bit put, any other row as it is.
-use Prim.Native.Nat.{_+_, _*_, _-_}
-use native.Mathlib.Omega.{arith}
-use borrow.Author.Needs.{needs}
+use Rattle.lists.specs.Kit.{_+_, _*_, _-_, arith, needs}
 use Rattle.mesh.specs.Limits.{row-bytes}
-use Rattle.plan.proofs.NearLaws.{releasable-same, released-same, length-part, neighbours-of-end, neighbours-of-lent}
-use Rattle.plan.proofs.turn.take_radio.Statement.{statement}
+use Rattle.plan.proofs.{NearLaws.{releasable-same, released-same, length-part, neighbours-of-end, neighbours-of-lent}}
+use Rattle.plan.proofs.{turn.take_radio.Statement.{statement}}
 use Rattle.plan.proofs.turn.take_radio.Tie as tie
 
 release-end-requires : tie.Need-release-end-requires

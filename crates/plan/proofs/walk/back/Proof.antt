@@ -1,10 +1,6 @@
 -- `walk::back` meets its contract: the candidate's mark goes, and its neighbours are released; the mathematics is in `proofs.WalkMade`.
-use mathlib.Core.Path.{refl}
-use Prim.Native.Nat.{_-_}
-use native.Mathlib.Omega.{arith}
-use borrow.Author.Needs.{needs}
-use Rattle.plan.proofs.WalkMade.{back-place, back-below, back-fits, back-takes, back-made}
-use Rattle.plan.proofs.walk.back.Statement.{statement}
+use Rattle.lists.specs.Kit.{refl, _-_, arith, needs}
+use Rattle.plan.proofs.{WalkMade.{back-place, back-below, back-fits, back-takes, back-made}, walk.back.Statement.{statement}}
 use Rattle.plan.proofs.walk.back.Tie as tie
 
 sub-v : tie.Need-sub-v

@@ -1,14 +1,8 @@
 -- `walk::count_left` meets its contract: what is counted so far and what the listed radios from place i on come to is the whole count.
 -- The measure is the radios that are left.
-use Prim.Native.Nat.{_-_, _≤_}
-use native.Mathlib.Omega.{arith}
-use lib.ListN.{take}
-use borrow.Author.Needs.{needs}
-use Rattle.lists.proofs.Loops.{Counted-from}
+use Rattle.lists.{specs.Kit.{_-_, _≤_, arith, take, needs}, proofs.Loops.{Counted-from}}
 use Rattle.plan.specs.Walks.{is-left}
-use Rattle.plan.proofs.WalkLoops.{near-known, left-turn, left-end}
-use Rattle.plan.proofs.LevelCounts.{counted-byte}
-use Rattle.plan.proofs.walk.count_left.Statement.{statement}
+use Rattle.plan.proofs.{WalkLoops.{near-known, left-turn, left-end}, LevelCounts.{counted-byte}, walk.count_left.Statement.{statement}}
 use Rattle.plan.proofs.walk.count_left.Tie as tie
 
 abbrev Inv-loop : tie.InvT-loop

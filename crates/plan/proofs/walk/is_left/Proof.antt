@@ -1,6 +1,5 @@
 -- `walk::is_left` meets its contract: each branch answers what `is-left` names.
-use borrow.Author.Needs.{needs}
-use borrow.Author.Tests.{eq-eqb, ne-eqb, lt-ltb, le-ltb}
+use Rattle.lists.specs.Kit.{needs, eq-eqb, ne-eqb, lt-ltb, le-ltb}
 use Rattle.plan.specs.Walks.{is-left}
 use Rattle.plan.proofs.walk.is_left.Statement.{statement}
 use Rattle.plan.proofs.walk.is_left.Tie as tie

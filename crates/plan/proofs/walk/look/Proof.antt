@@ -1,13 +1,9 @@
 -- `walk::look` meets its contract: the listed neighbours are the ones after the call, what is counted of them is what the radio has left,
 -- and it is held or taken by that; the mathematics is in `proofs.WalkMade`.
-use mathlib.Core.Path.{refl}
-use native.Mathlib.Omega.{arith}
-use borrow.Author.Needs.{needs}
-use lib.ListN.{length}
+use Rattle.lists.specs.Kit.{refl, arith, needs, length}
 use Rattle.mesh.specs.Limits.{max-neighbours, max-radios}
-use Rattle.plan.proofs.WalkTurns.{near-ready}
-use Rattle.plan.proofs.WalkMade.{listed-known, look-below, look-release, look-holds, look-takes}
-use Rattle.plan.proofs.walk.look.Statement.{statement}
+use Rattle.plan.proofs.{WalkTurns.{near-ready}, WalkMade.{listed-known, look-below, look-release, look-holds, look-takes}}
+use Rattle.plan.proofs.{walk.look.Statement.{statement}}
 use Rattle.plan.proofs.walk.look.Tie as tie
 
 cast-neighbours-after : tie.Need-cast-neighbours-after

@@ -1,7 +1,6 @@
 -- `walk::pass` meets its contract: the part of the list that is lent is as long as what is copied over it.
-use borrow.Author.Needs.{needs}
-use Rattle.plan.proofs.WalkLoops.{copied-part}
-use Rattle.plan.proofs.walk.pass.Statement.{statement}
+use Rattle.lists.specs.Kit.{needs}
+use Rattle.plan.proofs.{WalkLoops.{copied-part}, walk.pass.Statement.{statement}}
 use Rattle.plan.proofs.walk.pass.Tie as tie
 
 returns : tie.Need-returns

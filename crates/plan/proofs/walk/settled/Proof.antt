@@ -1,12 +1,7 @@
 -- `walk::settled` meets its contract: where nothing is held, what counts for the first of the part are its later neighbours.
-use mathlib.Core.Path.{refl}
-use native.Mathlib.Omega.{arith}
-use borrow.Author.Needs.{needs}
+use Rattle.lists.specs.Kit.{refl, arith, needs}
 use Rattle.mesh.specs.Limits.{max-radios, max-neighbours}
-use Rattle.plan.proofs.WalkTurns.{near-ready}
-use Rattle.plan.proofs.WalkMade.{listed-known}
-use Rattle.plan.proofs.WalkSteps.{first-below, settled-is}
-use Rattle.plan.proofs.walk.settled.Statement.{statement}
+use Rattle.plan.proofs.{WalkTurns.{near-ready}, WalkMade.{listed-known}, WalkSteps.{first-below, settled-is}, walk.settled.Statement.{statement}}
 use Rattle.plan.proofs.walk.settled.Tie as tie
 
 cast-neighbours-after : tie.Need-cast-neighbours-after

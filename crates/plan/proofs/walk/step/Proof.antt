@@ -1,8 +1,6 @@
 -- `walk::step` meets its contract: the place tells which turn it is; the mathematics is in `proofs.WalkSteps`.
-use native.Mathlib.Omega.{arith}
-use borrow.Author.Needs.{needs}
-use Rattle.plan.proofs.WalkSteps.{front-fits, step-some, step-back, step-look, pass-place, step-pass}
-use Rattle.plan.proofs.walk.step.Statement.{statement}
+use Rattle.lists.specs.Kit.{arith, needs}
+use Rattle.plan.proofs.{WalkSteps.{front-fits, step-some, step-back, step-look, pass-place, step-pass}, walk.step.Statement.{statement}}
 use Rattle.plan.proofs.walk.step.Tie as tie
 
 add-if1 : tie.Need-add-if1

@@ -1,12 +1,7 @@
 -- `walk::touch` meets its contract: the listed radios from place i on give what all of them give. The measure is the radios that are left.
-use Prim.Native.Nat.{_-_}
-use native.Mathlib.Omega.{arith}
-use lib.ListN.{take}
-use borrow.Author.Needs.{needs}
-use Rattle.lists.proofs.Loops.{Folding, folding-none, folding-front, folding-front-end, folding-long}
+use Rattle.lists.{specs.Kit.{_-_, arith, take, needs}, proofs.Loops.{Folding, folding-none, folding-front, folding-front-end}}
 use Rattle.plan.specs.Walks.{place-touched, places-touched}
-use Rattle.plan.proofs.WalkLoops.{near-known, length-place-touched}
-use Rattle.plan.proofs.walk.touch.Statement.{statement}
+use Rattle.plan.proofs.{WalkLoops.{near-known}, walk.touch.Statement.{statement}}
 use Rattle.plan.proofs.walk.touch.Tie as tie
 
 abbrev Inv-loop : tie.InvT-loop

@@ -1,10 +1,6 @@
 -- `walk::touch_one` meets its contract: each branch leaves what `place-touched` names.
-use mathlib.Core.Path.{_∙_}
-use mathlib.Core.Logic.{inl, inr}
-use native.Mathlib.Omega.{arith}
-use borrow.Author.Needs.{needs}
-use Rattle.plan.proofs.WalkLoops.{touched-put, touched-not}
-use Rattle.plan.proofs.walk.touch_one.Statement.{statement}
+use Rattle.lists.specs.Kit.{_∙_, inl, inr, arith, needs}
+use Rattle.plan.proofs.{WalkLoops.{touched-put, touched-not}, walk.touch_one.Statement.{statement}}
 use Rattle.plan.proofs.walk.touch_one.Tie as tie
 
 cast-put : tie.Need-cast-put

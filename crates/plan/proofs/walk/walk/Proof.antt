@@ -1,11 +1,7 @@
 -- `walk::walk` meets its contract: each turn leaves a state of the walk, and p is where the next one is (`Walk-from`). The measure is how
 -- far front and taken are from the end of the part.
-use Prim.Native.Nat.{_+_, _*_, _-_}
-use native.Mathlib.Omega.{arith}
-use lib.ListN.{length}
-use borrow.Author.Needs.{needs}
-use Rattle.plan.proofs.WalkSteps.{start-state, start-free, front-fits, Walk-from, walk-end, walk-entries, done-as}
-use Rattle.plan.proofs.walk.walk.Statement.{statement}
+use Rattle.lists.specs.Kit.{_+_, _*_, _-_, arith, needs}
+use Rattle.plan.proofs.{WalkSteps.{start-state, start-free, front-fits, Walk-from, walk-end, walk-entries, done-as}, walk.walk.Statement.{statement}}
 use Rattle.plan.proofs.walk.walk.Tie as tie
 
 abbrev Inv-loop : tie.InvT-loop

@@ -1,8 +1,6 @@
 -- `words::join_after` meets its contract: the row as it stands, and at an end of the link the other end's bit.
-use mathlib.Core.Path.{_∙_}
-use borrow.Author.Needs.{needs}
-use Rattle.plan.proofs.WordLaws.{joined-row, joined-end}
-use Rattle.plan.proofs.wide_steps.join_after.Statement.{statement}
+use Rattle.lists.specs.Kit.{_∙_, needs}
+use Rattle.plan.proofs.{WordLaws.{joined-row, joined-end}, wide_steps.join_after.Statement.{statement}}
 use Rattle.plan.proofs.wide_steps.join_after.Tie as tie
 
 returns : tie.Need-returns

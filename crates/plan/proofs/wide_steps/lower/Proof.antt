@@ -1,11 +1,8 @@
 -- `words::lower` meets its contract: what the words from word k on leave, all of them leave (`Words-lowering`). The measure is the words
 -- that are left.
-use mathlib.Core.Path.{_∙_}
-use Prim.Native.Nat.{_-_}
-use native.Mathlib.Omega.{arith}
-use borrow.Author.Needs.{needs}
-use Rattle.plan.proofs.WordLaws.{Words-lowering, words-lowering-none, words-lowering-end, words-ready, words-lowered}
-use Rattle.plan.proofs.wide_steps.lower.Statement.{statement}
+use Rattle.lists.specs.Kit.{_∙_, _-_, arith, needs}
+use Rattle.plan.proofs.{WordLaws.{Words-lowering, words-lowering-none, words-lowering-end, words-ready, words-lowered}}
+use Rattle.plan.proofs.{wide_steps.lower.Statement.{statement}}
 use Rattle.plan.proofs.wide_steps.lower.Tie as tie
 
 abbrev Inv-loop : tie.InvT-loop

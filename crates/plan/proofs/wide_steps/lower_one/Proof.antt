@@ -1,7 +1,6 @@
 -- `words::lower_one` meets its contract, branch by branch.
-use borrow.Author.Needs.{needs}
-use Rattle.plan.proofs.WordLaws.{lowered-due, lowered-only}
-use Rattle.plan.proofs.wide_steps.lower_one.Statement.{statement}
+use Rattle.lists.specs.Kit.{needs}
+use Rattle.plan.proofs.{WordLaws.{lowered-due, lowered-only}, wide_steps.lower_one.Statement.{statement}}
 use Rattle.plan.proofs.wide_steps.lower_one.Tie as tie
 
 returns : tie.Need-returns

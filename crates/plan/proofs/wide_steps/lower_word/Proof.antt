@@ -1,15 +1,8 @@
 -- `words::lower_word` meets its contract: each turn takes the lowest set bit off the word, and what the rest leaves, the whole leaves
 -- (`Word-lowering`). The measure is the word that is left.
-use mathlib.Core.Path.{ap, _∙_}
-use Prim.Native.Nat.{_-_}
-use native.Mathlib.Omega.{arith}
-use lib.Bits.{and-le-r}
-use lib.Count.{trailing-le}
-use borrow.Author.Needs.{needs}
-use Rattle.rows.specs.Rows.{set-bits}
-use Rattle.rows.proofs.WordLaws.{set-bits-nothing}
-use Rattle.plan.proofs.WordLaws.{Word-lowering, lowering-none, lowering-end, word-known, word-lowered}
-use Rattle.plan.proofs.wide_steps.lower_word.Statement.{statement}
+use Rattle.lists.specs.Kit.{ap, _∙_, _-_, arith, and-le-r, trailing-le, needs}
+use Rattle.rows.{specs.Rows.{set-bits}, proofs.WordLaws.{set-bits-nothing}}
+use Rattle.plan.proofs.{WordLaws.{Word-lowering, lowering-none, lowering-end, word-known, word-lowered}, wide_steps.lower_word.Statement.{statement}}
 use Rattle.plan.proofs.wide_steps.lower_word.Tie as tie
 
 abbrev Inv-loop : tie.InvT-loop

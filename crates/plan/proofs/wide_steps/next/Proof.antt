@@ -1,7 +1,6 @@
 -- `words::next` meets its contract: each branch answers what `next-turn` names.
-use borrow.Author.Needs.{needs}
-use Rattle.plan.proofs.WordLaws.{next-end, next-back, next-last, next-front}
-use Rattle.plan.proofs.wide_steps.next.Statement.{statement}
+use Rattle.lists.specs.Kit.{needs}
+use Rattle.plan.proofs.{WordLaws.{next-end, next-back, next-last, next-front}, wide_steps.next.Statement.{statement}}
 use Rattle.plan.proofs.wide_steps.next.Tie as tie
 
 returns : tie.Need-returns

@@ -1,10 +1,6 @@
 -- `words::set_of` meets its contract: the radios before place i are in the set (`Setting`). The measure is the radios that are left.
-use Prim.Native.Nat.{_-_}
-use native.Mathlib.Omega.{arith}
-use lib.ListN.{length}
-use borrow.Author.Needs.{needs}
-use Rattle.plan.proofs.WordLaws.{Setting, setting-none, setting-turn, setting-end}
-use Rattle.plan.proofs.wide_steps.set_of.Statement.{statement}
+use Rattle.lists.specs.Kit.{_-_, arith, length, needs}
+use Rattle.plan.proofs.{WordLaws.{Setting, setting-none, setting-turn, setting-end}, wide_steps.set_of.Statement.{statement}}
 use Rattle.plan.proofs.wide_steps.set_of.Tie as tie
 
 abbrev Inv-loop : tie.InvT-loop

@@ -1,13 +1,8 @@
 -- `words::back` meets its contract: the candidate leaves the sets, and the candidates among its neighbours lose one; the mathematics is in
 -- `proofs.WordTurns`.
-use mathlib.Core.Path.{refl, _∙_}
-use Prim.Native.Nat.{ℕ, _-_}
-use native.Mathlib.Omega.{arith}
-use lib.ListN.{length-replicate}
-use borrow.Author.Needs.{needs}
-use Rattle.plan.proofs.WordTurns.{ends-ready, back-place, back-below, back-fits, back-lowerable, back-done}
-use Rattle.plan.proofs.WordTurns.{lowerable-as, lowered-as, out-long, state-as}
-use Rattle.plan.proofs.wide_walk.back.Statement.{statement}
+use Rattle.lists.specs.Kit.{refl, _∙_, ℕ, _-_, arith, length-replicate, needs}
+use Rattle.plan.proofs.{WordTurns.{ends-ready, back-place, back-below, back-fits, back-lowerable, back-done, lowerable-as, lowered-as, out-long}}
+use Rattle.plan.proofs.{WordTurns.{state-as}, wide_walk.back.Statement.{statement}}
 use Rattle.plan.proofs.wide_walk.back.Tie as tie
 
 sub-v : tie.Need-sub-v

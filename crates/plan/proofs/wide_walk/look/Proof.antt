@@ -1,12 +1,8 @@
 -- `words::look` meets its contract: what both sets have is what the radio has left, and it is held or taken by that; the mathematics is in
 -- `proofs.WordTurns`.
-use mathlib.Core.Path.{refl, _∙_}
-use Prim.Native.Nat.{ℕ}
-use native.Mathlib.Omega.{arith}
-use lib.ListN.{length-replicate}
-use borrow.Author.Needs.{needs}
-use Rattle.plan.proofs.WordTurns.{ends-ready, front-below, front-room, look-few, look-held, look-lowerable, look-taken, state-as}
-use Rattle.plan.proofs.wide_walk.look.Statement.{statement}
+use Rattle.lists.specs.Kit.{refl, _∙_, ℕ, arith, length-replicate, needs}
+use Rattle.plan.proofs.{WordTurns.{ends-ready, front-below, front-room, look-few, look-held, look-lowerable, look-taken, state-as}}
+use Rattle.plan.proofs.{wide_walk.look.Statement.{statement}}
 use Rattle.plan.proofs.wide_walk.look.Tie as tie
 
 shared-slice-read-v : tie.Need-shared-slice-read-v

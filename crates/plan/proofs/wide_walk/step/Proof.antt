@@ -1,9 +1,6 @@
 -- `words::step` meets its contract: the place tells which turn it is; the mathematics is in `proofs.WordTurns`.
-use mathlib.Core.Path.{refl, sym, _∙_}
-use native.Mathlib.Omega.{arith}
-use borrow.Author.Needs.{needs}
-use Rattle.plan.proofs.WordTurns.{step-some, step-back, step-free, front-room, pass-done, state-as}
-use Rattle.plan.proofs.wide_walk.step.Statement.{statement}
+use Rattle.lists.specs.Kit.{refl, sym, _∙_, arith, needs}
+use Rattle.plan.proofs.{WordTurns.{step-some, step-back, step-free, front-room, pass-done, state-as}, wide_walk.step.Statement.{statement}}
 use Rattle.plan.proofs.wide_walk.step.Tie as tie
 
 back-requires : tie.Need-back-requires

@@ -1,13 +1,10 @@
 -- `words::walk` meets its contract: each turn leaves a state of the walk, and p is where the next one is (`Words-from`). The measure is how
 -- far front and taken are from the end of the part.
-use Prim.Native.Nat.{_+_, _*_, _-_}
-use native.Mathlib.Omega.{arith}
-use borrow.Author.Needs.{needs}
+use Rattle.lists.specs.Kit.{_+_, _*_, _-_, arith, needs}
 use Rattle.rows.proofs.SetLaws.{in-set-zeros}
 use Rattle.plan.specs.WideWalk.{work}
-use Rattle.plan.proofs.WalkSteps.{done-as}
-use Rattle.plan.proofs.WordTurns.{Words-from, words-start, front-fits, words-entries, words-end}
-use Rattle.plan.proofs.wide_walk.walk.Statement.{statement}
+use Rattle.plan.proofs.{WalkSteps.{done-as}, WordTurns.{Words-from, words-start, front-fits, words-entries, words-end}}
+use Rattle.plan.proofs.{wide_walk.walk.Statement.{statement}}
 use Rattle.plan.proofs.wide_walk.walk.Tie as tie
 
 abbrev Inv-loop : tie.InvT-loop

@@ -1,6 +1,6 @@
 -- `faults::put_line` meets its contract: one text after another.
+use Rattle.lists.specs.Kit.{needs}
 use Rattle.text.proofs.PrintLaws.{puts-append}
-use borrow.Author.Needs.{needs}
 use Rattle.player.proofs.faults.put_line.Statement.{statement}
 use Rattle.player.proofs.faults.put_line.Tie as tie
 

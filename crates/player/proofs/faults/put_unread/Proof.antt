@@ -1,6 +1,5 @@
 -- `faults::put_unread` meets its contract: each state in turn.
-use borrow.Author.Needs.{needs}
-use borrow.Author.Tests.{eq-eqb, ne-eqb}
+use Rattle.lists.specs.Kit.{needs, eq-eqb, ne-eqb}
 use Rattle.player.specs.Reads.{folder, blocks, closed, device, unread-words}
 use Rattle.player.proofs.faults.put_unread.Statement.{statement}
 use Rattle.player.proofs.faults.put_unread.Tie as tie

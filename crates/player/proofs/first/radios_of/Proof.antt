@@ -1,10 +1,7 @@
 -- `first::radios_of` meets its contract: the cases of the parser are the cases of `site-of`.
-use mathlib.Core.Path.{sym, _∙_}
-use native.Mathlib.Omega.{arith}
-use borrow.Author.Needs.{needs}
+use Rattle.lists.specs.Kit.{sym, _∙_, arith, needs}
 use Rattle.player.specs.Play.{site-of}
-use Rattle.player.proofs.PlayLaws.{radios-of-line, site-of-radios, site-of-over}
-use Rattle.player.proofs.first.radios_of.Statement.{statement}
+use Rattle.player.proofs.{PlayLaws.{radios-of-line, site-of-radios, site-of-over}, first.radios_of.Statement.{statement}}
 use Rattle.player.proofs.first.radios_of.Tie as tie
 
 returns : tie.Need-returns

@@ -1,12 +1,7 @@
 -- `first::read_first` meets its contract: the line is what the reads brought, and `radios-of` has the bound.
-use mathlib.Core.Path.{sym, ap, _∙_}
-use native.Mathlib.Omega.{arith}
-use lib.Seq.{length-take-le}
-use Rattle.player.proofs.ReadLaws.{fills-front}
+use Rattle.lists.specs.Kit.{sym, ap, _∙_, arith, length-take-le, needs}
+use Rattle.player.proofs.{ReadLaws.{fills-front}, PlayLaws.{radios-of-le}, first.read_first.Statement.{statement}}
 use Rattle.player.specs.Play.{radios-of}
-use Rattle.player.proofs.PlayLaws.{radios-of-le}
-use borrow.Author.Needs.{needs}
-use Rattle.player.proofs.first.read_first.Statement.{statement}
 use Rattle.player.proofs.first.read_first.Tie as tie
 
 slice-aggregate-radios-of : tie.Need-slice-aggregate-radios-of

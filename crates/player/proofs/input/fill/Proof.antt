@@ -1,11 +1,7 @@
 -- `fill` meets its contract: the reads so far filled the buffer to the place, and the measure is the count of reads left.
-use mathlib.Core.Path.{_≡_, refl}
-use native.Mathlib.Omega.{arith}
-use lib.ListN.{length}
+use Rattle.lists.specs.Kit.{_≡_, refl, length, needs}
 use Rattle.io.proofs.Counting.{counts}
-use borrow.Author.Needs.{needs}
-use Rattle.player.proofs.ReadLaws.{Filled, filled-none, filled-more, filled-on, filled-out}
-use Rattle.player.proofs.input.fill.Statement.{statement}
+use Rattle.player.proofs.{ReadLaws.{Filled, filled-none, filled-more, filled-on, filled-out}, input.fill.Statement.{statement}}
 use Rattle.player.proofs.input.fill.Tie as tie
 
 abbrev Inv-loop : tie.InvT-loop

@@ -1,9 +1,7 @@
 -- `fill_on` meets its contract: what the read brought has room in the buffer.
-use native.Mathlib.Omega.{arith}
+use Rattle.lists.specs.Kit.{arith, needs}
 use Rattle.io.proofs.Counting.{counts}
-use borrow.Author.Needs.{needs}
-use Rattle.player.proofs.ReadLaws.{none-found, take-none, put-within}
-use Rattle.player.proofs.input.fill_on.Statement.{statement}
+use Rattle.player.proofs.{ReadLaws.{none-found, take-none, put-within}, input.fill_on.Statement.{statement}}
 use Rattle.player.proofs.input.fill_on.Tie as tie
 
 returns : tie.Need-returns

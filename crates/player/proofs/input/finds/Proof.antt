@@ -1,8 +1,7 @@
 -- `finds` meets its contract: each number in turn.
-use mathlib.Core.Path.{refl}
+use Rattle.lists.specs.Kit.{refl}
 use Rattle.player.specs.Reads.{failure}
-use Rattle.player.proofs.ReadLaws.{error-is, error-other}
-use Rattle.player.proofs.input.finds.Statement.{statement}
+use Rattle.player.proofs.{ReadLaws.{error-is, error-other}, input.finds.Statement.{statement}}
 use Rattle.player.proofs.input.finds.Tie as tie
 
 returns : tie.Need-returns

@@ -1,7 +1,5 @@
 -- `is_filled` meets its contract: it is false only after the first test.
-use mathlib.Core.Path.{sym}
-use mathlib.Core.Bool.{true≢false}
-use borrow.Author.Needs.{needs}
+use Rattle.lists.specs.Kit.{true≢false, needs}
 use Rattle.player.proofs.input.is_filled.Statement.{statement}
 use Rattle.player.proofs.input.is_filled.Tie as tie
 

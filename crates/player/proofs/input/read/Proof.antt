@@ -1,10 +1,6 @@
 -- `read` meets its contract: it reads into the front of the chunk alone, and what it counts is there.
-use mathlib.Core.Path.{sym}
-use native.Mathlib.Omega.{arith}
-use lib.Seq.{length-take-le}
-use borrow.Author.Needs.{needs}
-use Rattle.player.proofs.ReadLaws.{found-in, take-few, take-counts}
-use Rattle.player.proofs.input.read.Statement.{statement}
+use Rattle.lists.specs.Kit.{sym, arith, length-take-le, needs}
+use Rattle.player.proofs.{ReadLaws.{found-in, take-few, take-counts}, input.read.Statement.{statement}}
 use Rattle.player.proofs.input.read.Tie as tie
 
 returns : tie.Need-returns

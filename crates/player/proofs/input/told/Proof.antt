@@ -1,11 +1,8 @@
 -- `told` meets its contract: no room, a failure, the end, bytes.
-use mathlib.Core.Path.{refl, ap, _∙_}
-use native.Mathlib.Omega.{arith}
+use Rattle.lists.specs.Kit.{refl, ap, _∙_, arith, needs}
 use mir.Facts.{toZ-ofZ}
 use Rattle.player.specs.Reads.{failure}
-use borrow.Author.Needs.{needs}
-use Rattle.player.proofs.ReadLaws.{found-nowhere, found-failed, found-end, found-bytes}
-use Rattle.player.proofs.input.told.Statement.{statement}
+use Rattle.player.proofs.{ReadLaws.{found-nowhere, found-failed, found-end, found-bytes}, input.told.Statement.{statement}}
 use Rattle.player.proofs.input.told.Tie as tie
 
 returns : tie.Need-returns

@@ -1,7 +1,6 @@
 -- `within` meets its contract: either length is one of the buffer.
-use native.Mathlib.Omega.{arith}
+use Rattle.lists.specs.Kit.{arith}
 use Rattle.io.proofs.Counting.{counts}
-use borrow.Author.Needs.{needs}
 use Rattle.player.proofs.input.within.Statement.{statement}
 use Rattle.player.proofs.input.within.Tie as tie
 

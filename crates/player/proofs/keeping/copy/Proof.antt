@@ -1,13 +1,8 @@
 -- `keeping::copy` meets its contract: the reads before the last went on, and the last is at the end. The measure is the count of reads left.
-use mathlib.Core.Path.{_≡_, sym, subst}
-use mathlib.Core.Bool.{true, true≢false}
-use lib.IntN.{ℤ, pos}
+use Rattle.lists.specs.Kit.{_≡_, sym, subst, true, true≢false, ℤ, pos, needs, eqb-true}
 use lib.Signed.{ltZ}
 use mir.Facts.{toZ-ofZ}
-use borrow.Author.Needs.{needs}
-use borrow.Author.Tests.{eqb-true}
-use Rattle.player.proofs.StatusLaws.{Copying, copying-none, copying-more, copied, no-keep}
-use Rattle.player.proofs.keeping.copy.Statement.{statement}
+use Rattle.player.proofs.{StatusLaws.{Copying, copying-none, copying-more, copied, no-keep}, keeping.copy.Statement.{statement}}
 use Rattle.player.proofs.keeping.copy.Tie as tie
 
 abbrev Inv-loop : tie.InvT-loop

@@ -1,9 +1,6 @@
 -- `keeping::copy_on` meets its contract: what the read found is handed on, unless the write failed.
-use mathlib.Core.List.{[]}
-use native.Mathlib.Omega.{arith}
-use borrow.Author.Needs.{needs}
-use Rattle.player.proofs.StatusLaws.{copy-failed, copy-once}
-use Rattle.player.proofs.keeping.copy_on.Statement.{statement}
+use Rattle.lists.specs.Kit.{[], arith, needs}
+use Rattle.player.proofs.{StatusLaws.{copy-failed, copy-once}, keeping.copy_on.Statement.{statement}}
 use Rattle.player.proofs.keeping.copy_on.Tie as tie
 
 returns : tie.Need-returns

@@ -1,9 +1,6 @@
 -- `machine::end` meets its contract: the closing lines fit the printing buffer.
-use mathlib.Core.Path.{refl}
-use native.Mathlib.Omega.{arith}
-use Rattle.player.proofs.ReadingLaws.{closing-writes}
-use borrow.Author.Needs.{needs}
-use Rattle.player.proofs.machine.end.Statement.{statement}
+use Rattle.lists.specs.Kit.{refl, arith, needs}
+use Rattle.player.proofs.{ReadingLaws.{closing-writes}, machine.end.Statement.{statement}}
 use Rattle.player.proofs.machine.end.Tie as tie
 
 returns : tie.Need-returns

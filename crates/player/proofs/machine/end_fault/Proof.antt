@@ -1,9 +1,6 @@
 -- `machine::end_fault` meets its contract: bytes that are held are a fault.
-use mathlib.Core.Path.{sym, _∙_}
-use native.Mathlib.Omega.{arith}
-use Rattle.player.proofs.ReadingLaws.{fault-first}
-use borrow.Author.Needs.{needs}
-use Rattle.player.proofs.machine.end_fault.Statement.{statement}
+use Rattle.lists.specs.Kit.{sym, _∙_, arith, needs}
+use Rattle.player.proofs.{ReadingLaws.{fault-first}, machine.end_fault.Statement.{statement}}
 use Rattle.player.proofs.machine.end_fault.Tie as tie
 
 returns : tie.Need-returns

@@ -1,8 +1,6 @@
 -- `machine::finish` meets its contract: bytes are held exactly where the smaller of their count and the line's room is not 0.
-use mathlib.Core.Path.{sym, _∙_}
-use borrow.Author.Needs.{needs}
-use Rattle.player.proofs.MachineLaws.{puts-open, puts-closing}
-use Rattle.player.proofs.machine.finish.Statement.{statement}
+use Rattle.lists.specs.Kit.{sym, _∙_, needs}
+use Rattle.player.proofs.{MachineLaws.{puts-open, puts-closing}, machine.finish.Statement.{statement}}
 use Rattle.player.proofs.machine.finish.Tie as tie
 
 returns : tie.Need-returns

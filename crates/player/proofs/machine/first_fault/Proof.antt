@@ -1,6 +1,5 @@
 -- `machine::first_fault` meets its contract: by whether there is a fault.
-use borrow.Author.Tests.{eq-eqb, ne-eqb}
-use borrow.Author.Needs.{needs}
+use Rattle.lists.specs.Kit.{eq-eqb, ne-eqb}
 use Rattle.player.proofs.machine.first_fault.Statement.{statement}
 use Rattle.player.proofs.machine.first_fault.Tie as tie
 

@@ -1,9 +1,6 @@
 -- `machine::stopped` meets its contract: `bad L` is put, and the run has a fault.
-use mathlib.Core.Path.{refl}
-use native.Mathlib.Omega.{arith}
-use Rattle.player.proofs.ReadingLaws.{fault-first}
-use borrow.Author.Needs.{needs}
-use Rattle.player.proofs.machine.stopped.Statement.{statement}
+use Rattle.lists.specs.Kit.{refl, arith, needs}
+use Rattle.player.proofs.{ReadingLaws.{fault-first}, machine.stopped.Statement.{statement}}
 use Rattle.player.proofs.machine.stopped.Tie as tie
 
 returns : tie.Need-returns

@@ -1,17 +1,8 @@
 -- `machine::take_byte` meets its contract: each way through it is one thing that the machine does with a byte.
-use mathlib.Core.Path.{refl, sym, _∙_}
-use mathlib.Core.Bool.{true, true≢false}
-use Prim.Native.Nat.{_+_}
-use native.Mathlib.Omega.{arith}
-use lib.ListN.{length-set}
-use lib.Seq.{length-take-le}
-use borrow.Author.Tests.{not-true, not-false}
-use borrow.Author.Needs.{needs}
+use Rattle.lists.specs.Kit.{refl, sym, _∙_, true, true≢false, _+_, arith, length-set, length-take-le, not-true, not-false, needs}
 use Rattle.mesh.specs.Tables.{tables}
-use Rattle.player.specs.Machine.{Marked}
-use Rattle.player.specs.declared.machine.Progress.{Progress}
-use Rattle.player.proofs.ByteLaws.{byte-over, byte-long, byte-held, byte-call, byte-bad}
-use Rattle.player.proofs.machine.take_byte.Statement.{statement}
+use Rattle.player.specs.{Machine.{Marked}, declared.machine.Progress.{Progress}}
+use Rattle.player.proofs.{ByteLaws.{byte-over, byte-long, byte-held, byte-call, byte-bad}, machine.take_byte.Statement.{statement}}
 use Rattle.player.proofs.machine.take_byte.Tie as tie
 
 returns : tie.Need-returns

@@ -1,9 +1,7 @@
 -- `play::play_call` meets its contract: the line put is the one of the reply that the call gave.
-use mir.Syntax.{w8}
-use mir.Facts.{toZ-ofZ}
-use borrow.Author.Needs.{needs}
-use Rattle.player.proofs.LineLaws.{called-prints}
-use Rattle.player.proofs.play.play_call.Statement.{statement}
+use Rattle.lists.specs.Kit.{needs}
+use mir.{Syntax.{w8}, Facts.{toZ-ofZ}}
+use Rattle.player.proofs.{LineLaws.{called-prints}, play.play_call.Statement.{statement}}
 use Rattle.player.proofs.play.play_call.Tie as tie
 
 returns : tie.Need-returns

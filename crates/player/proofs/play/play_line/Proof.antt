@@ -1,9 +1,7 @@
 -- `play::play_line` meets its contract: the cases of the parser are the cases of `Played`.
-use mathlib.Core.Path.{refl}
-use borrow.Author.Needs.{needs}
+use Rattle.lists.specs.Kit.{refl, needs}
 use Rattle.player.specs.Lines.{is-call}
-use Rattle.player.proofs.LineLaws.{line-calls, up-played, down-played, none-played}
-use Rattle.player.proofs.play.play_line.Statement.{statement}
+use Rattle.player.proofs.{LineLaws.{line-calls, up-played, down-played, none-played}, play.play_line.Statement.{statement}}
 use Rattle.player.proofs.play.play_line.Tie as tie
 
 returns : tie.Need-returns

@@ -1,9 +1,7 @@
 -- `reading::broken` meets its contract: nothing but the fault is another, and a failure is one.
-use mathlib.Core.Path.{refl}
+use Rattle.lists.specs.Kit.{refl, needs}
 use Rattle.player.specs.Reading.{broken-off}
-use Rattle.player.proofs.ReadingLaws.{fault-first}
-use borrow.Author.Needs.{needs}
-use Rattle.player.proofs.reading.broken.Statement.{statement}
+use Rattle.player.proofs.{ReadingLaws.{fault-first}, reading.broken.Statement.{statement}}
 use Rattle.player.proofs.reading.broken.Tie as tie
 
 returns : tie.Need-returns

@@ -1,7 +1,6 @@
 -- `reading::conclude` meets its contract: what goes wrong has status 1, and a run that is over has that of its printing.
-use borrow.Author.Needs.{needs}
-use Rattle.player.proofs.StatusLaws.{concluded-wrong, concluded-over}
-use Rattle.player.proofs.reading.conclude.Statement.{statement}
+use Rattle.lists.specs.Kit.{needs}
+use Rattle.player.proofs.{StatusLaws.{concluded-wrong, concluded-over}, reading.conclude.Statement.{statement}}
 use Rattle.player.proofs.reading.conclude.Tie as tie
 
 returns : tie.Need-returns

@@ -1,7 +1,6 @@
 -- `reading::kept_fault` meets its contract: a fault stays.
-use Rattle.player.proofs.ReadingLaws.{fault-first}
-use borrow.Author.Needs.{needs}
-use Rattle.player.proofs.reading.kept_fault.Statement.{statement}
+use Rattle.lists.specs.Kit.{needs}
+use Rattle.player.proofs.{ReadingLaws.{fault-first}, reading.kept_fault.Statement.{statement}}
 use Rattle.player.proofs.reading.kept_fault.Tie as tie
 
 returns-2 : tie.Need-returns-2

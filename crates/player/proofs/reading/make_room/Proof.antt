@@ -1,7 +1,6 @@
 -- `reading::make_room` meets its contract: the two cases of a buffer that is full or not.
-use Rattle.player.proofs.ReadingLaws.{room-made-not, room-made-full}
-use borrow.Author.Needs.{needs}
-use Rattle.player.proofs.reading.make_room.Statement.{statement}
+use Rattle.lists.specs.Kit.{needs}
+use Rattle.player.proofs.{ReadingLaws.{room-made-not, room-made-full}, reading.make_room.Statement.{statement}}
 use Rattle.player.proofs.reading.make_room.Tie as tie
 
 returns : tie.Need-returns

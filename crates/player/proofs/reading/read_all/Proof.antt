@@ -1,7 +1,6 @@
 -- `reading::read_all` meets its contract: the line and the printing buffer have their room.
-use borrow.Author.Needs.{needs}
-use Rattle.player.proofs.StatusLaws.{lines-status}
-use Rattle.player.proofs.reading.read_all.Statement.{statement}
+use Rattle.lists.specs.Kit.{needs}
+use Rattle.player.proofs.{StatusLaws.{lines-status}, reading.read_all.Statement.{statement}}
 use Rattle.player.proofs.reading.read_all.Tie as tie
 
 read-turns-requires : tie.Need-read-turns-requires

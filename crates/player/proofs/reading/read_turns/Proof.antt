@@ -1,14 +1,10 @@
 -- `reading::read_turns` meets its contract: what the reads so far brought is taken, and the measure is the count of reads left.
-use mathlib.Core.Path.{_≡_, refl, sym, _∙_}
-use native.Mathlib.Omega.{arith}
-use lib.ListN.{length}
-use borrow.Author.Needs.{needs}
-use borrow.Author.Tests.{not-false}
+use Rattle.lists.specs.Kit.{_≡_, refl, _∙_, arith, length, needs, not-false}
 use Rattle.mesh.specs.Tables.{tables}
 use Rattle.text.specs.Print.{buffer-at}
 use Rattle.player.specs.Machine.{spot}
-use Rattle.player.proofs.ReadingLaws.{Read-to, read-none, read-more, read-end, sized-as, sized-cleared, ready-turn}
-use Rattle.player.proofs.reading.read_turns.Statement.{statement}
+use Rattle.player.proofs.{ReadingLaws.{Read-to, read-none, read-more, read-end, sized-as, sized-cleared, ready-turn}}
+use Rattle.player.proofs.{reading.read_turns.Statement.{statement}}
 use Rattle.player.proofs.reading.read_turns.Tie as tie
 
 abbrev Inv-loop : tie.InvT-loop

@@ -1,14 +1,9 @@
 -- `reading::take_chunk` meets its contract: the bytes passed so far are taken, and the measure is what is left of the chunk.
-use mathlib.Core.Path.{_≡_, refl}
-use Prim.Native.Nat.{_-_}
-use native.Mathlib.Omega.{arith}
-use lib.ListN.{length}
-use borrow.Author.Needs.{needs}
+use Rattle.lists.specs.Kit.{_≡_, refl, _-_, arith, length, needs}
 use Rattle.mesh.specs.Tables.{tables}
 use Rattle.text.specs.Print.{buffer-at}
 use Rattle.player.specs.Machine.{spot, Marked}
-use Rattle.player.proofs.ReadingLaws.{Chunk-to, chunk-none, chunk-more, chunk-end, marked-room}
-use Rattle.player.proofs.reading.take_chunk.Statement.{statement}
+use Rattle.player.proofs.{ReadingLaws.{Chunk-to, chunk-none, chunk-more, chunk-end, marked-room}, reading.take_chunk.Statement.{statement}}
 use Rattle.player.proofs.reading.take_chunk.Tie as tie
 
 abbrev Inv-loop : tie.InvT-loop

@@ -1,11 +1,8 @@
 -- `reading::take_read` meets its contract: by what the read found.
-use mathlib.Core.Path.{sym, ap, _∙_}
-use mathlib.Core.Bool.{true≢false}
-use native.Mathlib.Omega.{arith}
-use borrow.Author.Needs.{needs}
+use Rattle.lists.specs.Kit.{sym, _∙_, true≢false, arith, needs}
 use Rattle.player.specs.Machine.{Marked}
-use Rattle.player.proofs.ReadingLaws.{turn-ended, read-ended, read-bytes, read-failed, turn-broken, broken-live, broken-at, marked-live}
-use Rattle.player.proofs.reading.take_read.Statement.{statement}
+use Rattle.player.proofs.{ReadingLaws.{turn-ended, read-ended, read-bytes, read-failed, turn-broken, broken-live, broken-at, marked-live}}
+use Rattle.player.proofs.{reading.take_read.Statement.{statement}}
 use Rattle.player.proofs.reading.take_read.Tie as tie
 
 returns : tie.Need-returns

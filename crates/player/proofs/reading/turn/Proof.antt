@@ -1,8 +1,6 @@
 -- `reading::turn` meets its contract: what the read brought is handed on, and is at most what a read can bring.
-use native.Mathlib.Omega.{arith}
-use borrow.Author.Needs.{needs}
-use Rattle.player.proofs.ReadingLaws.{ready-less, reads-once}
-use Rattle.player.proofs.reading.turn.Statement.{statement}
+use Rattle.lists.specs.Kit.{arith, needs}
+use Rattle.player.proofs.{ReadingLaws.{ready-less, reads-once}, reading.turn.Statement.{statement}}
 use Rattle.player.proofs.reading.turn.Tie as tie
 
 take-read-requires : tie.Need-take-read-requires

@@ -1,11 +1,7 @@
 -- `words::descriptor` meets its contract: by the word's length, and by its byte.
-use mathlib.Core.Path.{sym, ap, _∙_}
-use native.Mathlib.Omega.{arith}
-use mir.Syntax.{w32}
-use mir.Facts.{toZ-pos}
-use borrow.Author.Needs.{needs}
-use Rattle.player.proofs.WordLaws.{descriptor-other, descriptor-below, descriptor-above, descriptor-digit}
-use Rattle.player.proofs.words.descriptor.Statement.{statement}
+use Rattle.lists.specs.Kit.{arith, needs}
+use mir.{Syntax.{w32}, Facts.{toZ-pos}}
+use Rattle.player.proofs.{WordLaws.{descriptor-other, descriptor-below, descriptor-above, descriptor-digit}, words.descriptor.Statement.{statement}}
 use Rattle.player.proofs.words.descriptor.Tie as tie
 
 returns : tie.Need-returns

@@ -1,6 +1,5 @@
 -- `words::run_words` meets its contract: without words it is the run, and with any it is no run.
-use native.Mathlib.Omega.{arith}
-use borrow.Author.Needs.{needs}
+use Rattle.lists.specs.Kit.{arith, needs}
 use Rattle.player.proofs.words.run_words.Statement.{statement}
 use Rattle.player.proofs.words.run_words.Tie as tie
 

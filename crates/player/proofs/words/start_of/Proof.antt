@@ -1,9 +1,7 @@
 -- `words::start_of` meets its contract: by the first word.
-use mathlib.Core.Path.{sym, _∙_}
+use Rattle.lists.specs.Kit.{sym, _∙_, needs}
 use mir.Facts.{toZ-ofZ}
-use borrow.Author.Needs.{needs}
-use Rattle.player.proofs.WordLaws.{start-told, start-plain}
-use Rattle.player.proofs.words.start_of.Statement.{statement}
+use Rattle.player.proofs.{WordLaws.{start-told, start-plain}, words.start_of.Statement.{statement}}
 use Rattle.player.proofs.words.start_of.Tie as tie
 
 returns : tie.Need-returns

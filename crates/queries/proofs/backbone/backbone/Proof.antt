@@ -1,10 +1,8 @@
 -- `backbone` meets its contract: on sound tables the set that the parts leave is the backbone, and its bits are listed
 -- ascending.
-use mathlib.Core.Path.{refl}
-use borrow.Author.Needs.{needs}
+use Rattle.lists.specs.Kit.{refl, needs}
 use Rattle.mesh.specs.Tables.{tables}
-use Rattle.queries.proofs.PartLaws.{backbone-refused, backbone-small, backbone-listed}
-use Rattle.queries.proofs.backbone.backbone.Statement.{statement}
+use Rattle.queries.proofs.{PartLaws.{backbone-refused, backbone-small, backbone-listed}, backbone.backbone.Statement.{statement}}
 use Rattle.queries.proofs.backbone.backbone.Tie as tie
 
 returns : tie.Need-returns

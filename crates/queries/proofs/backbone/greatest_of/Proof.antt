@@ -1,12 +1,7 @@
 -- `greatest_of` meets its contract: what is left of the list and the greatest so far give the greatest (`Folding`). The
 -- measure is what is left of the list.
-use mathlib.Core.Path.{ap, _∙_}
-use Prim.Native.Nat.{max, _-_}
-use lib.ListN.{take}
-use borrow.Author.Needs.{needs}
-use Rattle.lists.proofs.Loops.{Folding, folding-none, folding-front}
-use Rattle.queries.proofs.PartLaws.{greatest-with, part-greatest-end}
-use Rattle.queries.proofs.backbone.greatest_of.Statement.{statement}
+use Rattle.lists.{specs.Kit.{ap, _∙_, max, _-_, take, needs}, proofs.Loops.{Folding, folding-none, folding-front}}
+use Rattle.queries.proofs.{PartLaws.{greatest-with, part-greatest-end}, backbone.greatest_of.Statement.{statement}}
 use Rattle.queries.proofs.backbone.greatest_of.Tie as tie
 
 abbrev Inv-loop : tie.InvT-loop

@@ -1,7 +1,5 @@
 -- `number_in` meets its contract: past the table the entry is 0.
-use mathlib.Core.Path.{sym}
-use lib.ListN.{List·getD-eq-default}
-use borrow.Author.Needs.{needs}
+use Rattle.lists.specs.Kit.{sym, List·getD-eq-default, needs}
 use Rattle.queries.proofs.backbone.number_in.Statement.{statement}
 use Rattle.queries.proofs.backbone.number_in.Tie as tie
 

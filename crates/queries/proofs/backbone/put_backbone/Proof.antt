@@ -1,12 +1,7 @@
 -- `put_backbone` meets its contract: the parts of the radios below v are taken, and the set has their backbone (`Parting`).
 -- The measure is what is left of the radios.
-use mathlib.Core.Path.{sym, _∙_}
-use Prim.Native.Nat.{_-_}
-use native.Mathlib.Omega.{arith}
-use lib.ListN.{length}
-use borrow.Author.Needs.{needs}
-use Rattle.queries.proofs.PartLaws.{Parting, parting-none, parting-turn, parting-end}
-use Rattle.queries.proofs.backbone.put_backbone.Statement.{statement}
+use Rattle.lists.specs.Kit.{sym, _∙_, _-_, arith, length, needs}
+use Rattle.queries.proofs.{PartLaws.{Parting, parting-none, parting-turn, parting-end}, backbone.put_backbone.Statement.{statement}}
 use Rattle.queries.proofs.backbone.put_backbone.Tie as tie
 
 abbrev Inv-loop : tie.InvT-loop

@@ -1,6 +1,5 @@
 -- `put_top` meets its contract: the test is that of `top-put`.
-use borrow.Author.Tests.{eq-eqb, ne-eqb}
-use borrow.Author.Needs.{needs}
+use Rattle.lists.specs.Kit.{eq-eqb, ne-eqb, needs}
 use Rattle.queries.specs.Parts.{top-put}
 use Rattle.queries.proofs.backbone.put_top.Statement.{statement}
 use Rattle.queries.proofs.backbone.put_top.Tie as tie

@@ -1,12 +1,8 @@
 -- `put_tops` meets its contract: what is left of the list gives what all of it gives (`Folding`). The measure is what is
 -- left of the list.
-use Prim.Native.Nat.{_-_}
-use lib.ListN.{take}
-use borrow.Author.Needs.{needs}
-use Rattle.lists.proofs.Loops.{Folding, folding-none, folding-front, folding-front-end, folding-long}
+use Rattle.lists.{specs.Kit.{_-_, take, needs}, proofs.Loops.{Folding, folding-none, folding-front, folding-front-end, folding-long}}
 use Rattle.queries.specs.Parts.{top-put, tops-put}
-use Rattle.queries.proofs.PartLaws.{length-top-put}
-use Rattle.queries.proofs.backbone.put_tops.Statement.{statement}
+use Rattle.queries.proofs.{PartLaws.{length-top-put}, backbone.put_tops.Statement.{statement}}
 use Rattle.queries.proofs.backbone.put_tops.Tie as tie
 
 abbrev Inv-loop : tie.InvT-loop

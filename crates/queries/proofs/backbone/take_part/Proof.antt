@@ -1,10 +1,7 @@
 -- `take_part` meets its contract: a radio that is not among the rest leaves all as it is; else the flood gives its part, and the
 -- radios of the part's greatest number come into the set.
-use mathlib.Core.Path.{sym, _∙_}
-use borrow.Author.Needs.{needs}
-use borrow.Author.Tests.{not-true, not-false}
-use Rattle.queries.proofs.PartLaws.{visited-gone, visited-none, visited-tops}
-use Rattle.queries.proofs.backbone.take_part.Statement.{statement}
+use Rattle.lists.specs.Kit.{sym, _∙_, needs, not-true, not-false}
+use Rattle.queries.proofs.{PartLaws.{visited-gone, visited-none, visited-tops}, backbone.take_part.Statement.{statement}}
 use Rattle.queries.proofs.backbone.take_part.Tie as tie
 
 returns : tie.Need-returns

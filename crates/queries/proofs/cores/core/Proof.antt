@@ -1,11 +1,8 @@
 -- `cores::core` meets its contract: what the flood leaves out of its level's set is the connected core, and its bits are listed
 -- ascending.
-use mathlib.Core.Path.{sym, _∙_}
-use native.Mathlib.Omega.{arith}
-use borrow.Author.Needs.{needs}
+use Rattle.lists.specs.Kit.{sym, _∙_, arith, needs}
 use Rattle.mesh.specs.Tables.{tables}
-use Rattle.queries.proofs.CoreLaws.{core-refused, core-radio, core-tables, core-level, core-listed}
-use Rattle.queries.proofs.cores.core.Statement.{statement}
+use Rattle.queries.proofs.{CoreLaws.{core-refused, core-radio, core-tables, core-level, core-listed}, cores.core.Statement.{statement}}
 use Rattle.queries.proofs.cores.core.Tie as tie
 
 returns : tie.Need-returns

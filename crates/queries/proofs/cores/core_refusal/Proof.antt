@@ -1,9 +1,7 @@
 -- `cores::core_refusal` meets its contract: questions 1 to 3, then 4, then 8 by the entry of the numbers table.
-use native.Mathlib.Omega.{arith}
-use borrow.Author.Needs.{needs}
+use Rattle.lists.specs.Kit.{arith, needs}
 use Rattle.mesh.specs.Tables.{tables}
-use Rattle.queries.proofs.RefusalLaws.{core-no, core-four, core-eight, core-none, core-site}
-use Rattle.queries.proofs.cores.core_refusal.Statement.{statement}
+use Rattle.queries.proofs.{RefusalLaws.{core-no, core-four, core-eight, core-none, core-site}, cores.core_refusal.Statement.{statement}}
 use Rattle.queries.proofs.cores.core_refusal.Tie as tie
 
 returns : tie.Need-returns

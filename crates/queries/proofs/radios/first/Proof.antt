@@ -1,9 +1,7 @@
 -- `radios::first` meets its contract: the order is walked.
-use mathlib.Core.Path.{sym, _∙_}
-use borrow.Author.Needs.{needs}
+use Rattle.lists.specs.Kit.{sym, _∙_, needs}
 use Rattle.mesh.specs.Tables.{tables}
-use Rattle.queries.proofs.AnswerLaws.{first-refused, first-answered}
-use Rattle.queries.proofs.radios.first.Statement.{statement}
+use Rattle.queries.proofs.{AnswerLaws.{first-refused, first-answered}, radios.first.Statement.{statement}}
 use Rattle.queries.proofs.radios.first.Tie as tie
 
 returns : tie.Need-returns

@@ -1,11 +1,6 @@
 -- `radios::first_of_two` meets its contract: what is left of the list decides. The measure is what is left of it.
-use mathlib.Core.Path.{refl}
-use Prim.Native.Nat.{_-_}
-use native.Mathlib.Omega.{arith}
-use lib.ListN.{length}
-use borrow.Author.Needs.{needs}
-use Rattle.queries.proofs.AnswerLaws.{First-so-far, first-is-a, first-is-b, first-later, first-neither}
-use Rattle.queries.proofs.radios.first_of_two.Statement.{statement}
+use Rattle.lists.specs.Kit.{refl, _-_, arith, length, needs}
+use Rattle.queries.proofs.{AnswerLaws.{First-so-far, first-is-a, first-is-b, first-later, first-neither}, radios.first_of_two.Statement.{statement}}
 use Rattle.queries.proofs.radios.first_of_two.Tie as tie
 
 abbrev Inv-loop : tie.InvT-loop

@@ -1,9 +1,7 @@
 -- `radios::linked` meets its contract: the bit says whether there is a link.
-use mathlib.Core.Path.{sym, _∙_}
-use borrow.Author.Needs.{needs}
+use Rattle.lists.specs.Kit.{sym, _∙_, needs}
 use Rattle.mesh.specs.Tables.{tables}
-use Rattle.queries.proofs.AnswerLaws.{linked-refused, linked-answered}
-use Rattle.queries.proofs.radios.linked.Statement.{statement}
+use Rattle.queries.proofs.{AnswerLaws.{linked-refused, linked-answered}, radios.linked.Statement.{statement}}
 use Rattle.queries.proofs.radios.linked.Tie as tie
 
 returns : tie.Need-returns

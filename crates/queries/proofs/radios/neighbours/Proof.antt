@@ -1,9 +1,7 @@
 -- `radios::neighbours` meets its contract: the bits of a row count the neighbours.
-use mathlib.Core.Path.{sym, _∙_}
-use borrow.Author.Needs.{needs}
+use Rattle.lists.specs.Kit.{sym, _∙_, needs}
 use Rattle.mesh.specs.Tables.{tables}
-use Rattle.queries.proofs.AnswerLaws.{neighbours-refused, neighbours-answered}
-use Rattle.queries.proofs.radios.neighbours.Statement.{statement}
+use Rattle.queries.proofs.{AnswerLaws.{neighbours-refused, neighbours-answered}, radios.neighbours.Statement.{statement}}
 use Rattle.queries.proofs.radios.neighbours.Tie as tie
 
 returns : tie.Need-returns

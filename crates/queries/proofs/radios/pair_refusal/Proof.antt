@@ -1,10 +1,8 @@
 -- `radios::pair_refusal` meets its contract: the questions of the first radio, and then 4 of the second.
-use borrow.Author.Needs.{needs}
-use Rattle.mesh.specs.Sound.{sound}
-use Rattle.mesh.specs.Tables.{tables}
+use Rattle.lists.specs.Kit.{needs}
+use Rattle.mesh.specs.{Sound.{sound}, Tables.{tables}}
 use Rattle.calls.specs.Questions.{lengths-of}
-use Rattle.queries.proofs.RefusalLaws.{pair-no, pair-four, pair-none}
-use Rattle.queries.proofs.radios.pair_refusal.Statement.{statement}
+use Rattle.queries.proofs.{RefusalLaws.{pair-no, pair-four, pair-none}, radios.pair_refusal.Statement.{statement}}
 use Rattle.queries.proofs.radios.pair_refusal.Tie as tie
 
 returns : tie.Need-returns

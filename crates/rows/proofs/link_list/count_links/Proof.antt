@@ -1,13 +1,8 @@
 -- `count_links` meets its contract: the links of the rows passed and of the rows left are all, where the rows fit the list. The
 -- measure is the rows left.
-use mathlib.Core.Path.{_≡_, _∙_}
-use Prim.Native.Nat.{_-_}
-use native.Mathlib.Omega.{arith}
-use lib.ListN.{length}
-use borrow.Author.Needs.{needs}
-use Rattle.rows.proofs.AboveLaws.{above-count}
-use Rattle.rows.proofs.LinksFrom.{Counting, counting-none, counting-turn, counting-end}
-use Rattle.rows.proofs.link_list.count_links.Statement.{statement}
+use Rattle.lists.specs.Kit.{_≡_, _∙_, _-_, arith, length, needs}
+use Rattle.rows.proofs.{AboveLaws.{above-count}, LinksFrom.{Counting, counting-none, counting-turn, counting-end}}
+use Rattle.rows.proofs.{link_list.count_links.Statement.{statement}}
 use Rattle.rows.proofs.link_list.count_links.Tie as tie
 
 abbrev Inv-loop : tie.InvT-loop

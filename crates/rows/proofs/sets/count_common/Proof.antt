@@ -1,10 +1,8 @@
 -- `sets::count_common` meets its contract: what is counted so far and the radios from word k on are all (`Common-counting`). The measure
 -- is the words that are left.
-use Prim.Native.Nat.{_-_}
-use native.Mathlib.Omega.{arith}
-use borrow.Author.Needs.{needs}
-use Rattle.rows.proofs.SetLaws.{Common-counting, common-counting-none, common-word-few, common-counting-turn, common-counting-end}
-use Rattle.rows.proofs.sets.count_common.Statement.{statement}
+use Rattle.lists.specs.Kit.{_-_, arith, needs}
+use Rattle.rows.proofs.{SetLaws.{Common-counting, common-counting-none, common-word-few, common-counting-turn, common-counting-end}}
+use Rattle.rows.proofs.{sets.count_common.Statement.{statement}}
 use Rattle.rows.proofs.sets.count_common.Tie as tie
 
 abbrev Inv-loop : tie.InvT-loop

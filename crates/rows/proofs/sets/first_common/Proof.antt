@@ -1,14 +1,7 @@
 -- `sets::first_common` meets its contract: both sets have no radio before word k (`Common-search`), and the lowest bit of the first
 -- word that is not 0 is theirs. The measure is the words that are left.
-use mathlib.Core.Path.{refl}
-use Prim.Native.Nat.{_-_}
-use native.Mathlib.Omega.{arith}
-use lib.Bits.{bitAnd}
-use lib.Count.{trailing-le}
-use lib.ListN.{getD}
-use borrow.Author.Needs.{needs}
-use Rattle.rows.proofs.SetLaws.{Common-search, common-search-turn, common-search-found, common-search-end}
-use Rattle.rows.proofs.sets.first_common.Statement.{statement}
+use Rattle.lists.specs.Kit.{refl, _-_, arith, bitAnd, trailing-le, getD, needs}
+use Rattle.rows.proofs.{SetLaws.{Common-search, common-search-turn, common-search-found, common-search-end}, sets.first_common.Statement.{statement}}
 use Rattle.rows.proofs.sets.first_common.Tie as tie
 
 abbrev Inv-loop : tie.InvT-loop

@@ -1,15 +1,9 @@
 -- `sets::join_row` meets its contract: the words before word k are joined with the row's (`Row-joining`). The measure is the words
 -- that are left.
-use mathlib.Core.Path.{sym, ap, _∙_}
-use Prim.Native.Nat.{_+_, _*_, _-_}
-use native.Mathlib.Omega.{arith}
-use lib.Bits.{bitOr}
-use lib.ListN.{getD}
-use borrow.Author.Needs.{needs}
+use Rattle.lists.specs.Kit.{sym, ap, _∙_, _+_, _*_, _-_, arith, bitOr, getD, needs}
 use Rattle.mesh.specs.Limits.{row-bytes}
-use Rattle.rows.proofs.RowWords.{word-of-row}
-use Rattle.rows.proofs.SetLaws.{Row-joining, changing-none, changing-turn, row-joining-end, row-joined-short}
-use Rattle.rows.proofs.sets.join_row.Statement.{statement}
+use Rattle.rows.proofs.{RowWords.{word-of-row}, SetLaws.{Row-joining, changing-none, changing-turn, row-joining-end, row-joined-short}}
+use Rattle.rows.proofs.{sets.join_row.Statement.{statement}}
 use Rattle.rows.proofs.sets.join_row.Tie as tie
 
 abbrev Inv-loop : tie.InvT-loop

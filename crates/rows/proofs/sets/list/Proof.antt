@@ -1,12 +1,8 @@
 -- `sets::list` meets its contract: what is listed so far and what is left from word k on give what the whole set gives
 -- (`Set-listing`). The measure is the words that are left.
-use Prim.Native.Nat.{_-_}
-use native.Mathlib.Omega.{arith}
-use lib.ListN.{getD}
-use borrow.Author.Needs.{needs}
-use Rattle.rows.proofs.RowWords.{word-radios-below}
-use Rattle.rows.proofs.SetLaws.{Set-listing, set-listing-none, set-listing-turn, set-listing-end}
-use Rattle.rows.proofs.sets.list.Statement.{statement}
+use Rattle.lists.specs.Kit.{_-_, arith, getD, needs}
+use Rattle.rows.proofs.{RowWords.{word-radios-below}, SetLaws.{Set-listing, set-listing-none, set-listing-turn, set-listing-end}}
+use Rattle.rows.proofs.{sets.list.Statement.{statement}}
 use Rattle.rows.proofs.sets.list.Tie as tie
 
 abbrev Inv-loop : tie.InvT-loop

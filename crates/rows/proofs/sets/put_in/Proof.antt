@@ -1,8 +1,6 @@
 -- `sets::put_in` meets its contract: `|` with the radio's bit sets it; past the words nothing changes.
-use mathlib.Core.Path.{sym}
-use borrow.Author.Needs.{needs}
-use Rattle.rows.proofs.SetLaws.{put-in-mask, put-in-past}
-use Rattle.rows.proofs.sets.put_in.Statement.{statement}
+use Rattle.lists.specs.Kit.{sym, needs}
+use Rattle.rows.proofs.{SetLaws.{put-in-mask, put-in-past}, sets.put_in.Statement.{statement}}
 use Rattle.rows.proofs.sets.put_in.Tie as tie
 
 pub put-in-spec : {M : Type 1} → statement M

@@ -1,11 +1,7 @@
 -- `sets::take_common` meets its contract: the words before word k are done, their radios listed and taken out (`Common-taking`). The
 -- measure is the words that are left.
-use mathlib.Core.Path.{sym, _∙_}
-use Prim.Native.Nat.{_-_}
-use native.Mathlib.Omega.{arith}
-use borrow.Author.Needs.{needs}
-use Rattle.rows.proofs.SetLaws.{Common-taking, common-taking-none, common-taking-turn, common-taking-end}
-use Rattle.rows.proofs.sets.take_common.Statement.{statement}
+use Rattle.lists.specs.Kit.{sym, _∙_, _-_, arith, needs}
+use Rattle.rows.proofs.{SetLaws.{Common-taking, common-taking-none, common-taking-turn, common-taking-end}, sets.take_common.Statement.{statement}}
 use Rattle.rows.proofs.sets.take_common.Tie as tie
 
 abbrev Inv-loop : tie.InvT-loop

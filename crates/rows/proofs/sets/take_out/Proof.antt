@@ -1,9 +1,6 @@
 -- `sets::take_out` meets its contract: `&` with the complement of the radio's bit clears it; past the words nothing changes.
-use mathlib.Core.Path.{sym}
-use Prim.Native.Nat.{_/_}
-use borrow.Author.Needs.{needs}
-use Rattle.rows.proofs.SetLaws.{take-out-mask, take-out-past}
-use Rattle.rows.proofs.sets.take_out.Statement.{statement}
+use Rattle.lists.specs.Kit.{sym, _/_, needs}
+use Rattle.rows.proofs.{SetLaws.{take-out-mask, take-out-past}, sets.take_out.Statement.{statement}}
 use Rattle.rows.proofs.sets.take_out.Tie as tie
 
 returns : tie.Need-returns

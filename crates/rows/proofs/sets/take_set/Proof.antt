@@ -1,13 +1,8 @@
 -- `sets::take_set` meets its contract: the words before word k are without the other set's bits (`Changing`). The measure is the words
 -- that are left.
-use mathlib.Core.Path.{refl, sym, _∙_}
-use Prim.Native.Nat.{_-_}
-use native.Mathlib.Omega.{arith}
-use lib.ListN.{getD}
-use borrow.Author.Needs.{needs}
+use Rattle.lists.specs.Kit.{refl, sym, _∙_, _-_, arith, getD, needs}
 use Rattle.rows.specs.Sets.{word-left}
-use Rattle.rows.proofs.SetLaws.{Changing, changing-none, changing-turn, set-taken-end}
-use Rattle.rows.proofs.sets.take_set.Statement.{statement}
+use Rattle.rows.proofs.{SetLaws.{Changing, changing-none, changing-turn, set-taken-end}, sets.take_set.Statement.{statement}}
 use Rattle.rows.proofs.sets.take_set.Tie as tie
 
 abbrev Inv-loop : tie.InvT-loop

@@ -1,11 +1,6 @@
 -- `sets::take_word` meets its contract: a word without radios of the set changes nothing, any other one is listed and taken out.
-use native.Mathlib.Omega.{arith}
-use lib.Bits.{bitAnd}
-use lib.ListN.{getD}
-use borrow.Author.Needs.{needs}
-use Rattle.rows.proofs.RowWords.{word-radios-below}
-use Rattle.rows.proofs.SetLaws.{nothing-of-word, some-of-word}
-use Rattle.rows.proofs.sets.take_word.Statement.{statement}
+use Rattle.lists.specs.Kit.{arith, bitAnd, getD, needs}
+use Rattle.rows.proofs.{RowWords.{word-radios-below}, SetLaws.{nothing-of-word, some-of-word}, sets.take_word.Statement.{statement}}
 use Rattle.rows.proofs.sets.take_word.Tie as tie
 
 returns : tie.Need-returns

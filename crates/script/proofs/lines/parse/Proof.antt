@@ -1,9 +1,7 @@
 -- `lines::parse` meets its contract: the three words are tried in the order of `line-of`.
-use mathlib.Core.Path.{sym, ap, _∙_}
-use borrow.Author.Needs.{needs}
+use Rattle.lists.specs.Kit.{sym, ap, _∙_, needs}
 use Rattle.script.specs.Lines.{radios-line}
-use Rattle.script.proofs.LineLaws.{read-of-none, read-of-got, line-up, line-down, line-other, line-radios}
-use Rattle.script.proofs.lines.parse.Statement.{statement}
+use Rattle.script.proofs.{LineLaws.{read-of-none, read-of-got, line-up, line-down, line-other, line-radios}, lines.parse.Statement.{statement}}
 use Rattle.script.proofs.lines.parse.Tie as tie
 
 returns : tie.Need-returns

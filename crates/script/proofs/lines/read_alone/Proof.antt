@@ -1,10 +1,6 @@
 -- `lines::read_alone` meets its contract: the tests decide whether anything follows the number.
-use mathlib.Core.Path.{sym, _∙_}
-use native.Mathlib.Omega.{arith}
-use borrow.Author.Tests.{not-true, not-false}
-use Rattle.script.proofs.LineLaws.{read-of-none, alone-none, alone-other, alone-is}
-use borrow.Author.Needs.{needs}
-use Rattle.script.proofs.lines.read_alone.Statement.{statement}
+use Rattle.lists.specs.Kit.{sym, _∙_, not-true, not-false, needs}
+use Rattle.script.proofs.{LineLaws.{read-of-none, alone-none, alone-other, alone-is}, lines.read_alone.Statement.{statement}}
 use Rattle.script.proofs.lines.read_alone.Tie as tie
 
 returns : tie.Need-returns

@@ -1,13 +1,9 @@
 -- `lines::read_digits` meets its contract: the digits that are left, read onto v, give what all of them give.
 -- The measure is what is left of the text.
-use mathlib.Core.Path.{_≡_, refl, sym, _∙_}
-use Prim.Native.Nat.{_≤_, _-_}
-use native.Mathlib.Omega.{arith}
-use lib.ListN.{length, drop}
-use Rattle.script.specs.Lines.{digits-on}
-use Rattle.script.specs.Texts.{read-of}
-use Rattle.script.proofs.LineLaws.{read-of-none, digit-below, digit-above, digits-end, digits-other, digits-large, digits-step}
-use Rattle.script.proofs.lines.read_digits.Statement.{statement}
+use Rattle.lists.specs.Kit.{_≡_, refl, sym, _∙_, _≤_, _-_, arith, length, drop}
+use Rattle.script.specs.{Lines.{digits-on}, Texts.{read-of}}
+use Rattle.script.proofs.{LineLaws.{read-of-none, digit-below, digit-above, digits-end, digits-other, digits-large, digits-step}}
+use Rattle.script.proofs.{lines.read_digits.Statement.{statement}}
 use Rattle.script.proofs.lines.read_digits.Tie as tie
 
 abbrev Inv-loop : tie.InvT-loop

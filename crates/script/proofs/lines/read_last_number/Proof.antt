@@ -1,9 +1,7 @@
 -- `lines::read_last_number` meets its contract: the tests decide whether what follows the number is the line feed alone.
-use mathlib.Core.Path.{sym, _∙_}
-use native.Mathlib.Omega.{arith}
-use borrow.Author.Tests.{not-true, not-false}
-use Rattle.script.proofs.LineLaws.{read-of-none, end-past, end-differ, end-long, end-is, last-none, last-other, last-is}
-use Rattle.script.proofs.lines.read_last_number.Statement.{statement}
+use Rattle.lists.specs.Kit.{sym, _∙_, arith, not-true, not-false}
+use Rattle.script.proofs.{LineLaws.{read-of-none, end-past, end-differ, end-long, end-is, last-none, last-other, last-is}}
+use Rattle.script.proofs.{lines.read_last_number.Statement.{statement}}
 use Rattle.script.proofs.lines.read_last_number.Tie as tie
 
 returns : tie.Need-returns

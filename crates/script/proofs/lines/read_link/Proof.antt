@@ -1,9 +1,6 @@
 -- `lines::read_link` meets its contract: each test decides one step of `link-of`.
-use native.Mathlib.Omega.{arith}
-use borrow.Author.Tests.{not-true, not-false}
-use borrow.Author.Needs.{needs}
-use Rattle.script.proofs.LineLaws.{space-past, space-differ, space-is, link-none, link-gap, link-one, link-both}
-use Rattle.script.proofs.lines.read_link.Statement.{statement}
+use Rattle.lists.specs.Kit.{arith, not-true, not-false, needs}
+use Rattle.script.proofs.{LineLaws.{space-past, space-differ, space-is, link-none, link-gap, link-one, link-both}, lines.read_link.Statement.{statement}}
 use Rattle.script.proofs.lines.read_link.Tie as tie
 
 returns : tie.Need-returns

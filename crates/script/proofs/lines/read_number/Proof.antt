@@ -1,10 +1,8 @@
 -- `lines::read_number` meets its contract: each branch is a case of `number-of` at the byte that stands at p.
-use mathlib.Core.Path.{sym, _∙_}
-use native.Mathlib.Omega.{arith}
-use borrow.Author.Needs.{needs}
+use Rattle.lists.specs.Kit.{sym, _∙_, arith, needs}
 use Rattle.script.specs.Texts.{read-of}
-use Rattle.script.proofs.LineLaws.{read-of-none, digit-below, digit-above, number-end, number-zero, number-other, number-digit}
-use Rattle.script.proofs.lines.read_number.Statement.{statement}
+use Rattle.script.proofs.{LineLaws.{read-of-none, digit-below, digit-above, number-end, number-zero, number-other, number-digit}}
+use Rattle.script.proofs.{lines.read_number.Statement.{statement}}
 use Rattle.script.proofs.lines.read_number.Tie as tie
 
 returns : tie.Need-returns

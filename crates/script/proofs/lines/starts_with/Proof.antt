@@ -1,12 +1,8 @@
 -- `lines::starts_with` meets its contract: what is left of the word and of the text gives what the whole gives.
 -- The measure is what is left of the word.
-use mathlib.Core.Path.{_≡_, refl, sym, _∙_}
-use Prim.Native.Nat.{_≤_, _-_}
-use native.Mathlib.Omega.{arith}
-use lib.ListN.{length, drop}
+use Rattle.lists.specs.Kit.{_≡_, refl, sym, _∙_, _≤_, _-_, arith, length, drop}
 use Rattle.script.specs.Lines.{starts}
-use Rattle.script.proofs.LineLaws.{starts-end, starts-short, starts-differ, starts-step}
-use Rattle.script.proofs.lines.starts_with.Statement.{statement}
+use Rattle.script.proofs.{LineLaws.{starts-end, starts-short, starts-differ, starts-step}, lines.starts_with.Statement.{statement}}
 use Rattle.script.proofs.lines.starts_with.Tie as tie
 
 abbrev Inv-loop : tie.InvT-loop

@@ -1,8 +1,7 @@
 -- `printing::put_bad_line` meets its contract: one text after another.
-use borrow.Author.Needs.{needs}
+use Rattle.lists.specs.Kit.{needs}
 use Rattle.calls.specs.Replay.{bad-line}
-use Rattle.text.specs.Text.{printed-line, further-fields}
-use Rattle.text.proofs.PrintLaws.{puts-append}
+use Rattle.text.{specs.Text.{printed-line, further-fields}, proofs.PrintLaws.{puts-append}}
 use Rattle.script.proofs.printing.put_bad_line.Statement.{statement}
 use Rattle.script.proofs.printing.put_bad_line.Tie as tie
 

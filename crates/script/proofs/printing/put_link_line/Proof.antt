@@ -1,12 +1,7 @@
 -- `printing::put_link_line` meets its contract: one text after another.
-use mathlib.Core.Path.{refl, sym}
-use native.Mathlib.Omega.{arith}
+use Rattle.lists.specs.Kit.{refl, sym, arith, take, take-all, length-take-le, needs}
 use mir.Facts.{toZ-ofZ}
-use lib.ListN.{take}
-use lib.Seq.{take-all, length-take-le}
-use borrow.Author.Needs.{needs}
-use Rattle.script.proofs.PrintedLaws.{puts-link-line}
-use Rattle.script.proofs.printing.put_link_line.Statement.{statement}
+use Rattle.script.proofs.{PrintedLaws.{puts-link-line}, printing.put_link_line.Statement.{statement}}
 use Rattle.script.proofs.printing.put_link_line.Tie as tie
 
 returns : tie.Need-returns

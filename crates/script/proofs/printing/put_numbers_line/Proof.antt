@@ -1,8 +1,7 @@
 -- `printing::put_numbers_line` meets its contract: one text after another.
-use borrow.Author.Needs.{needs}
+use Rattle.lists.specs.Kit.{needs}
 use Rattle.calls.specs.Replay.{numbers-line}
-use Rattle.text.specs.Text.{printed-line}
-use Rattle.text.proofs.PrintLaws.{puts-append}
+use Rattle.text.{specs.Text.{printed-line}, proofs.PrintLaws.{puts-append}}
 use Rattle.script.proofs.printing.put_numbers_line.Statement.{statement}
 use Rattle.script.proofs.printing.put_numbers_line.Tie as tie
 

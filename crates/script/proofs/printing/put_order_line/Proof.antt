@@ -1,8 +1,7 @@
 -- `printing::put_order_line` meets its contract: one text after another.
-use borrow.Author.Needs.{needs}
+use Rattle.lists.specs.Kit.{needs}
 use Rattle.calls.specs.Replay.{order-line}
-use Rattle.text.specs.Text.{printed-line}
-use Rattle.text.proofs.PrintLaws.{puts-append}
+use Rattle.text.{specs.Text.{printed-line}, proofs.PrintLaws.{puts-append}}
 use Rattle.script.proofs.printing.put_order_line.Statement.{statement}
 use Rattle.script.proofs.printing.put_order_line.Tie as tie
 

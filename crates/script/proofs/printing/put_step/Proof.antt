@@ -1,8 +1,7 @@
 -- `printing::put_step` meets its contract: each branch is a case of `step-text`.
-use borrow.Author.Needs.{needs}
+use Rattle.lists.specs.Kit.{needs}
 use Rattle.text.proofs.PrintLaws.{puts-append, puts-as}
-use Rattle.script.proofs.StepLaws.{step-text-minus, step-text-zero, step-text-plus}
-use Rattle.script.proofs.printing.put_step.Statement.{statement}
+use Rattle.script.proofs.{StepLaws.{step-text-minus, step-text-zero, step-text-plus}, printing.put_step.Statement.{statement}}
 use Rattle.script.proofs.printing.put_step.Tie as tie
 
 returns : tie.Need-returns

@@ -1,7 +1,6 @@
 -- `printing::step_size` meets its contract: in sixteen bits every step can be negated.
-use borrow.Author.Needs.{needs}
-use Rattle.script.proofs.StepLaws.{wide-fits, minus-fits, size-minus, size-minus-is, size-plus}
-use Rattle.script.proofs.printing.step_size.Statement.{statement}
+use Rattle.lists.specs.Kit.{needs}
+use Rattle.script.proofs.{StepLaws.{wide-fits, minus-fits, size-minus, size-minus-is, size-plus}, printing.step_size.Statement.{statement}}
 use Rattle.script.proofs.printing.step_size.Tie as tie
 
 sub-result : tie.Need-sub-result

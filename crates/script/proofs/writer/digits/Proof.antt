@@ -1,9 +1,7 @@
 -- `digits` meets its contract: a number has a digit more from each power of ten on.
-use mathlib.Core.Path.{sym}
-use native.Mathlib.Omega.{arith}
+use Rattle.lists.specs.Kit.{sym, arith}
 use Rattle.text.proofs.DecimalLaws.{length-decimal-digit}
-use Rattle.script.proofs.ScriptLengths.{digits-two, digits-three}
-use Rattle.script.proofs.writer.digits.Statement.{statement}
+use Rattle.script.proofs.{ScriptLengths.{digits-two, digits-three}, writer.digits.Statement.{statement}}
 use Rattle.script.proofs.writer.digits.Tie as tie
 
 pub digits-spec : {M : Type 1} → statement M

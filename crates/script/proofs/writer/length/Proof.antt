@@ -1,9 +1,7 @@
 -- `length` meets its contract: refused by 1 to 3; else the script of sound tables is measured.
-use native.Mathlib.Omega.{arith}
-use borrow.Author.Needs.{needs}
+use Rattle.lists.specs.Kit.{arith, needs}
 use Rattle.mesh.specs.Tables.{tables}
-use Rattle.script.proofs.ScriptOutcomes.{length-refused, rows-good, script-short, length-answered}
-use Rattle.script.proofs.writer.length.Statement.{statement}
+use Rattle.script.proofs.{ScriptOutcomes.{length-refused, rows-good, script-short, length-answered}, writer.length.Statement.{statement}}
 use Rattle.script.proofs.writer.length.Tie as tie
 
 returns : tie.Need-returns

@@ -1,10 +1,8 @@
 -- `links_length` meets its contract: what is counted and the lines of the rows that are left are all of them (`Rows-counted`). The
 -- measure is the rows left.
-use Prim.Native.Nat.{_-_}
-use native.Mathlib.Omega.{arith}
-use borrow.Author.Needs.{needs}
-use Rattle.script.proofs.ScriptLengths.{Rows-counted, rows-counted-none, rows-counted-next, rows-counted-last}
-use Rattle.script.proofs.writer.links_length.Statement.{statement}
+use Rattle.lists.specs.Kit.{_-_, arith, needs}
+use Rattle.script.proofs.{ScriptLengths.{Rows-counted, rows-counted-none, rows-counted-next, rows-counted-last}}
+use Rattle.script.proofs.{writer.links_length.Statement.{statement}}
 use Rattle.script.proofs.writer.links_length.Tie as tie
 
 abbrev Inv-loop : tie.InvT-loop

@@ -1,9 +1,7 @@
 -- `measure` meets its contract: line 1 and the lines of the links.
-use native.Mathlib.Omega.{arith}
-use borrow.Author.Needs.{needs}
+use Rattle.lists.specs.Kit.{arith, needs}
 use Rattle.rows.specs.Links.{links-from}
-use Rattle.script.proofs.ScriptLengths.{length-script}
-use Rattle.script.proofs.writer.measure.Statement.{statement}
+use Rattle.script.proofs.{ScriptLengths.{length-script}, writer.measure.Statement.{statement}}
 use Rattle.script.proofs.writer.measure.Tie as tie
 
 digits-requires : tie.Need-digits-requires

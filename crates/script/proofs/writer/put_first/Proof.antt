@@ -1,7 +1,6 @@
 -- `put_first` meets its contract: the word, the number, the line feed.
-use borrow.Author.Needs.{needs}
-use Rattle.script.proofs.PutLaws.{first-put}
-use Rattle.script.proofs.writer.put_first.Statement.{statement}
+use Rattle.lists.specs.Kit.{needs}
+use Rattle.script.proofs.{PutLaws.{first-put}, writer.put_first.Statement.{statement}}
 use Rattle.script.proofs.writer.put_first.Tie as tie
 
 returns : tie.Need-returns

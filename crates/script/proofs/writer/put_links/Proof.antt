@@ -1,11 +1,8 @@
 -- `put_links` meets its contract: the rows that are left take the buffer where all of them do, and fit (`Rows`). The measure is how many
 -- are left.
-use Prim.Native.Nat.{_-_}
-use native.Mathlib.Omega.{arith}
-use Rattle.text.specs.Print.{buffer-at}
-use Rattle.text.proofs.PrintLaws.{length-putting}
-use Rattle.script.proofs.PutLaws.{Rows, rows-none, rows-room, rows-next, rows-last}
-use Rattle.script.proofs.writer.put_links.Statement.{statement}
+use Rattle.lists.specs.Kit.{_-_, arith}
+use Rattle.text.{specs.Print.{buffer-at}, proofs.PrintLaws.{length-putting}}
+use Rattle.script.proofs.{PutLaws.{Rows, rows-none, rows-room, rows-next, rows-last}, writer.put_links.Statement.{statement}}
 use Rattle.script.proofs.writer.put_links.Tie as tie
 
 abbrev Inv-loop : tie.InvT-loop

@@ -1,11 +1,7 @@
 -- `put_number` meets its contract: one, two or three digits, each put after the ones before it.
-use native.Mathlib.Omega.{arith}
-use lib.ListN.{length-set}
-use borrow.Author.Needs.{needs}
+use Rattle.lists.specs.Kit.{arith, length-set, needs}
 use Rattle.text.proofs.DecimalLaws.{length-decimal-digit}
-use Rattle.script.proofs.ScriptLengths.{digits-two, digits-three}
-use Rattle.script.proofs.PutLaws.{one-put, two-put, three-put}
-use Rattle.script.proofs.writer.put_number.Statement.{statement}
+use Rattle.script.proofs.{ScriptLengths.{digits-two, digits-three}, PutLaws.{one-put, two-put, three-put}, writer.put_number.Statement.{statement}}
 use Rattle.script.proofs.writer.put_number.Tie as tie
 
 write-one : tie.Need-slice-write-buffer

@@ -1,18 +1,10 @@
 -- `put_radio` meets its contract: what is listed are the neighbours above the radio, all of them, since the row fits the list.
-use mathlib.Core.Path.{sym, ap}
-use mathlib.Core.List.{List, flatMap}
-use Prim.Native.Nat.{ℕ}
-use native.Mathlib.Omega.{arith}
-use lib.ListN.{length, replicate}
-use lib.Seq.{length-take-le}
-use borrow.Author.Needs.{needs}
+use Rattle.lists.specs.Kit.{sym, ap, List, flatMap, ℕ, arith, length, replicate, length-take-le, needs}
 use Rattle.mesh.specs.Limits.{max-neighbours}
 use Rattle.text.proofs.PrintLaws.{puts-as}
 use Rattle.calls.specs.Script.{up-line}
-use Rattle.rows.specs.Links.{links-to, links-above}
-use Rattle.rows.proofs.AboveLaws.{above-front}
-use Rattle.script.proofs.PutLaws.{above-radios}
-use Rattle.script.proofs.writer.put_radio.Statement.{statement}
+use Rattle.rows.{specs.Links.{links-to, links-above}, proofs.AboveLaws.{above-front}}
+use Rattle.script.proofs.{PutLaws.{above-radios}, writer.put_radio.Statement.{statement}}
 use Rattle.script.proofs.writer.put_radio.Tie as tie
 
 aggregate : tie.Need-slice-aggregate-put-row

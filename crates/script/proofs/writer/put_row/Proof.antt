@@ -1,13 +1,8 @@
 -- `put_row` meets its contract: the lines that are left take the buffer where all of them do, and fit (`Ends`). The measure is how many
 -- are left.
-use Prim.Native.Nat.{_-_}
-use native.Mathlib.Omega.{arith}
-use lib.ListN.{length}
-use borrow.Author.Needs.{needs}
-use Rattle.text.specs.Print.{buffer-at}
-use Rattle.text.proofs.PrintLaws.{length-putting}
-use Rattle.script.proofs.PutLaws.{Ends, ends-none, ends-room, ends-next, ends-last}
-use Rattle.script.proofs.writer.put_row.Statement.{statement}
+use Rattle.lists.specs.Kit.{_-_, arith, length, needs}
+use Rattle.text.{specs.Print.{buffer-at}, proofs.PrintLaws.{length-putting}}
+use Rattle.script.proofs.{PutLaws.{Ends, ends-none, ends-room, ends-next, ends-last}, writer.put_row.Statement.{statement}}
 use Rattle.script.proofs.writer.put_row.Tie as tie
 
 abbrev Inv-loop : tie.InvT-loop

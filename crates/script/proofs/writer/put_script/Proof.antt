@@ -1,12 +1,9 @@
 -- `put_script` meets its contract: line 1, then the lines of the links, which have the room that is left.
-use native.Mathlib.Omega.{arith}
-use borrow.Author.Needs.{needs}
+use Rattle.lists.specs.Kit.{arith, needs}
 use Rattle.text.proofs.PrintLaws.{puts-append}
 use Rattle.calls.specs.Script.{script-of}
 use Rattle.rows.specs.Links.{links-from}
-use Rattle.script.proofs.ScriptLengths.{length-radios, length-script}
-use Rattle.script.proofs.PutLaws.{puts-place}
-use Rattle.script.proofs.writer.put_script.Statement.{statement}
+use Rattle.script.proofs.{ScriptLengths.{length-radios, length-script}, PutLaws.{puts-place}, writer.put_script.Statement.{statement}}
 use Rattle.script.proofs.writer.put_script.Tie as tie
 
 put-links-requires : tie.Need-put-links-requires

@@ -1,12 +1,7 @@
 -- `put_up` meets its contract: the word, both radios with a space between, the line feed, each after what stands before it.
-use mathlib.Core.Path.{_∙_}
-use native.Mathlib.Omega.{arith}
-use lib.ListN.{length-set}
-use borrow.Author.Needs.{needs}
+use Rattle.lists.specs.Kit.{_∙_, arith, length-set, needs}
 use Rattle.text.proofs.PrintLaws.{puts-byte-in, puts-append}
-use Rattle.script.proofs.ScriptLengths.{length-up-text}
-use Rattle.script.proofs.PutLaws.{up-put, up-word, up-lower, up-higher}
-use Rattle.script.proofs.writer.put_up.Statement.{statement}
+use Rattle.script.proofs.{ScriptLengths.{length-up-text}, PutLaws.{up-put, up-word, up-lower, up-higher}, writer.put_up.Statement.{statement}}
 use Rattle.script.proofs.writer.put_up.Tie as tie
 
 word-requires : tie.Need-put-word-requires

@@ -1,8 +1,6 @@
 -- `put_word` meets its contract: the part of the buffer that is lent is as long as the word that is copied over it.
-use native.Mathlib.Omega.{arith}
-use borrow.Author.Needs.{needs}
-use Rattle.script.proofs.PutLaws.{word-put}
-use Rattle.script.proofs.writer.put_word.Statement.{statement}
+use Rattle.lists.specs.Kit.{arith, needs}
+use Rattle.script.proofs.{PutLaws.{word-put}, writer.put_word.Statement.{statement}}
 use Rattle.script.proofs.writer.put_word.Tie as tie
 
 returns : tie.Need-returns

@@ -1,17 +1,9 @@
 -- `radio_length` meets its contract: what is listed are the neighbours above the radio, all of them, since the row fits the list.
-use mathlib.Core.Path.{sym, ap, _∙_}
-use mathlib.Core.List.{List, flatMap}
-use Prim.Native.Nat.{ℕ}
-use native.Mathlib.Omega.{arith}
-use lib.ListN.{length, replicate}
-use lib.Seq.{length-take-le}
-use borrow.Author.Needs.{needs}
+use Rattle.lists.specs.Kit.{sym, ap, _∙_, List, flatMap, ℕ, arith, length, replicate, length-take-le, needs}
 use Rattle.mesh.specs.Limits.{max-neighbours}
 use Rattle.calls.specs.Script.{up-line}
-use Rattle.rows.specs.Links.{links-to, links-above}
-use Rattle.rows.proofs.AboveLaws.{above-front}
-use Rattle.script.proofs.PutLaws.{above-radios}
-use Rattle.script.proofs.writer.radio_length.Statement.{statement}
+use Rattle.rows.{specs.Links.{links-to, links-above}, proofs.AboveLaws.{above-front}}
+use Rattle.script.proofs.{PutLaws.{above-radios}, writer.radio_length.Statement.{statement}}
 use Rattle.script.proofs.writer.radio_length.Tie as tie
 
 aggregate : tie.Need-slice-aggregate-row-length

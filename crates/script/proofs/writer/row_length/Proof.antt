@@ -1,11 +1,7 @@
 -- `row_length` meets its contract: what is counted and the lines that are left are all of them (`Ends-counted`). The measure is how many
 -- are left.
-use Prim.Native.Nat.{_-_}
-use native.Mathlib.Omega.{arith}
-use lib.ListN.{length}
-use borrow.Author.Needs.{needs}
-use Rattle.script.proofs.ScriptLengths.{Ends-counted, ends-counted-none, ends-counted-next, ends-counted-last}
-use Rattle.script.proofs.writer.row_length.Statement.{statement}
+use Rattle.lists.specs.Kit.{_-_, arith, length, needs}
+use Rattle.script.proofs.{ScriptLengths.{Ends-counted, ends-counted-none, ends-counted-next, ends-counted-last}, writer.row_length.Statement.{statement}}
 use Rattle.script.proofs.writer.row_length.Tie as tie
 
 abbrev Inv-loop : tie.InvT-loop

@@ -1,9 +1,7 @@
 -- `write` meets its contract: a refusal touches nothing; accepted, the script that was measured is put.
-use native.Mathlib.Omega.{arith}
-use borrow.Author.Needs.{needs}
+use Rattle.lists.specs.Kit.{arith, needs}
 use Rattle.mesh.specs.Tables.{tables}
-use Rattle.script.proofs.ScriptOutcomes.{write-refused, rows-good, script-short, write-no-room, write-accepted}
-use Rattle.script.proofs.writer.write.Statement.{statement}
+use Rattle.script.proofs.{ScriptOutcomes.{write-refused, rows-good, script-short, write-no-room, write-accepted}, writer.write.Statement.{statement}}
 use Rattle.script.proofs.writer.write.Tie as tie
 
 returns : tie.Need-returns

@@ -1,11 +1,8 @@
 -- `answers::answer` meets its contract: each case is the contract of its verb.
-use mathlib.Core.Path.{refl}
-use borrow.Author.Needs.{needs}
+use Rattle.lists.specs.Kit.{refl, needs}
 use Rattle.text.specs.Print.{put}
-use Rattle.site_program.specs.Texts.{Text-by}
-use Rattle.site_program.specs.Said.{Said}
-use Rattle.site_program.proofs.SaidLaws.{as-verb, as-sheet, as-script, as-image}
-use Rattle.site_program.proofs.answers.answer.Statement.{statement}
+use Rattle.site_program.specs.{Texts.{Text-by}, Said.{Said}}
+use Rattle.site_program.proofs.{SaidLaws.{as-verb, as-sheet, as-script, as-image}, answers.answer.Statement.{statement}}
 use Rattle.site_program.proofs.answers.answer.Tie as tie
 
 returns : tie.Need-returns

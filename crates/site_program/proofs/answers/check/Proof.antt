@@ -1,6 +1,5 @@
 -- `answers::check` meets its contract: one text after another.
-use mathlib.Core.Path.{refl}
-use borrow.Author.Needs.{needs}
+use Rattle.lists.specs.Kit.{refl, needs}
 use Rattle.text.proofs.PrintLaws.{puts-append}
 use Rattle.site_program.specs.Texts.{accepted-line}
 use Rattle.site_program.proofs.answers.check.Statement.{statement}

@@ -1,9 +1,7 @@
 -- `arguments::given` meets its contract: each way through it is a case of `given-of`.
-use mathlib.Core.Path.{_∙_}
-use borrow.Author.Tests.{not-true, not-false}
-use Rattle.site_program.proofs.GivenLaws.{given-other, given-none, given-bad, given-one, given-second-bad, given-two}
-use borrow.Author.Needs.{needs}
-use Rattle.site_program.proofs.arguments.given.Statement.{statement}
+use Rattle.lists.specs.Kit.{_∙_, not-true, not-false, needs}
+use Rattle.site_program.proofs.{GivenLaws.{given-other, given-none, given-bad, given-one, given-second-bad, given-two}}
+use Rattle.site_program.proofs.{arguments.given.Statement.{statement}}
 use Rattle.site_program.proofs.arguments.given.Tie as tie
 
 returns : tie.Need-returns

@@ -1,8 +1,6 @@
 -- `call` meets its contract: the number and the tables of the link call.
-use mathlib.Core.Path.{refl}
-use Rattle.site_program.proofs.CourseLaws.{called-is}
-use borrow.Author.Needs.{needs}
-use Rattle.site_program.proofs.course.call.Statement.{statement}
+use Rattle.lists.specs.Kit.{refl, needs}
+use Rattle.site_program.proofs.{CourseLaws.{called-is}, course.call.Statement.{statement}}
 use Rattle.site_program.proofs.course.call.Tie as tie
 
 returns : tie.Need-returns

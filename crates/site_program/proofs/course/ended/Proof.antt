@@ -1,7 +1,5 @@
 -- `ended` meets its contract: by what the last read found, and what the run holds.
-use Rattle.site_program.proofs.CourseLaws.{ended-not, ended-refused, ended-whole, ended-open}
-use borrow.Author.Needs.{needs}
-use Rattle.site_program.proofs.course.ended.Statement.{statement}
+use Rattle.site_program.proofs.{CourseLaws.{ended-not, ended-refused, ended-whole, ended-open}, course.ended.Statement.{statement}}
 use Rattle.site_program.proofs.course.ended.Tie as tie
 
 returns : tie.Need-returns

@@ -1,10 +1,8 @@
 -- `first_end` meets its contract: none of the bytes looked at is a line feed. The measure is how many bytes are left to look at.
-use Prim.Native.Nat.{_-_}
-use native.Mathlib.Omega.{arith}
+use Rattle.lists.specs.Kit.{_-_, arith, needs}
 use Rattle.io.proofs.Counting.{counts}
-use borrow.Author.Needs.{needs}
-use Rattle.site_program.proofs.FirstLaws.{Looked, looked-none, looked-out, looked-all, looked-found, looked-more}
-use Rattle.site_program.proofs.course.first_end.Statement.{statement}
+use Rattle.site_program.proofs.{FirstLaws.{Looked, looked-none, looked-out, looked-all, looked-found, looked-more}}
+use Rattle.site_program.proofs.{course.first_end.Statement.{statement}}
 use Rattle.site_program.proofs.course.first_end.Tie as tie
 
 abbrev Inv-loop : tie.InvT-loop

@@ -1,7 +1,6 @@
 -- `first_fault` meets its contract: by the place after the first line, and by the length of an input without one.
-use borrow.Author.Needs.{needs}
-use Rattle.site_program.proofs.FirstLaws.{fault-line, fault-open, fault-long}
-use Rattle.site_program.proofs.course.first_fault.Statement.{statement}
+use Rattle.lists.specs.Kit.{needs}
+use Rattle.site_program.proofs.{FirstLaws.{fault-line, fault-open, fault-long}, course.first_fault.Statement.{statement}}
 use Rattle.site_program.proofs.course.first_fault.Tie as tie
 
 returns : tie.Need-returns

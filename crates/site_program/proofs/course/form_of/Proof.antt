@@ -1,8 +1,6 @@
 -- `form_of` meets its contract: by the byte before the last.
-use native.Mathlib.Omega.{arith}
-use Rattle.site_program.proofs.CourseLaws.{form-short, form-carriage, form-other}
-use borrow.Author.Needs.{needs}
-use Rattle.site_program.proofs.course.form_of.Statement.{statement}
+use Rattle.lists.specs.Kit.{needs}
+use Rattle.site_program.proofs.{CourseLaws.{form-short, form-carriage, form-other}, course.form_of.Statement.{statement}}
 use Rattle.site_program.proofs.course.form_of.Tie as tie
 
 returns : tie.Need-returns

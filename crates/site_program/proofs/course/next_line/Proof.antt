@@ -1,7 +1,6 @@
 -- `next_line` meets its contract: by whether the number is the largest.
-use Rattle.site_program.proofs.CourseLaws.{next-more, next-last}
-use borrow.Author.Needs.{needs}
-use Rattle.site_program.proofs.course.next_line.Statement.{statement}
+use Rattle.lists.specs.Kit.{needs}
+use Rattle.site_program.proofs.{CourseLaws.{next-more, next-last}, course.next_line.Statement.{statement}}
 use Rattle.site_program.proofs.course.next_line.Tie as tie
 
 returns : tie.Need-returns

@@ -1,11 +1,7 @@
 -- `play` meets its contract: the site is cleared, the front is taken, the rest is read, and the end is told.
-use mathlib.Core.Path.{refl}
-use native.Mathlib.Omega.{arith}
-use lib.ListN.{replicate}
-use borrow.Author.Needs.{needs}
+use Rattle.lists.specs.Kit.{refl, arith, replicate, needs}
 use Rattle.mesh.specs.Tables.{tables}
-use Rattle.site_program.proofs.CourseLaws.{front-rest, plays}
-use Rattle.site_program.proofs.course.play.Statement.{statement}
+use Rattle.site_program.proofs.{CourseLaws.{front-rest, plays}, course.play.Statement.{statement}}
 use Rattle.site_program.proofs.course.play.Tie as tie
 
 same-length : tie.Need-same-length

@@ -1,7 +1,6 @@
 -- `play_line` meets its contract: the cases of the parser are the cases of `lined`.
-use Rattle.site_program.proofs.CourseLaws.{lined-by, lined-form, lined-radios, lined-up, lined-down}
-use borrow.Author.Needs.{needs}
-use Rattle.site_program.proofs.course.play_line.Statement.{statement}
+use Rattle.lists.specs.Kit.{needs}
+use Rattle.site_program.proofs.{CourseLaws.{lined-by, lined-form, lined-radios, lined-up, lined-down}, course.play_line.Statement.{statement}}
 use Rattle.site_program.proofs.course.play_line.Tie as tie
 
 returns : tie.Need-returns

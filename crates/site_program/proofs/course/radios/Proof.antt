@@ -1,7 +1,6 @@
 -- `radios` meets its contract: the first line is the bytes before its end.
-use borrow.Author.Needs.{needs}
-use Rattle.site_program.proofs.FirstLaws.{named-is}
-use Rattle.site_program.proofs.course.radios.Statement.{statement}
+use Rattle.lists.specs.Kit.{needs}
+use Rattle.site_program.proofs.{FirstLaws.{named-is}, course.radios.Statement.{statement}}
 use Rattle.site_program.proofs.course.radios.Tie as tie
 
 returns : tie.Need-returns

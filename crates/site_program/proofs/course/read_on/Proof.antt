@@ -1,12 +1,8 @@
 -- `read_on` meets its contract: the reads so far went on, and what they brought is taken. The measure is the count of reads left.
-use mathlib.Core.Path.{_≡_, refl}
-use native.Mathlib.Omega.{arith}
-use lib.ListN.{length}
-use borrow.Author.Needs.{needs}
+use Rattle.lists.specs.Kit.{_≡_, refl, arith, length, needs}
 use Rattle.mesh.specs.Tables.{tables}
 use Rattle.site_program.specs.Course.{spot}
-use Rattle.site_program.proofs.CourseLaws.{On-to, on-none, on-read, on-more, on-out, once-room}
-use Rattle.site_program.proofs.course.read_on.Statement.{statement}
+use Rattle.site_program.proofs.{CourseLaws.{On-to, on-none, on-read, on-more, on-out, once-room}, course.read_on.Statement.{statement}}
 use Rattle.site_program.proofs.course.read_on.Tie as tie
 
 abbrev Inv-loop : tie.InvT-loop

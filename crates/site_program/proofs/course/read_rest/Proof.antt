@@ -1,7 +1,6 @@
 -- `read_rest` meets its contract: no read is wanted, or all are.
-use Rattle.site_program.proofs.CourseLaws.{rest-none, rest-on}
-use borrow.Author.Needs.{needs}
-use Rattle.site_program.proofs.course.read_rest.Statement.{statement}
+use Rattle.lists.specs.Kit.{needs}
+use Rattle.site_program.proofs.{CourseLaws.{rest-none, rest-on}, course.read_rest.Statement.{statement}}
 use Rattle.site_program.proofs.course.read_rest.Tie as tie
 
 returns : tie.Need-returns

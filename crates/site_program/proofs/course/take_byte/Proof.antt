@@ -1,12 +1,7 @@
 -- `take_byte` meets its contract: each way through it is one thing that a byte does.
-use mathlib.Core.Path.{sym}
-use native.Mathlib.Omega.{arith}
-use lib.ListN.{length-set}
-use lib.Seq.{length-take-le}
-use borrow.Author.Needs.{needs}
+use Rattle.lists.specs.Kit.{sym, arith, length-set, length-take-le, needs}
 use Rattle.mesh.specs.Tables.{tables}
-use Rattle.site_program.proofs.CourseLaws.{byte-over, byte-long, byte-held, byte-refused, byte-accepted}
-use Rattle.site_program.proofs.course.take_byte.Statement.{statement}
+use Rattle.site_program.proofs.{CourseLaws.{byte-over, byte-long, byte-held, byte-refused, byte-accepted}, course.take_byte.Statement.{statement}}
 use Rattle.site_program.proofs.course.take_byte.Tie as tie
 
 returns : tie.Need-returns

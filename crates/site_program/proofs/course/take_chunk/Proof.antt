@@ -1,13 +1,8 @@
 -- `take_chunk` meets its contract: what is left of the chunk takes the run where the whole takes it. The measure is how many bytes are left.
-use mathlib.Core.Path.{_≡_, refl, sym, _∙_}
-use Prim.Native.Nat.{_-_, _≤_}
-use native.Mathlib.Omega.{arith}
-use lib.ListN.{length, drop}
-use borrow.Author.Needs.{needs}
+use Rattle.lists.specs.Kit.{_≡_, refl, _∙_, _-_, _≤_, arith, length, drop, needs}
 use Rattle.mesh.specs.Tables.{tables}
-use Rattle.site_program.specs.Course.{Spot, spot, bytes-taken, byte-taken}
-use Rattle.site_program.proofs.CourseLaws.{taken-next, taken-end, taken-room}
-use Rattle.site_program.proofs.course.take_chunk.Statement.{statement}
+use Rattle.site_program.specs.Course.{spot, bytes-taken}
+use Rattle.site_program.proofs.{CourseLaws.{taken-next, taken-end, taken-room}, course.take_chunk.Statement.{statement}}
 use Rattle.site_program.proofs.course.take_chunk.Tie as tie
 
 abbrev Inv-loop : tie.InvT-loop

@@ -1,7 +1,6 @@
 -- `turn` meets its contract: what the read brought is taken.
-use Rattle.site_program.proofs.CourseLaws.{once-read}
-use borrow.Author.Needs.{needs}
-use Rattle.site_program.proofs.course.turn.Statement.{statement}
+use Rattle.lists.specs.Kit.{needs}
+use Rattle.site_program.proofs.{CourseLaws.{once-read}, course.turn.Statement.{statement}}
 use Rattle.site_program.proofs.course.turn.Tie as tie
 
 returns : tie.Need-returns

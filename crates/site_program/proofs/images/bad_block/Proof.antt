@@ -1,12 +1,6 @@
 -- `images::bad_block` meets its contract: the blocks before are good, and the measure is how many are left.
-use mathlib.Core.Path.{sym, _∙_}
-use Prim.Native.Nat.{_≤_, _-_, _/_}
-use native.Mathlib.Omega.{arith}
-use lib.ListN.{length}
-use borrow.Author.Needs.{needs}
-use borrow.Author.Tests.{not-true, not-false}
-use Rattle.site_program.proofs.BlockLaws.{Good-to, good-none, good-more, first-found, first-all}
-use Rattle.site_program.proofs.images.bad_block.Statement.{statement}
+use Rattle.lists.specs.Kit.{sym, _∙_, _≤_, _-_, _/_, arith, length, needs, not-true, not-false}
+use Rattle.site_program.proofs.{BlockLaws.{Good-to, good-none, good-more, first-found, first-all}, images.bad_block.Statement.{statement}}
 use Rattle.site_program.proofs.images.bad_block.Tie as tie
 
 abbrev Inv-loop : tie.InvT-loop

@@ -1,15 +1,8 @@
 -- `listing::put_kept` meets its contract: the lines are of the links that the reply counts, or the reply is a refusal.
-use mathlib.Core.Path.{_≡_, sym, refl, ap}
-use mathlib.Core.List.{List}
-use Prim.Native.Nat.{ℕ, _*_}
-use native.Mathlib.Omega.{arith}
-use lib.ListN.{take}
-use lib.Seq.{length-take-le}
-use borrow.Author.Needs.{needs}
+use Rattle.lists.specs.Kit.{_≡_, sym, refl, ap, List, ℕ, _*_, arith, take, length-take-le, needs}
 use Rattle.text.proofs.PrintLaws.{puts-as}
 use Rattle.site_program.specs.Texts.{pair-lines}
-use Rattle.site_program.proofs.TextLaws.{by-refused, by-put, take-least}
-use Rattle.site_program.proofs.listing.put_kept.Statement.{statement}
+use Rattle.site_program.proofs.{TextLaws.{by-refused, by-put, take-least}, listing.put_kept.Statement.{statement}}
 use Rattle.site_program.proofs.listing.put_kept.Tie as tie
 
 returns : tie.Need-returns

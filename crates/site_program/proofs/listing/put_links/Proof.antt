@@ -1,14 +1,9 @@
 -- `listing::put_links` meets its contract: the lines that are left take the buffer where all lines take the lent one. The measure is how
 -- many are left.
-use Prim.Native.Nat.{_≤_, _+_, _*_, _-_, _/_}
-use native.Mathlib.Omega.{arith}
-use lib.ListN.{length, drop}
-use borrow.Author.Needs.{needs}
-use Rattle.text.specs.Print.{buffer-at}
-use Rattle.text.proofs.PrintLaws.{Putting, putting-none, putting-piece, putting-end, length-putting}
+use Rattle.lists.specs.Kit.{_≤_, _*_, _-_, _/_, arith, length, drop, needs}
+use Rattle.text.{specs.Print.{buffer-at}, proofs.PrintLaws.{Putting, putting-none, putting-piece, putting-end, length-putting}}
 use Rattle.site_program.specs.Texts.{pair-lines}
-use Rattle.site_program.proofs.LineLaws.{pair-next, pair-end}
-use Rattle.site_program.proofs.listing.put_links.Statement.{statement}
+use Rattle.site_program.proofs.{LineLaws.{pair-next, pair-end}, listing.put_links.Statement.{statement}}
 use Rattle.site_program.proofs.listing.put_links.Tie as tie
 
 abbrev Inv-loop : tie.InvT-loop

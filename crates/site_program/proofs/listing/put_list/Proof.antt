@@ -1,17 +1,8 @@
 -- `listing::put_list` meets its contract: the word and the fields are the line, or the reply is a refusal.
-use mathlib.Core.Path.{_≡_, sym, refl, ap, _∙_}
-use mathlib.Core.List.{List}
-use Prim.Native.Nat.{ℕ}
-use native.Mathlib.Omega.{arith}
-use lib.ListN.{take}
-use lib.Seq.{length-take-le}
-use borrow.Author.Needs.{needs}
-use Rattle.lists.proofs.Parts.{take-min}
-use Rattle.text.specs.Text.{printed-line}
-use Rattle.text.proofs.PrintLaws.{puts-append, puts-as}
+use Rattle.lists.{specs.Kit.{_≡_, sym, refl, ap, _∙_, List, ℕ, arith, take, length-take-le, needs}, proofs.Parts.{take-min}}
+use Rattle.text.{specs.Text.{printed-line}, proofs.PrintLaws.{puts-append, puts-as}}
 use Rattle.site_program.specs.Texts.{radios-line}
-use Rattle.site_program.proofs.TextLaws.{by-refused, by-put}
-use Rattle.site_program.proofs.listing.put_list.Statement.{statement}
+use Rattle.site_program.proofs.{TextLaws.{by-refused, by-put}, listing.put_list.Statement.{statement}}
 use Rattle.site_program.proofs.listing.put_list.Tie as tie
 
 returns : tie.Need-returns

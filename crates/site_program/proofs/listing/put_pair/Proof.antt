@@ -1,9 +1,6 @@
 -- `listing::put_pair` meets its contract: the line is put, or the pair is a refusal.
-use mathlib.Core.Path.{refl}
-use native.Mathlib.Omega.{arith}
-use borrow.Author.Needs.{needs}
-use Rattle.site_program.proofs.TextLaws.{by-refused, by-put}
-use Rattle.site_program.proofs.listing.put_pair.Statement.{statement}
+use Rattle.lists.specs.Kit.{refl, arith, needs}
+use Rattle.site_program.proofs.{TextLaws.{by-refused, by-put}, listing.put_pair.Statement.{statement}}
 use Rattle.site_program.proofs.listing.put_pair.Tie as tie
 
 returns : tie.Need-returns

@@ -1,7 +1,5 @@
 -- `names::named` meets its contract: the word is the name, or it is not.
-use mathlib.Core.Path.{sym, _∙_}
-use borrow.Author.Needs.{needs}
-use Rattle.lists.proofs.Tests.{cond-true, cond-false}
+use Rattle.lists.{specs.Kit.{sym, _∙_, needs}, proofs.Tests.{cond-true, cond-false}}
 use Rattle.site_program.proofs.names.named.Statement.{statement}
 use Rattle.site_program.proofs.names.named.Tie as tie
 

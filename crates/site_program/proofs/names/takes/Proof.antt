@@ -1,5 +1,5 @@
 -- `names::takes` meets its contract, verb by verb.
-use borrow.Author.Needs.{needs}
+use Rattle.lists.specs.Kit.{needs}
 use Rattle.site_program.specs.Names.{numbers-of}
 use Rattle.site_program.proofs.names.takes.Statement.{statement}
 use Rattle.site_program.proofs.names.takes.Tie as tie

@@ -1,6 +1,5 @@
 -- `refusals::put_line` meets its contract: each number in turn.
-use borrow.Author.Needs.{needs}
-use borrow.Author.Tests.{eq-eqb, ne-eqb}
+use Rattle.lists.specs.Kit.{needs, eq-eqb, ne-eqb}
 use Rattle.site_program.specs.Errors.{line-words}
 use Rattle.site_program.proofs.refusals.put_line.Statement.{statement}
 use Rattle.site_program.proofs.refusals.put_line.Tie as tie

@@ -1,7 +1,7 @@
 -- `refusals::put_script` meets its contract: one text after another.
+use Rattle.lists.specs.Kit.{needs}
 use Rattle.text.proofs.PrintLaws.{puts-append}
 use Rattle.site_program.specs.Errors.{script-text}
-use borrow.Author.Needs.{needs}
 use Rattle.site_program.proofs.refusals.put_script.Statement.{statement}
 use Rattle.site_program.proofs.refusals.put_script.Tie as tie
 

@@ -1,6 +1,5 @@
 -- `refusals::put_usage` meets its contract: each number in turn.
-use borrow.Author.Needs.{needs}
-use borrow.Author.Tests.{eq-eqb, ne-eqb}
+use Rattle.lists.specs.Kit.{needs, eq-eqb, ne-eqb}
 use Rattle.site_program.specs.Errors.{usage-words}
 use Rattle.site_program.proofs.refusals.put_usage.Statement.{statement}
 use Rattle.site_program.proofs.refusals.put_usage.Tie as tie

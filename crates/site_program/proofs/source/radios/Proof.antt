@@ -1,8 +1,5 @@
 -- `source::radios` meets its contract: a first line names at most 512 radios, and an image is taken to have no more.
-use mathlib.Core.List.{List}
-use Prim.Native.Nat.{ℕ, _≤_}
-use native.Mathlib.Omega.{arith}
-use borrow.Author.Needs.{needs}
+use Rattle.lists.specs.Kit.{List, ℕ, _≤_, arith, needs}
 use Rattle.mesh.specs.Limits.{max-radios}
 use Rattle.player.proofs.PlayLaws.{radios-of-le}
 use Rattle.site_program.specs.Course.{named-radios}

@@ -1,16 +1,8 @@
 -- `trees::put_tree` meets its contract: the nodes' lines and the line of the radios, or the reply is a refusal.
-use mathlib.Core.Path.{_≡_, sym, refl, ap, _∙_}
-use mathlib.Core.List.{List, _++_}
-use Prim.Native.Nat.{ℕ, _≤_}
-use native.Mathlib.Omega.{arith}
-use lib.ListN.{length, take}
-use lib.Seq.{length-take-le}
-use borrow.Author.Needs.{needs}
-use Rattle.text.specs.Text.{printed-line}
-use Rattle.text.proofs.PrintLaws.{puts-append, puts-as}
+use Rattle.lists.specs.Kit.{_≡_, sym, refl, _∙_, arith, length, take, length-take-le, needs}
+use Rattle.text.{specs.Text.{printed-line}, proofs.PrintLaws.{puts-append, puts-as}}
 use Rattle.site_program.specs.Texts.{radios-line, node-lines}
-use Rattle.site_program.proofs.TextLaws.{by-refused, by-put, take-least}
-use Rattle.site_program.proofs.trees.put_tree.Statement.{statement}
+use Rattle.site_program.proofs.{TextLaws.{by-refused, by-put, take-least}, trees.put_tree.Statement.{statement}}
 use Rattle.site_program.proofs.trees.put_tree.Tie as tie
 
 returns : tie.Need-returns

@@ -1,11 +1,7 @@
 -- `trees::tree` meets its contract: the text is of the tables that the call fills.
-use mathlib.Core.Path.{sym, refl}
-use native.Mathlib.Omega.{arith}
-use lib.Seq.{length-take-le}
-use borrow.Author.Needs.{needs}
+use Rattle.lists.specs.Kit.{sym, refl, arith, length-take-le, needs}
 use Rattle.tree.specs.Trees.{places}
-use Rattle.site_program.proofs.TreeLaws.{tree-told}
-use Rattle.site_program.proofs.trees.tree.Statement.{statement}
+use Rattle.site_program.proofs.{TreeLaws.{tree-told}, trees.tree.Statement.{statement}}
 use Rattle.site_program.proofs.trees.tree.Tie as tie
 
 array-share-prefix-answer : tie.Need-array-share-prefix-answer

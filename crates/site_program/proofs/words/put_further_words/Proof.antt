@@ -1,6 +1,5 @@
 -- `put_further_words` meets its contract: each number in turn.
-use borrow.Author.Needs.{needs}
-use borrow.Author.Tests.{eq-eqb, ne-eqb}
+use Rattle.lists.specs.Kit.{needs, eq-eqb, ne-eqb}
 use Rattle.site_program.specs.Words.{further-words}
 use Rattle.site_program.proofs.words.put_further_words.Statement.{statement}
 use Rattle.site_program.proofs.words.put_further_words.Tie as tie

@@ -1,7 +1,7 @@
 -- `put_refused` meets its contract: one text after another.
+use Rattle.lists.specs.Kit.{needs}
 use Rattle.text.proofs.PrintLaws.{puts-append}
 use Rattle.site_program.specs.Words.{refused-text}
-use borrow.Author.Needs.{needs}
 use Rattle.site_program.proofs.words.put_refused.Statement.{statement}
 use Rattle.site_program.proofs.words.put_refused.Tie as tie
 

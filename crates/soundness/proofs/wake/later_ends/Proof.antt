@@ -1,9 +1,7 @@
 -- `wake::later_ends` meets its contract: the places are the order's, and the ends of the row are counted.
-use native.Mathlib.Omega.{arith}
-use borrow.Author.Needs.{needs}
+use Rattle.lists.specs.Kit.{arith, needs}
 use Rattle.mesh.specs.Tables.{tables}
-use Rattle.soundness.proofs.WakeLaws.{ends-site, ends-placed, ends-room, ends-later}
-use Rattle.soundness.proofs.wake.later_ends.Statement.{statement}
+use Rattle.soundness.proofs.{WakeLaws.{ends-site, ends-placed, ends-room, ends-later}, wake.later_ends.Statement.{statement}}
 use Rattle.soundness.proofs.wake.later_ends.Tie as tie
 
 place-requires : tie.Need-place-requires

@@ -1,9 +1,7 @@
 -- `wake::later_of` meets its contract: refused by questions 1 to 4, or the later neighbours of a radio of sound tables.
-use mathlib.Core.Path.{sym, _∙_}
-use borrow.Author.Needs.{needs}
+use Rattle.lists.specs.Kit.{sym, _∙_, needs}
 use Rattle.mesh.specs.Tables.{tables}
-use Rattle.soundness.proofs.WakeLaws.{later-refused, later-radio, later-answered}
-use Rattle.soundness.proofs.wake.later_of.Statement.{statement}
+use Rattle.soundness.proofs.{WakeLaws.{later-refused, later-radio, later-answered}, wake.later_of.Statement.{statement}}
 use Rattle.soundness.proofs.wake.later_of.Tie as tie
 
 returns : tie.Need-returns

@@ -1,10 +1,8 @@
 -- `wake::radio_refusal` meets its contract: questions 1 to 3, and 4 after them.
-use borrow.Author.Needs.{needs}
-use Rattle.mesh.specs.Sound.{sound}
-use Rattle.mesh.specs.Tables.{tables}
+use Rattle.lists.specs.Kit.{needs}
+use Rattle.mesh.specs.{Sound.{sound}, Tables.{tables}}
 use Rattle.calls.specs.Questions.{lengths-of}
-use Rattle.soundness.proofs.RadioLaws.{radio-no, radio-four, radio-none}
-use Rattle.soundness.proofs.wake.radio_refusal.Statement.{statement}
+use Rattle.soundness.proofs.{RadioLaws.{radio-no, radio-four, radio-none}, wake.radio_refusal.Statement.{statement}}
 use Rattle.soundness.proofs.wake.radio_refusal.Tie as tie
 
 returns : tie.Need-returns

@@ -1,11 +1,7 @@
 -- `levels::level_below` meets its contract: the greatest so far and what is left of the table give the greatest. The measure is what is
 -- left of the table.
-use Prim.Native.Nat.{_-_}
-use native.Mathlib.Omega.{arith}
-use lib.ListN.{length}
-use borrow.Author.Needs.{needs}
-use Rattle.staircase.proofs.SkipLaws.{Below-so-far, below-turn, below-end}
-use Rattle.staircase.proofs.levels.level_below.Statement.{statement}
+use Rattle.lists.specs.Kit.{_-_, arith, length, needs}
+use Rattle.staircase.proofs.{SkipLaws.{Below-so-far, below-turn, below-end}, levels.level_below.Statement.{statement}}
 use Rattle.staircase.proofs.levels.level_below.Tie as tie
 
 abbrev Inv-loop : tie.InvT-loop

@@ -1,7 +1,6 @@
 -- `levels::number_below` meets its contract: both branches are the definition's.
-use mathlib.Core.Path.{sym}
-use Rattle.staircase.proofs.SkipLaws.{below-hit, below-miss}
-use Rattle.staircase.proofs.levels.number_below.Statement.{statement}
+use Rattle.lists.specs.Kit.{sym}
+use Rattle.staircase.proofs.{SkipLaws.{below-hit, below-miss}, levels.number_below.Statement.{statement}}
 use Rattle.staircase.proofs.levels.number_below.Tie as tie
 
 pub number-below-spec : {M : Type 1} → statement M

@@ -1,11 +1,9 @@
 -- `clear::clear` meets its contract: a refusal touches nothing, and an accepted call fills each table to its length, which is the
 -- one that question 2 wants.
-use mathlib.Core.Path.{sym, _∙_}
-use borrow.Author.Needs.{needs}
+use Rattle.lists.specs.Kit.{sym, _∙_, needs}
 use Rattle.mesh.specs.Tables.{tables}
 use Rattle.calls.specs.Questions.{lengths-of}
-use Rattle.tables.proofs.ClearLaws.{clear-refused, clear-accepted}
-use Rattle.tables.proofs.clear.clear.Statement.{statement}
+use Rattle.tables.proofs.{ClearLaws.{clear-refused, clear-accepted}, clear.clear.Statement.{statement}}
 use Rattle.tables.proofs.clear.clear.Tie as tie
 
 returns : tie.Need-returns

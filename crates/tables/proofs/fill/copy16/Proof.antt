@@ -1,9 +1,6 @@
 -- `fill::copy16` meets its contract: 16-bit entries being copied. The measure is what is left to copy.
-use Prim.Native.Nat.{_-_}
-use native.Mathlib.Omega.{arith}
-use borrow.Author.Needs.{needs}
-use Rattle.tables.proofs.WidthLaws.{Copying, copying-none, copying-turn, copying-end}
-use Rattle.tables.proofs.fill.copy16.Statement.{statement}
+use Rattle.lists.specs.Kit.{_-_, arith, needs}
+use Rattle.tables.proofs.{WidthLaws.{Copying, copying-none, copying-turn, copying-end}, fill.copy16.Statement.{statement}}
 use Rattle.tables.proofs.fill.copy16.Tie as tie
 
 abbrev Inv-loop : tie.InvT-loop

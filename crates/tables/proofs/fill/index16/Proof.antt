@@ -1,11 +1,6 @@
 -- `fill::index16` meets its contract: 16-bit entries being written, each its own index. The measure is what is left of d.
-use mathlib.Core.Path.{refl}
-use Prim.Native.Nat.{ℕ, _-_}
-use native.Mathlib.Omega.{arith}
-use lib.ListN.{length}
-use borrow.Author.Needs.{needs}
-use Rattle.tables.proofs.WidthLaws.{Writing, writing-none, writing-turn, writing-all}
-use Rattle.tables.proofs.fill.index16.Statement.{statement}
+use Rattle.lists.specs.Kit.{refl, ℕ, _-_, arith, length, needs}
+use Rattle.tables.proofs.{WidthLaws.{Writing, writing-none, writing-turn, writing-all}, fill.index16.Statement.{statement}}
 use Rattle.tables.proofs.fill.index16.Tie as tie
 
 abbrev Inv-loop : tie.InvT-loop

@@ -1,7 +1,5 @@
 -- `fill::put16` meets its contract: a store past a list's end changes nothing.
-use mathlib.Core.Path.{sym}
-use lib.Seq.{set-out}
-use borrow.Author.Needs.{needs}
+use Rattle.lists.specs.Kit.{sym, set-out, needs}
 use Rattle.tables.proofs.fill.put16.Statement.{statement}
 use Rattle.tables.proofs.fill.put16.Tie as tie
 

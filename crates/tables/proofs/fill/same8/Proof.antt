@@ -1,12 +1,6 @@
 -- `fill::same8` meets its contract: the entries passed are equal, so what is left decides. The measure is what is left of a.
-use mathlib.Core.Path.{sym}
-use Prim.Native.Nat.{_-_}
-use native.Mathlib.Omega.{arith}
-use lib.ListN.{length}
-use borrow.Author.Needs.{needs}
-use Rattle.tables.proofs.WidthLaws.{Comparing, comparing-none, comparing-turn, comparing-differ, comparing-end}
-use Rattle.lists.proofs.All.{same-lengths}
-use Rattle.tables.proofs.fill.same8.Statement.{statement}
+use Rattle.lists.{specs.Kit.{sym, _-_, arith, length, needs}, proofs.All.{same-lengths}}
+use Rattle.tables.proofs.{WidthLaws.{Comparing, comparing-none, comparing-turn, comparing-differ, comparing-end}, fill.same8.Statement.{statement}}
 use Rattle.tables.proofs.fill.same8.Tie as tie
 
 abbrev Inv-loop : tie.InvT-loop

@@ -1,11 +1,7 @@
 -- `numbers::greatest` meets its contract: the greatest so far and what is left of the table give the greatest. The measure is
 -- what is left of the table.
-use Prim.Native.Nat.{_-_}
-use native.Mathlib.Omega.{arith}
-use lib.ListN.{length}
-use borrow.Author.Needs.{needs}
-use Rattle.tables.proofs.NumberLaws.{Greatest-so-far, greatest-turn, greatest-end}
-use Rattle.tables.proofs.numbers.greatest.Statement.{statement}
+use Rattle.lists.specs.Kit.{_-_, arith, length, needs}
+use Rattle.tables.proofs.{NumberLaws.{Greatest-so-far, greatest-turn, greatest-end}, numbers.greatest.Statement.{statement}}
 use Rattle.tables.proofs.numbers.greatest.Tie as tie
 
 abbrev Inv-loop : tie.InvT-loop

@@ -1,5 +1,5 @@
 -- `sizes::with_answer` meets its contract: the further test is the answer table's.
-use borrow.Author.Needs.{needs}
+use Rattle.lists.specs.Kit.{needs}
 use Rattle.calls.specs.Questions.{answer-length}
 use Rattle.tables.proofs.sizes.with_answer.Statement.{statement}
 use Rattle.tables.proofs.sizes.with_answer.Tie as tie

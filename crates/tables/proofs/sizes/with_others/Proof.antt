@@ -1,6 +1,5 @@
 -- `sizes::with_others` meets its contract: each test is a question of the chain, and its "no" the number.
-use borrow.Author.Needs.{needs}
-use borrow.Author.Tests.{not-true, not-false}
+use Rattle.lists.specs.Kit.{needs, not-true, not-false}
 use Rattle.calls.specs.Questions.{ask, lent-refusal}
 use Rattle.tables.proofs.sizes.with_others.Statement.{statement}
 use Rattle.tables.proofs.sizes.with_others.Tie as tie

@@ -1,19 +1,10 @@
 -- `steps::step_numbers` meets its contract: what is left of the list steps the numbers to what the whole list steps them to.
 -- The measure is what is left of the list. A signed local is its bits, so that the invariant reads the step by `toZ`.
-use mathlib.Core.Path.{ap, _∙_}
-use Prim.Native.Nat.{_-_}
-use native.Mathlib.Omega.{arith}
-use mir.Syntax.{w8}
-use mir.Val.{toZ}
-use mir.Facts.{toZ-ofZ}
-use lib.IntN.{ℤ}
-use lib.ListN.{take, length-take}
-use lib.Seq.{getD-take}
-use borrow.Author.Needs.{needs}
+use Rattle.lists.{specs.Kit.{ap, _∙_, _-_, arith, ℤ, take, length-take, getD-take, needs}, proofs.Loops.{Folding, folding-none, folding-turn, folding-end}}
+use Rattle.lists.{proofs.Loops.{folding-long}}
+use mir.{Syntax.{w8}, Val.{toZ}, Facts.{toZ-ofZ}}
 use Rattle.tables.specs.Steps.{step-at, all-stepped}
-use Rattle.lists.proofs.Loops.{Folding, folding-none, folding-turn, folding-end, folding-long}
-use Rattle.tables.proofs.StepLaws.{length-step-at}
-use Rattle.tables.proofs.steps.step_numbers.Statement.{statement}
+use Rattle.tables.proofs.{StepLaws.{length-step-at}, steps.step_numbers.Statement.{statement}}
 use Rattle.tables.proofs.steps.step_numbers.Tie as tie
 
 abbrev Inv-loop : tie.InvT-loop

@@ -1,7 +1,6 @@
 -- `steps::stepped` meets its contract: the sum is exact in 16 bits, and the two tests hold it between 0 and 255.
-use borrow.Author.Needs.{needs}
-use Rattle.tables.proofs.StepLaws.{sum-of, step-wide, sum-fits, held-within, sum-below, sum-above, sum-within}
-use Rattle.tables.proofs.steps.stepped.Statement.{statement}
+use Rattle.lists.specs.Kit.{needs}
+use Rattle.tables.proofs.{StepLaws.{sum-of, step-wide, sum-fits, held-within, sum-below, sum-above, sum-within}, steps.stepped.Statement.{statement}}
 use Rattle.tables.proofs.steps.stepped.Tie as tie
 
 cast-sum-2 : tie.Need-cast-sum-2

@@ -1,6 +1,6 @@
 -- `back::play_lines` is safe and ends: every table keeps its length, and the measure is how many bytes are left.
 use mathlib.Core.Path.{_≡_}
-use Prim.Native.Nat.{_-_, _≤_}
+use Prim.Native.Nat.{_-_}
 use lib.ListN.{length}
 use borrow.Author.Needs.{needs}
 use Rattle.test_scripts.proofs.back.play_lines.Statement.{statement}

@@ -1,16 +1,10 @@
 -- `levels::grow` meets its contract: the root alone first, then all levels; on sound tables no number is above the most neighbours, and the
 -- radios of a level stand side by side in the order.
-use mathlib.Core.Path.{sym}
-use native.Mathlib.Omega.{arith}
-use lib.ListN.{length}
-use lib.Seq.{length-take-le}
-use borrow.Author.Needs.{needs}
+use Rattle.lists.specs.Kit.{sym, arith, length, length-take-le, needs}
 use Rattle.mesh.specs.Tables.{tables}
 use Rattle.soundness.proofs.SoundSite.{fits-sound-site}
 use Rattle.tree.specs.Trees.{lists}
-use Rattle.tree.proofs.ShellSets.{sound-levels}
-use Rattle.tree.proofs.TreeLoop.{filled-front, grown-all}
-use Rattle.tree.proofs.levels.grow.Statement.{statement}
+use Rattle.tree.proofs.{ShellSets.{sound-levels}, TreeLoop.{filled-front, grown-all}, levels.grow.Statement.{statement}}
 use Rattle.tree.proofs.levels.grow.Tie as tie
 
 take-levels-requires : tie.Need-take-levels-requires

@@ -1,12 +1,8 @@
 -- `levels::put_shell` meets its contract: the radios passed have the level's number and are in the set (`Shell-putting`); where another
 -- number stands, or the order ends, no radio of the level is left. The measure is what is left of the order.
-use mathlib.Core.Path.{sym, ap, _∙_}
-use Prim.Native.Nat.{ℕ, _-_}
-use native.Mathlib.Omega.{arith}
-use lib.ListN.{length, length-replicate}
-use borrow.Author.Needs.{needs}
-use Rattle.tree.proofs.ShellSets.{Shell-putting, shell-putting-none, shell-putting-turn, shell-putting-set, shell-putting-next}
-use Rattle.tree.proofs.levels.put_shell.Statement.{statement}
+use Rattle.lists.specs.Kit.{sym, ap, _∙_, ℕ, _-_, arith, length, length-replicate, needs}
+use Rattle.tree.proofs.{ShellSets.{Shell-putting, shell-putting-none, shell-putting-turn, shell-putting-set, shell-putting-next}}
+use Rattle.tree.proofs.{levels.put_shell.Statement.{statement}}
 use Rattle.tree.proofs.levels.put_shell.Tie as tie
 
 abbrev Inv-loop : tie.InvT-loop

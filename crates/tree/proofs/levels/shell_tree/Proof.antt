@@ -1,11 +1,8 @@
 -- `levels::shell_tree` meets its contract: questions 1 to 3 give the number, and where it is 0 the tables are sound, so that the
 -- tree grows.
-use mathlib.Core.Path.{refl}
-use lib.ListN.{length}
-use borrow.Author.Needs.{needs}
+use Rattle.lists.specs.Kit.{refl, length, needs}
 use Rattle.tree.specs.Trees.{lists}
-use Rattle.tree.proofs.TreeAnswer.{places-least, room-test, tree-refused, tree-ready, tree-accepted}
-use Rattle.tree.proofs.levels.shell_tree.Statement.{statement}
+use Rattle.tree.proofs.{TreeAnswer.{places-least, room-test, tree-refused, tree-ready, tree-accepted}, levels.shell_tree.Statement.{statement}}
 use Rattle.tree.proofs.levels.shell_tree.Tie as tie
 
 returns : tie.Need-returns

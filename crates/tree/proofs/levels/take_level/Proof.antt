@@ -1,17 +1,11 @@
 -- `levels::take_level` meets its contract: before radio v, the lowest of the level that the set still has, the set and the lists are right
 -- if they were so at the level's start (`Levelling`). The measure is what is left of the radios.
-use mathlib.Core.Path.{_≡_, _∙_}
-use Prim.Native.Nat.{_-_, min}
-use native.Mathlib.Omega.{arith}
-use lib.ListN.{length}
-use borrow.Author.Needs.{needs}
+use Rattle.lists.specs.{Kit.{_≡_, _∙_, _-_, min, arith, length, needs}, Lists.{head-or}}
 use Rattle.mesh.specs.Limits.{max-radios}
-use Rattle.lists.specs.Lists.{head-or}
 use Rattle.rows.specs.Sets.{common}
 use Rattle.tree.specs.Trees.{lists}
-use Rattle.tree.proofs.ShellSets.{takes-none}
-use Rattle.tree.proofs.LevelLoop.{Levelling, levelling-none, levelling-to, levelling-later, levelling-next, levelling-end}
-use Rattle.tree.proofs.levels.take_level.Statement.{statement}
+use Rattle.tree.proofs.{ShellSets.{takes-none}, LevelLoop.{Levelling, levelling-none, levelling-to, levelling-later, levelling-next, levelling-end}}
+use Rattle.tree.proofs.{levels.take_level.Statement.{statement}}
 use Rattle.tree.proofs.levels.take_level.Tie as tie
 
 abbrev Inv-loop : tie.InvT-loop

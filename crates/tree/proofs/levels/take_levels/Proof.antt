@@ -1,15 +1,9 @@
 -- `levels::take_levels` meets its contract: before each level the lists are right if they were so with the root alone (`Treeing`), the set is
 -- that of the level, and the level's radios stand in the order from a place on (`Level-from`). The measure is what is left of the levels.
-use mathlib.Core.Path.{_≡_, refl}
-use Prim.Native.Nat.{_+_, _-_, _≤_}
-use native.Mathlib.Omega.{arith}
-use lib.ListN.{length}
-use borrow.Author.Needs.{needs}
+use Rattle.lists.specs.Kit.{_≡_, refl, _+_, _-_, _≤_, arith, length, needs}
 use Rattle.floods.specs.Floods.{Level-set}
 use Rattle.tree.specs.Trees.{lists, Level-from}
-use Rattle.tree.proofs.ShellSets.{level-next}
-use Rattle.tree.proofs.TreeLoop.{Treeing, treeing-none, treeing-turn, treeing-end}
-use Rattle.tree.proofs.levels.take_levels.Statement.{statement}
+use Rattle.tree.proofs.{ShellSets.{level-next}, TreeLoop.{Treeing, treeing-none, treeing-turn, treeing-end}, levels.take_levels.Statement.{statement}}
 use Rattle.tree.proofs.levels.take_levels.Tie as tie
 
 abbrev Inv-loop : tie.InvT-loop

@@ -1,10 +1,6 @@
 -- `nodes::name_all` meets its contract: what is left of the list gives what all of it gives (`Folding`). The measure is what is
 -- left of the list.
-use Prim.Native.Nat.{_-_}
-use native.Mathlib.Omega.{arith}
-use lib.ListN.{take, set, length-set}
-use borrow.Author.Needs.{needs}
-use Rattle.lists.proofs.Loops.{Folding, folding-none, folding-front, folding-front-end, folding-long}
+use Rattle.lists.{specs.Kit.{_-_, arith, take, set, length-set, needs}, proofs.Loops.{Folding, folding-none, folding-front, folding-front-end, folding-long}}
 use Rattle.tree.specs.Trees.{entries-set}
 use Rattle.tree.proofs.nodes.name_all.Statement.{statement}
 use Rattle.tree.proofs.nodes.name_all.Tie as tie
