@@ -44,7 +44,7 @@ def ratio_panel(run, top):
         parts += [dot(LEFT + 6 + 160 * i, top - 27, colour), text(LEFT + 16 + 160 * i, top - 22, f"to {name}", "start")]
     parts += [text(RIGHT, top - 22, "left of 1: the engine is faster", "end")]
     for tick in ticks:
-        parts += [line(across(tick), top, across(tick), bottom, "#555" if tick == 1 else "#ddd"), text(across(tick), bottom + 18, f"{tick:.2g}")]
+        parts += [line(across(tick), top, across(tick), bottom, "#555" if tick == 1 else "#ddd"), text(across(tick), bottom + 18, f"{tick:g}" if tick >= 1 else f"1/{1 / tick:g}")]
     for i, call in enumerate(run.calls):
         y = top + ROW * (i + 0.5)
         parts.append(text(LEFT - 10, y + 4, words(call), "end"))
