@@ -24,8 +24,9 @@
  * A table of length 0 is never read or written, so its pointer may be NULL (tested, not proved): an empty list of sb_link_batch,
  * sb_commit_up and sb_commit_down is taken, and every other table of length 0 is refused.
  *
- * "At worst" is the most instructions that a call is known to take, at 512 radios: counted on x86-64, in the archive as its compiler makes it (clang
- * 22 at -O3). The inputs were looked for (bench/worst, docs/BENCHMARKS.md) and are not proved to be the worst; a watchdog needs room beside them.
+ * "At worst" is the most instructions that a call is known to take, at 512 radios: counted on x86-64, in the archive as its compiler makes
+ * it (clang 22.1 at -O3). The inputs were looked for and are not proved to be the worst, so a watchdog needs room beside them.
+ * docs/BENCHMARKS.md has them, and how each call grows.
  *
  * summerbugle_site.h has the same calls with fewer arguments.
  */
