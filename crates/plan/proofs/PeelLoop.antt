@@ -7,9 +7,9 @@ use Rattle.mesh.specs.{Limits.{max-radios, row-bytes}, Tables.{digit, marked, p
 use Rattle.rows.{specs.Rows.{neighbours-of, row-listed}, proofs.RowWords.{row-listed-whole}, specs.Sets.{in-set, take-out}, proofs.SetLaws.{length-take-out}}
 use Rattle.rows.{proofs.SetLaws.{in-take-out}}
 use Rattle.plan.specs.{Turns.{released, places-released, near-left, Releasable, Row-ready}, Places.{level-start, level-size}, Peels.{linked-after}}
-use Rattle.plan.specs.{Peels.{Turning, Whole-counted, Left-set, Peel-ready, Peel-done}}
-use Rattle.plan.proofs.{TurnLoops.{length-released}, LevelLaws.{first-marked-least}, PeelTurns.{turns-end, taken-below, taken-room, whole-none}}
-use Rattle.plan.proofs.{PeelTurns.{taken-releasable, whole-turns, whole-after, left-releasable, left-turns}}
+use Rattle.plan.specs.{Peels.{Turning, Left-set, Peel-ready, Peel-done}}
+use Rattle.plan.proofs.{TurnLoops.{length-released}, LevelLaws.{first-marked-least}, PeelTurns.{turns-end, taken-below, taken-room}}
+use Rattle.plan.proofs.{PeelTurns.{left-releasable, left-turns}}
 
 pub record Peel-from (up : Bool) (a b k m : ℕ) (links numbers order places cs0 fs0 list0 cs fs list : List ℕ) (taken p : ℕ) : Type 0 where
   pub long-counters : length cs ≡ length cs0
@@ -18,12 +18,6 @@ pub record Peel-from (up : Bool) (a b k m : ℕ) (links numbers order places cs0
   pub room : taken ≤ level-size numbers k
   pub next : p ≡ head-or max-radios (neighbours-of fs 0)
   pub turning : Turning (linked-after up a b (length order) links) m order places (level-start numbers k) (level-size numbers k) (take taken list) cs fs
-
--- every radio of the level counted, taken or not
-abbrev pub Thin-from : (up : Bool) → (a b k m : ℕ) → (links numbers order places cs0 fs0 list0 cs fs list : List ℕ) → (taken p : ℕ) → Type 0
-Thin-from up a b k m links ns os ps cs0 fs0 list0 cs fs list taken p =
-    Peel-from up a b k m links ns os ps cs0 fs0 list0 cs fs list taken p
-    × Whole-counted (linked-after up a b (length os) links) os (level-start ns k) (level-size ns k) (take taken list) cs
 
 -- a set of what is not taken
 abbrev pub Masked-from : (up : Bool) → (a b k m : ℕ) → (links numbers order places cs0 fs0 list0 left cs fs list : List ℕ) → (taken p : ℕ) → Type 0
@@ -81,9 +75,6 @@ module _ {up : Bool} {a b k m : ℕ} {links ns os ps cs0 fs0 list0 : List ℕ}
     next = first-of fs0 p (ready .turning .fits-long) e;
     turning = ready .turning;
   }
-
-  pub thin-none : (p : ℕ) → p ≡ head-or max-radios (row-listed fs0 0) → Thin-from up a b k m links ns os ps cs0 fs0 list0 cs0 fs0 list0 0 p
-  thin-none p e = (peel-none p e, whole-none (ready .level) m (ready .turning) refl)
 
   pub masked-none : (p : ℕ) → p ≡ head-or max-radios (row-listed fs0 0) → Masked-from up a b k m links ns os ps cs0 fs0 list0 (replicate 8 18446744073709551615) cs0 fs0 list0 0 p
   masked-none p e = (peel-none p e, left-set-none)
@@ -143,38 +134,21 @@ module _ {up : Bool} {a b k m : ℕ} {links ns os ps cs0 fs0 list0 : List ℕ}
             turning = turned;
           }
 
-      -- ---- all neighbours of v released
-
-      module _ (whole : Whole-counted (linked-after up a b (length os) links) os (level-start ns k) (level-size ns k) (take taken list) cs) where
-        pub thin-releasable : Releasable ns ps k (neighbours-of (put-link up a b links) v) cs
-        thin-releasable = taken-releasable (ready .level) m (h .turning) p (h .next) some (put-link up a b links) row-marks whole
-
-        pub thin-turn : (cs1 fs1 : List ℕ) (p1 : ℕ) → cs1 ≡ released ns k (neighbours-of (put-link up a b links) v) cs
-            → fs1 ≡ places-released ns ps k m (neighbours-of (put-link up a b links) v) cs (put-bit false 0 p fs) → p1 ≡ head-or max-radios (row-listed fs1 0)
-            → Thin-from up a b k m links ns os ps cs0 fs0 list0 cs1 fs1 (set list taken v) (taken + 1) p1
-        thin-turn cs1 fs1 p1 ec ef e = (
-          peel-turn (neighbours-of (put-link up a b links) v) cs1 fs1 p1
-              (whole-turns (ready .level) m (h .turning) p (h .next) some (put-link up a b links) row-marks whole) ec ef e,
-          rw (written, ec) (whole-after (ready .level) m (h .turning) p (h .next) some (put-link up a b links) row-marks whole),
-        )
-
       -- ---- the ones released that are left
 
       module _ {left : List ℕ} (is : Left-set (take taken list) left) where
         less-set : Left-set (take taken list ++ (v ∷ [])) (take-out v left)
         less-set = left-set-more v (omega (arith, v-below, ready .level .small)) is
 
-        pub masked-releasable : Releasable ns ps k (near-left (put-link up a b links) v (take-out v left)) cs
-        masked-releasable =
-            left-releasable (ready .level) m (h .turning) p (h .next) some (put-link up a b links) row-marks (take-out v left) less-set
+        pub masked-releasable : Releasable ns ps k (near-left (put-link up a b links) v left) cs
+        masked-releasable = left-releasable (ready .level) m (h .turning) p (h .next) some (put-link up a b links) row-marks left is
 
-        pub masked-turn : (left1 cs1 fs1 : List ℕ) (p1 : ℕ) → left1 ≡ take-out v left
-            → cs1 ≡ released ns k (near-left (put-link up a b links) v (take-out v left)) cs
-            → fs1 ≡ places-released ns ps k m (near-left (put-link up a b links) v (take-out v left)) cs (put-bit false 0 p fs)
+        pub masked-turn : (left1 cs1 fs1 : List ℕ) (p1 : ℕ) → left1 ≡ take-out v left → cs1 ≡ released ns k (near-left (put-link up a b links) v left) cs
+            → fs1 ≡ places-released ns ps k m (near-left (put-link up a b links) v left) cs (put-bit false 0 p fs)
             → p1 ≡ head-or max-radios (row-listed fs1 0) → Masked-from up a b k m links ns os ps cs0 fs0 list0 left1 cs1 fs1 (set list taken v) (taken + 1) p1
         masked-turn left1 cs1 fs1 p1 el ec ef e = (
-          peel-turn (near-left (put-link up a b links) v (take-out v left)) cs1 fs1 p1
-              (left-turns (ready .level) m (h .turning) p (h .next) some (put-link up a b links) row-marks (take-out v left) less-set) ec ef e,
+          peel-turn (near-left (put-link up a b links) v left) cs1 fs1 p1
+              (left-turns (ready .level) m (h .turning) p (h .next) some (put-link up a b links) row-marks left is) ec ef e,
           rw (written, el) less-set,
         )
 

@@ -10,7 +10,7 @@ use Rattle.lists.{proofs.Filter.{filter-ext, in-filter, filter-in, distinct-fil
 use Rattle.mesh.{specs.Limits.{max-radios, row-bytes}, specs.Tables.{marked, put-bit}, proofs.Tables.Laws.{length-put-bit}, specs.Peel.{Peels}}
 use Rattle.mesh.{proofs.Links.Peel.{takes-more, takes-permutation, takes-now-in, takes-taken-in, takes-now-filter}}
 use Rattle.rows.{specs.Rows.{neighbours-of}, proofs.RowListLaws.{distinct-neighbours-of, in-neighbours-of, member-neighbours-of}, specs.Sets.{in-set}}
-use Rattle.plan.specs.{Turns.{released, places-released, near-left, Releasable}, Peels.{stretch, above, Level, Turning, Whole-counted, Left-set}}
+use Rattle.plan.specs.{Turns.{released, places-released, near-left, Releasable}, Peels.{stretch, above, Level, Turning, Left-set}}
 use Rattle.plan.proofs.{TurnLaws.{marked-put, getD-released-level, fits-released, marked-released, marked-released-place}, TurnLoops.{length-released}}
 use Rattle.plan.proofs.{TurnLoops.{length-places-released}, StretchLoops.{length-stretch}, LevelLaws.{first-marked-in, first-marked-least, place-level}}
 use Rattle.plan.proofs.{LevelLaws.{level-stretch, Stands, stretch-stands, place-apart, place-small, rising-stretch, distinct-stretch}}
@@ -44,17 +44,6 @@ module _ {f : ℕ → ℕ → Bool} {ns os ps : List ℕ} {k start size : ℕ} (
     left-rising : Rising place left
     left-rising =
         rw (takes-now-filter f m high (distinct-stretch lv) (h .takes)) (rising-filter place (λ v. member v left) level (rising-stretch lv))
-
-    -- before the first turn all radios of the level are counted
-    pub whole-none : taken ≡ [] → Whole-counted f os start size taken cs
-    whole-none e v i = go (level-cases v i)
-      where
-        go : In v taken ⊎ In v left → getD cs v 0 + count (f v) taken ≡ count (f v) level + count (f v) high
-        go (inl t) = absurd (nothing (rw e at t))
-          where
-            nothing : In v [] → ⊥
-            nothing q = q
-        go (inr l) = omega (arith, h .counted v l, takes-permutation f m high (h .takes) (f v), count-append (f v) taken left)
 
     pub length-left : length taken + length left ≡ size
     length-left =
@@ -294,35 +283,8 @@ module _ {f : ℕ → ℕ → Bool} {ns os ps : List ℕ} {k start size : ℕ} (
           above-zero = λ w i e. some-left w i (level-stretch lv w (lv .within v w (linked w i)) e);
         }
 
-        -- all of them
-        module _ (whole : Whole-counted f os start size taken cs) where
-          pub taken-releasable : Releasable ns ps k (neighbours-of us v) cs
-          taken-releasable = row-releasable (neighbours-of us v) (distinct-neighbours-of us v) row-linked (λ w i at.
-              omega (
-                arith,
-                whole w at,
-                takes-permutation f m high (h .takes) (f w),
-                count-append (f w) taken left,
-                count-pos (f w) v left taken-left (lv .symmetric w v ∙ row-linked w i),
-              ))
-
-          pub whole-turns : Turning f m os ps start size (taken ++ (v ∷ [])) (released ns k (neighbours-of us v) cs)
-              (places-released ns ps k m (neighbours-of us v) cs (put-bit false 0 p fs))
-          whole-turns = turns-more (neighbours-of us v) taken-releasable (λ w i. row-member w (left-in w i))
-
-          pub whole-after : Whole-counted f os start size (taken ++ (v ∷ [])) (released ns k (neighbours-of us v) cs)
-          unfolding count
-          whole-after w i =
-              omega (
-                arith,
-                whole w i,
-                counter-after (neighbours-of us v) taken-releasable (λ w i. row-member w (left-in w i)) w i,
-                ap (λ (b : Bool). cond {A = ℕ} b 1 0) (row-member w i ∙ lv .symmetric v w),
-                count-append (f w) taken (v ∷ []),
-              )
-
         -- the ones that are left
-        module _ (set : List ℕ) (is : Left-set (taken ++ (v ∷ [])) set) where
+        module _ (set : List ℕ) (is : Left-set taken set) where
           abbrev near-set : List ℕ
           near-set = near-left us v set
 
@@ -342,7 +304,7 @@ module _ {f : ℕ → ℕ → Bool} {ns os ps : List ℕ} {k start size : ℕ} (
 
               go : In w taken ⊎ In w left → In w left
               go (inl t) =
-                  let gone : in-set set w ≡ false = is .has w (below-radios w at) ∙ ap not (in-member w (taken ++ (v ∷ [])) (in-left w taken (v ∷ []) t)) in
+                  let gone : in-set set w ≡ false = is .has w (below-radios w at) ∙ ap not (in-member w taken t) in
                   never (in-set set w) (r .1) gone
               go (inr l) = l
 
@@ -360,14 +322,8 @@ module _ {f : ℕ → ℕ → Bool} {ns os ps : List ℕ} {k start size : ℕ} (
 
               go : (f v w ≡ true) ⊎ (f v w ≡ false) → member w near-set ≡ f v w
               go (inl e) =
-                  let apart-v : v ≡ w → ⊥ = λ q. never (f v v) (ap (f v) q ∙ e) (lv .irreflexive v) in
-                  let out : member w (taken ++ (v ∷ [])) ≡ false = not-member w (taken ++ (v ∷ [])) (λ t. untaken apart-v (in-cases w taken (v ∷ []) t)) in
+                  let out : member w taken ≡ false = not-member w taken (λ t. distinct-apart taken left all-distinct w t i) in
                   in-member w near-set (near-in w (member-in w (neighbours-of us v) (row-member w at ∙ e)) (is .has w (below-radios w at) ∙ ap not out)) ∙ sym e
-                where
-                  untaken : (v ≡ w → ⊥) → In w taken ⊎ In w (v ∷ []) → ⊥
-                  untaken ne (inl t) = distinct-apart taken left all-distinct w t i
-                  untaken ne (inr (inl q)) = ne q
-                  untaken ne (inr (inr q)) = absurd q
               go (inr e) = not-member w near-set (λ t. never (f v w) (row-linked w (in-near w t .0)) e) ∙ sym e
 
           pub left-turns : Turning f m os ps start size (taken ++ (v ∷ [])) (released ns k near-set cs) (places-released ns ps k m near-set cs (put-bit false 0 p fs))

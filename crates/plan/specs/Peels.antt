@@ -4,7 +4,6 @@
 --   linked-after               neighbours after the call
 --   Level                      what the peel is made from: numbers, order and places that fit together, and neighbours after the call
 --   Turning                    so many radios are taken, what is left, its counters and the fitting places
---   Whole-counted              the counters of all radios of the level, taken or not: as the peel of a thin level keeps them
 --   Left-set                   a set that has all radios but the taken
 --   Peel-ready                 the same before the first turn, with rows and room for the loop
 --   Peel-done                  what the loop comes back with: the taken in front of the list, the stuck by their counters
@@ -50,11 +49,6 @@ pub record Turning (f : ℕ → ℕ → Bool) (most : ℕ) (order places : List 
   pub spent : (v : ℕ) → In v taken → getD counters v 0 ≤ most
   pub counters-long : length order ≤ length counters
   pub fits-long : length fits ≡ row-bytes
-
-abbrev pub Whole-counted : (f : ℕ → ℕ → Bool) → (order : List ℕ) → (start size : ℕ) → (taken counters : List ℕ) → Type 0
-Whole-counted f os start size ts cs =
-    (v : ℕ) → In v (stretch os start size) →
-    getD cs v 0 + count (f v) ts ≡ count (f v) (stretch os start size) + count (f v) (above os start size)
 
 pub record Left-set (taken left : List ℕ) : Type 0 where
   pub long : length left ≡ 8

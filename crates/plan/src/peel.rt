@@ -14,10 +14,7 @@ use super::stuck;
 use super::turn;
 use super::turn::Call;
 use mesh::Site;
-
-// From this level on a set of what is left masks the rows: half of the neighbours of a taken radio are taken already. On thin levels
-// the set costs more than it saves.
-const MASKED: u8 = 8;
+use rows::sets;
 
 // The call at the lower end's level K: the peel takes radios with at most K neighbours going up, K - 1 going down.
 pub(crate) fn call_at(up: bool, a: u32, b: u32, numbers: &[u8]) -> Call
@@ -68,37 +65,11 @@ fn begin(
     turn::mark_fitting(start, size, call.most, order, counters, fits);
 }
 
-// The peel of a thin level: a taken radio releases all its neighbours in the level, taken or not.
-fn peel_thin(
-    call: Call,
-    links: &[u8],
-    numbers: &[u8],
-    order: &[u16],
-    places: &[u16],
-    counters: &mut [u8; Site::RADIOS as usize],
-    fits: &mut [u8; Site::ROW_BYTES],
-    list: &mut [u16; Site::RADIOS as usize],
-) -> usize
-    requires { ⌜ Peel-ready (call .up) (call .a) (call .b) (call .level) (call .most) (now links) (now numbers) (now order)
-        (now places) (now counters) (now fits) (length (now list)) ⌝ }
-    ensures done { λ r. ⌜ Peel-done (call .up) (call .a) (call .b) (call .level) (call .most) (now (links .entry)) (now (numbers .entry))
-        (now (order .entry)) r (now (counters .exit)) (now (list .exit)) ⌝ }
-    ensures long { λ r. ⌜ length (now (list .exit)) ≡ length (now (list .entry)) ⌝ }
-{
-    let mut taken: usize = 0;
-    let mut p = rows::first_marked(fits, 0);
-    while p < Site::RADIOS {
-        let v = order[p as usize];
-        list[taken] = v;
-        taken += 1;
-        turn::take_radio(call, p, v as u32, links, numbers, places, counters, fits);
-        p = rows::first_marked(fits, 0);
-    }
-    taken
-}
-
-// The peel of any other level: a taken radio releases its neighbours that are left, so that the counters of the taken stand still.
-fn peel_masked(
+// Takes radios of the level in turn, always the first of the stretch that has at most `most` neighbours among what is left and
+// above, until none fits. Writes them in front of the list and comes back with their count; later entries keep their content.
+// A stuck radio then has a counter above `most`, a taken one has not. Fitting places are scratch.
+// A taken radio releases its neighbours that are left, so that the counters of the taken stand still.
+pub(crate) fn peel(
     call: Call,
     links: &[u8],
     numbers: &[u8],
@@ -128,38 +99,14 @@ fn peel_masked(
             links,
             numbers,
             places,
-            &mut left,
+            &left,
             counters,
             fits,
         );
+        sets::take_out(&mut left, v as u32);
         p = rows::first_marked(fits, 0);
     }
     taken
-}
-
-// Takes radios of the level in turn, always the first of the stretch that has at most `most` neighbours among what is left and
-// above, until none fits. Writes them in front of the list and comes back with their count; later entries keep their content.
-// A stuck radio then has a counter above `most`, a taken one has not. Fitting places are scratch.
-pub(crate) fn peel(
-    call: Call,
-    links: &[u8],
-    numbers: &[u8],
-    order: &[u16],
-    places: &[u16],
-    counters: &mut [u8; Site::RADIOS as usize],
-    fits: &mut [u8; Site::ROW_BYTES],
-    list: &mut [u16; Site::RADIOS as usize],
-) -> usize
-    requires { ⌜ Peel-ready (call .up) (call .a) (call .b) (call .level) (call .most) (now links) (now numbers) (now order)
-        (now places) (now counters) (now fits) (length (now list)) ⌝ }
-    ensures done { λ r. ⌜ Peel-done (call .up) (call .a) (call .b) (call .level) (call .most) (now (links .entry)) (now (numbers .entry))
-        (now (order .entry)) r (now (counters .exit)) (now (list .exit)) ⌝ }
-    ensures long { λ r. ⌜ length (now (list .exit)) ≡ length (now (list .entry)) ⌝ }
-{
-    if call.level < MASKED {
-        return peel_thin(call, links, numbers, order, places, counters, fits, list);
-    }
-    peel_masked(call, links, numbers, order, places, counters, fits, list)
 }
 
 // Plans the link a-b going up by the peel: writes the lower end's stretch, laid out anew, in front of `stretch`; later entries and the

@@ -5,12 +5,10 @@ ghost use Rattle.lists.specs.Lists.{range};
 ghost use Rattle.mesh.specs.Tables.{put-bit, put-link};
 ghost use Rattle.rows.specs.Rows.{neighbours-of, set-bits};
 ghost use Rattle.plan.specs.Turns.{end-counted, counter-less, released, place-marked, places-released, places-fitting, Releasable};
-ghost use Rattle.rows.specs.Sets.{take-out};
 ghost use Rattle.plan.specs.Turns.{near-left, Row-ready, Near-ready, Lists-neighbours};
 use super::ends;
 use super::places;
 use mesh::Site;
-use rows::sets;
 
 // The counter of v is one more going up and one less going down after, where v is of the level; the others keep theirs.
 pub(crate) fn count_end(
@@ -319,8 +317,7 @@ fn release_left(
     }
 }
 
-// Takes the radio v at place p out of what is left: the place fits no more, and of the neighbours that v has after the call the ones that
-// are left are released.
+// Takes the radio v at place p: the place fits no more, and of the neighbours that v has after the call the ones that are left are released.
 pub(crate) fn take_left(
     call: Call,
     p: u32,
@@ -328,22 +325,20 @@ pub(crate) fn take_left(
     links: &[u8],
     numbers: &[u8],
     places: &[u16],
-    left: &mut [u64; rows::ROW_WORDS as usize],
+    left: &[u64; rows::ROW_WORDS as usize],
     counters: &mut [u8; Site::RADIOS as usize],
     fits: &mut [u8; Site::ROW_BYTES],
 )
     requires { ⌜ Row-ready (call .a) (call .b) v (now links) ×
         Releasable (now numbers) (now places) (call .level)
-        (near-left (put-link (call .up) (call .a) (call .b) (now links)) v (take-out v (now left))) (now counters) ⌝ }
+        (near-left (put-link (call .up) (call .a) (call .b) (now links)) v (now left)) (now counters) ⌝ }
     ensures counted { λ _. ⌜ now (counters .exit) ≡ released (now (numbers .entry)) (call .level)
-        (near-left (put-link (call .up) (call .a) (call .b) (now (links .entry))) v (take-out v (now (left .entry)))) (now (counters .entry)) ⌝ }
+        (near-left (put-link (call .up) (call .a) (call .b) (now (links .entry))) v (now (left .entry))) (now (counters .entry)) ⌝ }
     ensures marked { λ _. ⌜ now (fits .exit) ≡ places-released (now (numbers .entry)) (now (places .entry)) (call .level) (call .most)
-        (near-left (put-link (call .up) (call .a) (call .b) (now (links .entry))) v (take-out v (now (left .entry)))) (now (counters .entry))
+        (near-left (put-link (call .up) (call .a) (call .b) (now (links .entry))) v (now (left .entry))) (now (counters .entry))
         (put-bit false 0 p (now (fits .entry))) ⌝ }
-    ensures less { λ _. ⌜ now (left .exit) ≡ take-out v (now (left .entry)) ⌝ }
 {
     places::put(fits, false, p);
-    sets::take_out(left, v);
     let w = ends::other_end(call.a, call.b, v);
     if w != v {
         let row = end_row(call.up, v, w, links);
