@@ -5,6 +5,7 @@ use Rattle.lists.{proofs.Tests.{bool-cases}}
 use Rattle.mesh.{specs.Limits.{max-radios, row-bytes}, specs.Tables.{marked, put-bit}, proofs.Tables.Laws.{length-put-bit}, specs.Peel.{bound}}
 use Rattle.plan.specs.Turns.{end-counted, ends-counted, places-fitting, Begin-ready}
 use Rattle.plan.proofs.TurnLaws.{marked-put}
+use Rattle.plan.specs.Turns.{call-of}
 
 -- ---- the bound of the peel
 
@@ -30,7 +31,7 @@ module _ (u : Bool) (k : ℕ) (ns : List ℕ) (v : ℕ) (cs : List ℕ) where
   unfolding end-counted
   getD-end-same l e = rw (eq-eqb (getD ns v 0) k e) (getD-set-same cs v (cond u (getD cs v 0 + 1) (getD cs v 0 - 1)) 0 l)
 
-module _ {u : Bool} {a b k start size : ℕ} {ns os cs : List ℕ} (h : Begin-ready u a b k start size ns os cs) where
+module _ {u : Bool} {a b k most start size : ℕ} {ns os cs : List ℕ} (h : Begin-ready (call-of u a b k most) start size ns os cs) where
   pub begin-a : (a < length ns) × (a < max-radios) × (u ≡ false → getD ns a 0 ≡ k → 1 ≤ getD cs a 0) × (getD ns a 0 ≡ k → getD cs a 0 < 255)
   begin-a = (h .known-a .0, h .known-a .1, h .above-zero a (inl refl), h .small a (h .known-a .0))
 

@@ -4,8 +4,8 @@ use Rattle.lists.{specs.Kit.{_≡_, refl, sym, ap, _∙_, _⊎_, inl, inr, Bool
 use Rattle.lists.{specs.Kit.{length, getD, replicate, length-replicate, lt-leb}, specs.Lists.{member, In}, proofs.Tests.{never}, proofs.Member.{in-member}}
 use Rattle.mesh.{specs.Limits.{max-radios, row-bytes}, specs.Graph.{Graph}, specs.Cores.{number}, specs.Tables.{tables, byte-at, marked, graph-in}}
 use Rattle.mesh.{specs.Peel.{bound, none}, proofs.Tables.Laws.{marked-replicate}}
-use Rattle.plan.specs.{Plans.{Ready, Planned}, Turns.{end-counted, ends-counted, counter-less, released, places-released, Releasable}}
-use Rattle.plan.specs.{Places.{level-start, level-size}, Peels.{stretch, linked-after, Level, Turning, Peel-ready, Peel-done}}
+use Rattle.plan.specs.{Plans.{Ready, Planned, plan-of}, Turns.{end-counted, ends-counted, counter-less, released, places-released, Releasable, call-of}}
+use Rattle.plan.specs.{Places.{level-start, level-size}, Peels.{stretch, linked-after, Level, Turning, Peel-ready, Peel-done, stretch-at}}
 use Rattle.plan.proofs.{TurnLoops.{length-released, length-places-released}, TurnLaws.{getD-released-level, fits-released, marked-released}}
 use Rattle.plan.proofs.{TurnLaws.{marked-released-place}, LevelLaws.{stretch-stands, place-apart, place-small}, PlanLevel.{a-below, b-below, certified}}
 use Rattle.plan.proofs.{PlanLevel.{number-is, level-is, is-level}, PlanStart.{begin-ready, counted-stretch, turning-ready}, PlanEnd.{plan-unmoved}}
@@ -45,8 +45,8 @@ module _ {a b : ℕ} {ts ns os ps cs : List ℕ} (r : Ready false (length os) a 
         known v (inr (inr e)) = absurd e
 
         above : (v : ℕ) → In v near → getD ns v 0 ≡ k → 1 ≤ getD cs v 0
-        above v (inl e) q = begin-ready r k ek .above-zero v (inl (sym e)) refl q
-        above v (inr (inl e)) q = begin-ready r k ek .above-zero v (inr (sym e)) refl q
+        above v (inl e) q = begin-ready r k ek 0 .above-zero v (inl (sym e)) refl q
+        above v (inr (inl e)) q = begin-ready r k ek 0 .above-zero v (inr (sym e)) refl q
         above v (inr (inr e)) q = absurd e
 
     abbrev cs1 : List ℕ
@@ -86,7 +86,7 @@ module _ {a b : ℕ} {ts ns os ps cs : List ℕ} (r : Ready false (length os) a 
           go (inr w) =
               let s = lv .stands (w .0) (omega (arith, w .1, lv .numbers-length)) (w .2) in (omega (arith, s .0, w .3), omega (arith, s .1, w .3))
 
-      turning : Turning (linked-after false a b n ts) m os ps start size [] cs1 fs1
+      turning : Turning (linked-after false a b n ts) m os ps (stretch-at start size) [] cs1 fs1
       turning = record {
         rest = stretch os start size;
         takes = none;
@@ -105,14 +105,14 @@ module _ {a b : ℕ} {ts ns os ps cs : List ℕ} (r : Ready false (length os) a 
     fall-release = ends-releasable k (call .3)
 
     pub fall-peel : (cs1 fs1 : List ℕ) (room : ℕ) → cs1 ≡ released ns k near cs → fs1 ≡ places-released ns ps k m near cs (replicate row-bytes 0) → length os ≤ room
-        → Peel-ready w x y k m ts ns os ps cs1 fs1 room
+        → Peel-ready (call-of w x y k m) ts ns os ps cs1 fs1 room
     unfolding byte-at
     fall-peel cs1 fs1 room ec ef l =
         rw (ec, ef, call .0, call .1, call .2)
         (turning-ready r k (call .3) m _ _ (turning k (call .3) m (call .4 ∙ ap (λ (z : ℕ). z - 1) (sym (call .3))) (replicate row-bytes 0)
         (length-replicate {A = ℕ} row-bytes 0) (λ q lq. marked-replicate row-bytes 0 q (omega arith))) room l)
 
-    pub fall-unmoved : (taken : ℕ) (cs2 list1 : List ℕ) → Peel-done w x y k m ts ns os taken cs2 list1 → length list1 ≡ max-radios → taken ≡ 0
-        → Planned false a b g os 0 0 taken list1
+    pub fall-unmoved : (taken : ℕ) (cs2 list1 : List ℕ) → Peel-done (call-of w x y k m) ts ns os taken cs2 list1 → length list1 ≡ max-radios → taken ≡ 0
+        → Planned false a b g os (plan-of 0 0 taken) list1
     fall-unmoved taken cs2 list1 done room z =
         plan-unmoved r w x y k m taken cs2 list1 (call .0) (call .1) (call .2) (call .3 ∙ level-is r) (call .4 ∙ ap (bound false) (level-is r)) done room z refl

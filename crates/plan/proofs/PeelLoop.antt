@@ -7,9 +7,10 @@ use Rattle.mesh.specs.{Limits.{max-radios, row-bytes}, Tables.{digit, marked, p
 use Rattle.rows.{specs.Rows.{neighbours-of, row-listed}, proofs.RowWords.{row-listed-whole}, specs.Sets.{in-set, take-out}, proofs.SetLaws.{length-take-out}}
 use Rattle.rows.{proofs.SetLaws.{in-take-out}}
 use Rattle.plan.specs.{Turns.{released, places-released, near-left, Releasable, Row-ready}, Places.{level-start, level-size}, Peels.{linked-after}}
-use Rattle.plan.specs.{Peels.{Turning, Left-set, Peel-ready, Peel-done}}
+use Rattle.plan.specs.{Peels.{Turning, Left-set, Peel-ready, Peel-done, stretch-at}}
 use Rattle.plan.proofs.{TurnLoops.{length-released}, LevelLaws.{first-marked-least}, PeelTurns.{turns-end, taken-below, taken-room}}
 use Rattle.plan.proofs.{PeelTurns.{left-releasable, left-turns}}
+use Rattle.plan.specs.Turns.{call-of}
 
 pub record Peel-from (up : Bool) (a b k m : ℕ) (links numbers order places cs0 fs0 list0 cs fs list : List ℕ) (taken p : ℕ) : Type 0 where
   pub long-counters : length cs ≡ length cs0
@@ -17,7 +18,8 @@ pub record Peel-from (up : Bool) (a b k m : ℕ) (links numbers order places cs0
   pub long-list : length list ≡ length list0
   pub room : taken ≤ level-size numbers k
   pub next : p ≡ head-or max-radios (neighbours-of fs 0)
-  pub turning : Turning (linked-after up a b (length order) links) m order places (level-start numbers k) (level-size numbers k) (take taken list) cs fs
+  pub turning : Turning (linked-after up a b (length order) links) m order places (stretch-at (level-start numbers k) (level-size numbers k))
+      (take taken list) cs fs
 
 -- a set of what is not taken
 abbrev pub Masked-from : (up : Bool) → (a b k m : ℕ) → (links numbers order places cs0 fs0 list0 left cs fs list : List ℕ) → (taken p : ℕ) → Type 0
@@ -65,7 +67,7 @@ left-set-more {taken} {left} v l h = record {
             out (inr (inr q)) = q
 
 module _ {up : Bool} {a b k m : ℕ} {links ns os ps cs0 fs0 list0 : List ℕ}
-    (ready : Peel-ready up a b k m links ns os ps cs0 fs0 (length list0)) where
+    (ready : Peel-ready (call-of up a b k m) links ns os ps cs0 fs0 (length list0)) where
   peel-none : (p : ℕ) → p ≡ head-or max-radios (row-listed fs0 0) → Peel-from up a b k m links ns os ps cs0 fs0 list0 cs0 fs0 list0 0 p
   peel-none p e = record {
     long-counters = refl;
@@ -118,12 +120,13 @@ module _ {up : Bool} {a b k m : ℕ} {links ns os ps cs0 fs0 list0 : List ℕ}
 
       -- one radio more, with what its turn released
       peel-turn : (near cs1 fs1 : List ℕ) (p1 : ℕ)
-          → Turning (linked-after up a b (length os) links) m os ps (level-start ns k) (level-size ns k) (take taken list ++ (v ∷ [])) (released ns k near cs)
-          (places-released ns ps k m near cs (put-bit false 0 p fs))
+          → Turning (linked-after up a b (length os) links) m os ps (stretch-at (level-start ns k) (level-size ns k)) (take taken list ++ (v ∷ []))
+          (released ns k near cs) (places-released ns ps k m near cs (put-bit false 0 p fs))
           → cs1 ≡ released ns k near cs → fs1 ≡ places-released ns ps k m near cs (put-bit false 0 p fs) → p1 ≡ head-or max-radios (row-listed fs1 0)
           → Peel-from up a b k m links ns os ps cs0 fs0 list0 cs1 fs1 (set list taken v) (taken + 1) p1
       peel-turn near cs1 fs1 p1 more ec ef e =
-          let turned : Turning (linked-after up a b (length os) links) m os ps (level-start ns k) (level-size ns k) (take (taken + 1) (set list taken v)) cs1 fs1 =
+          let turned : Turning (linked-after up a b (length os) links) m os ps (stretch-at (level-start ns k) (level-size ns k))
+          (take (taken + 1) (set list taken v)) cs1 fs1 =
           rw (written, ec, ef) more in
           record {
             long-counters = ap length ec ∙ length-released ns k near cs ∙ h .long-counters;
@@ -152,5 +155,5 @@ module _ {up : Bool} {a b k m : ℕ} {links ns os ps cs0 fs0 list0 : List ℕ}
           rw (written, el) less-set,
         )
 
-    pub peel-end : max-radios ≤ p → Peel-done up a b k m links ns os taken cs list
+    pub peel-end : max-radios ≤ p → Peel-done (call-of up a b k m) links ns os taken cs list
     peel-end l = record { fits = h .room; peels = turns-end (ready .level) m (h .turning) (λ q lq. first-marked-least fs p (h .next) q (omega arith) lq) }

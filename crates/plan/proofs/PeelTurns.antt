@@ -10,7 +10,7 @@ use Rattle.lists.{proofs.Filter.{filter-ext, in-filter, filter-in, distinct-fil
 use Rattle.mesh.{specs.Limits.{max-radios, row-bytes}, specs.Tables.{marked, put-bit}, proofs.Tables.Laws.{length-put-bit}, specs.Peel.{Peels}}
 use Rattle.mesh.{proofs.Links.Peel.{takes-more, takes-permutation, takes-now-in, takes-taken-in, takes-now-filter}}
 use Rattle.rows.{specs.Rows.{neighbours-of}, proofs.RowListLaws.{distinct-neighbours-of, in-neighbours-of, member-neighbours-of}, specs.Sets.{in-set}}
-use Rattle.plan.specs.{Turns.{released, places-released, near-left, Releasable}, Peels.{stretch, above, Level, Turning, Left-set}}
+use Rattle.plan.specs.{Turns.{released, places-released, near-left, Releasable}, Peels.{stretch, above, Level, Turning, Left-set, stretch-at}}
 use Rattle.plan.proofs.{TurnLaws.{marked-put, getD-released-level, fits-released, marked-released, marked-released-place}, TurnLoops.{length-released}}
 use Rattle.plan.proofs.{TurnLoops.{length-places-released}, StretchLoops.{length-stretch}, LevelLaws.{first-marked-in, first-marked-least, place-level}}
 use Rattle.plan.proofs.{LevelLaws.{level-stretch, Stands, stretch-stands, place-apart, place-small, rising-stretch, distinct-stretch}}
@@ -25,7 +25,7 @@ module _ {f : ℕ → ℕ → Bool} {ns os ps : List ℕ} {k start size : ℕ} (
   abbrev place : ℕ → ℕ
   place v = getD ps v 0
 
-  module _ {taken cs fs : List ℕ} (h : Turning f m os ps start size taken cs fs) where
+  module _ {taken cs fs : List ℕ} (h : Turning f m os ps (stretch-at start size) taken cs fs) where
     abbrev left : List ℕ
     left = h .rest
 
@@ -248,7 +248,7 @@ module _ {f : ℕ → ℕ → Bool} {ns os ps : List ℕ} {k start size : ℕ} (
               go (inr (inl e)) = rw (← e) (omega (arith, taken-few, counter-less-or-same v taken-level))
               go (inr (inr e)) = absurd e
 
-          turned : Turning f m os ps start size (taken ++ (v ∷ [])) cs1 fs1
+          turned : Turning f m os ps (stretch-at start size) (taken ++ (v ∷ [])) cs1 fs1
           turned = record {
             rest = xs ++ ys;
             takes = takes-more f m high v xs ys (h .takes) cut fits-now before;
@@ -260,7 +260,7 @@ module _ {f : ℕ → ℕ → Bool} {ns os ps : List ℕ} {k start size : ℕ} (
             fits-long = length-places-released ns ps k m near cs fs0 ∙ long-fs0;
           }
 
-        pub turns-more : Turning f m os ps start size (taken ++ (v ∷ [])) cs1 fs1
+        pub turns-more : Turning f m os ps (stretch-at start size) (taken ++ (v ∷ [])) cs1 fs1
         turns-more = let r = split-in v left taken-left in turned (r .0) (r .1) (r .2)
 
       -- the neighbours of v after the call, as a row lists them
@@ -326,5 +326,6 @@ module _ {f : ℕ → ℕ → Bool} {ns os ps : List ℕ} {k start size : ℕ} (
                   in-member w near-set (near-in w (member-in w (neighbours-of us v) (row-member w at ∙ e)) (is .has w (below-radios w at) ∙ ap not out)) ∙ sym e
               go (inr e) = not-member w near-set (λ t. never (f v w) (row-linked w (in-near w t .0)) e) ∙ sym e
 
-          pub left-turns : Turning f m os ps start size (taken ++ (v ∷ [])) (released ns k near-set cs) (places-released ns ps k m near-set cs (put-bit false 0 p fs))
+          pub left-turns : Turning f m os ps (stretch-at start size) (taken ++ (v ∷ [])) (released ns k near-set cs)
+              (places-released ns ps k m near-set cs (put-bit false 0 p fs))
           left-turns = turns-more near-set left-releasable left-member

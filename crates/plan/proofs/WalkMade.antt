@@ -3,10 +3,10 @@ use Rattle.lists.specs.{Kit.{_≡_, sym, ap, _∙_, true, false, List, ℕ, _+_
 use Rattle.mesh.specs.{Limits.{max-radios, max-neighbours}, Tables.{marked, put-bit, put-link}}
 use Rattle.rows.specs.{Rows.{neighbours-of}, Sets.{put-in, take-out}}
 use Rattle.plan.specs.{Turns.{released, places-released, Releasable, Row-ready, Lists-neighbours}, Walks.{is-left, places-touched, radios-of, Known}}
-use Rattle.plan.specs.{Walks.{Walk-site, Walk-state}}
+use Rattle.plan.specs.{Walks.{Walk-site, Walk-state, rise-of, part-of, written}}
 use Rattle.plan.proofs.WalkTurns as turned
 
-module _ {a b k first size : ℕ} {ts ns tail ps : List ℕ} (s : Walk-site a b k first size ts ns tail ps) where
+module _ {a b k first size : ℕ} {ts ns tail ps : List ℕ} (s : Walk-site (rise-of a b k) (part-of first size) ts ns tail ps) where
   abbrev us : List ℕ
   us = put-link true a b ts
 
@@ -17,7 +17,8 @@ module _ {a b k first size : ℕ} {ts ns tail ps : List ℕ} (s : Walk-site a b 
       let few : r ≤ max-neighbours = omega (arith, e .counted, s .row-few v l) in
       (omega (arith, few), few, rw (e .listed) (turned.near-radios s v l h long))
 
-  module _ {front taken : ℕ} {hs cs ds ss list : List ℕ} (st : Walk-state a b k first size ts tail ps front taken hs cs ds ss list) where
+  module _ {front taken : ℕ} {hs cs ds ss list : List ℕ} (st : Walk-state (rise-of a b k) (part-of first size) ts tail ps front taken
+      (written hs cs ds ss list)) where
     -- ---- the front is looked at
 
     module _ (free : (front < size) × ((q : ℕ) → q < front → marked ds 0 (first + q) ≡ false)) where
@@ -39,7 +40,7 @@ module _ {a b k first size : ℕ} {ts ns tail ps : List ℕ} (s : Walk-site a b 
 
         pub look-holds : (c : ℕ) (ds1 ss1 : List ℕ) → c ≡ count (is-left k (first + front) ns ps hs) (take r near) → k < c
             → ds1 ≡ places-touched k (first + front) ns ps (take r near) ds0 → ss1 ≡ put-in (first + front) ss
-            → Walk-state a b k first size ts tail ps (front + 1) taken (set hs v 1) (set cs v c) ds1 ss1 list
+            → Walk-state (rise-of a b k) (part-of first size) ts tail ps (front + 1) taken (written (set hs v 1) (set cs v c) ds1 ss1 list)
         look-holds c ds1 ss1 e big e1 e2 =
             let counted : c ≡ count (is-left k (first + front) ns ps hs) (neighbours-of us v) =
             e ∙ ap (count (is-left k (first + front) ns ps hs)) (listed .listed) in
@@ -49,7 +50,7 @@ module _ {a b k first size : ℕ} {ts ns tail ps : List ℕ} (s : Walk-site a b 
 
         pub look-takes : (c : ℕ) (cs1 ds1 : List ℕ) → c ≡ count (is-left k (first + front) ns ps hs) (take r near) → c ≤ k
             → cs1 ≡ released hs 1 (take r near) cs → ds1 ≡ places-released hs ps 1 k (take r near) cs ds0
-            → Walk-state a b k first size ts tail ps (front + 1) (taken + 1) hs cs1 ds1 ss (set list taken v)
+            → Walk-state (rise-of a b k) (part-of first size) ts tail ps (front + 1) (taken + 1) (written hs cs1 ds1 ss (set list taken v))
         look-takes c cs1 ds1 e small e0 e1 =
             let counters : cs1 ≡ released hs 1 (neighbours-of us v) cs = e0 ∙ rw (listed .listed) in
             let due : ds1 ≡ places-released hs ps 1 k (neighbours-of us v) cs (put-bit false 0 (first + front) ds) = e1 ∙ rw (listed .listed, cleared) in
@@ -85,5 +86,5 @@ module _ {a b k first size : ℕ} {ts ns tail ps : List ℕ} (s : Walk-site a b 
 
       pub back-made : (cs1 ds1 ss1 : List ℕ) → cs1 ≡ released (set hs y 0) 1 (neighbours-of us y) cs
           → ds1 ≡ places-released (set hs y 0) ps 1 k (neighbours-of us y) cs (put-bit false 0 p ds) → ss1 ≡ take-out p ss
-          → Walk-state a b k first size ts tail ps front (taken + 1) (set hs y 0) cs1 ds1 ss1 (set list taken y)
+          → Walk-state (rise-of a b k) (part-of first size) ts tail ps front (taken + 1) (written (set hs y 0) cs1 ds1 ss1 (set list taken y))
       back-made cs1 ds1 ss1 e0 e1 e2 = rw (e0, e1, e2) (turned.back-done s st p (fallen .0) (fallen .1) y y-is)

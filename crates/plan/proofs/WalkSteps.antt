@@ -12,7 +12,7 @@ use Rattle.mesh.{specs.Limits.{max-radios, row-bytes}, specs.Tables.{byte-at, m
 use Rattle.rows.{specs.Rows.{neighbours-of}, proofs.RowListLaws.{in-neighbours-of}}
 use Rattle.walks.{specs.Walk.{Walking}, proofs.Front.{few-from-one}}
 use Rattle.plan.specs.{Turns.{Lists-neighbours}, Places.{stop-place, next-place, set-places, entries-at, Stands, Marked-places}, Walks.{is-left}}
-use Rattle.plan.specs.{Walks.{radios-of, joined, Walk-site, Walk-state, Walk-done}}
+use Rattle.plan.specs.{Walks.{radios-of, joined, Walk-site, Walk-state, Walk-done, rise-of, part-of, written}}
 use Rattle.plan.proofs.{EntryLists.{marked-none, marked-stand, marked-listed}, LevelLaws.{first-marked-least}, WalkReleased.{marked-small}}
 use Rattle.walks.proofs.Turns as turns
 use Rattle.plan.proofs.WalkTurns as turned
@@ -72,9 +72,9 @@ lowest-small (x ∷ xs) h = omega (arith, h x (inl refl))
 pub record Walk-from (a b k first size : ℕ) (ts tail ps hs cs ds ss list : List ℕ) (taken front p : ℕ) : Type 0 where
   pub some : 1 ≤ front
   pub next : p ≡ next-place first size front taken ds
-  pub state : Walk-state a b k first size ts tail ps front taken hs cs ds ss list
+  pub state : Walk-state (rise-of a b k) (part-of first size) ts tail ps front taken (written hs cs ds ss list)
 
-module _ {a b k first size : ℕ} {ts ns tail ps : List ℕ} (s : Walk-site a b k first size ts ns tail ps) where
+module _ {a b k first size : ℕ} {ts ns tail ps : List ℕ} (s : Walk-site (rise-of a b k) (part-of first size) ts ns tail ps) where
   abbrev f : ℕ → ℕ → Bool
   f = joined a b first ts tail
 
@@ -93,7 +93,8 @@ module _ {a b k first size : ℕ} {ts ns tail ps : List ℕ} (s : Walk-site a b 
   -- ---- before the first turn
 
   pub start-state : (list : List ℕ) → length list ≡ max-radios
-      → Walk-state a b k first size ts tail ps 0 0 (replicate max-radios 0) (replicate max-radios 0) (replicate row-bytes 0) (replicate 8 0) list
+      → Walk-state (rise-of a b k) (part-of first size) ts tail ps 0 0
+      (written (replicate max-radios 0) (replicate max-radios 0) (replicate row-bytes 0) (replicate 8 0) list)
   start-state list room = record {
     held-long = omega (arith, s .small, length-replicate {A = ℕ} max-radios 0);
     counters-long = omega (arith, s .small, length-replicate {A = ℕ} max-radios 0);
@@ -156,7 +157,8 @@ module _ {a b k first size : ℕ} {ts ns tail ps : List ℕ} (s : Walk-site a b 
           ∙ ap (λ (x : ℕ). count (is-left k x ns ps (replicate max-radios 0)) (neighbours-of us e)) (sym (add-zero first))
           ∙ left ∙ sym (ap (count (f e)) tail-cut ∙ count-append (f e) (drop 1 part) above)
 
-  module _ {front taken : ℕ} {hs cs ds ss list : List ℕ} (st : Walk-state a b k first size ts tail ps front taken hs cs ds ss list) where
+  module _ {front taken : ℕ} {hs cs ds ss list : List ℕ} (st : Walk-state (rise-of a b k) (part-of first size) ts tail ps front taken
+      (written hs cs ds ss list)) where
     pub front-fits : (front ≤ size) × (first + front ≤ max-radios)
     front-fits = (omega (arith, st .walking .room, turned.part-length s), omega (arith, st .walking .room, turned.part-length s, s .fits, s .small))
 
@@ -196,7 +198,7 @@ module _ {a b k first size : ℕ} {ts ns tail ps : List ℕ} (s : Walk-site a b 
             (ahead, inside, omega (arith, s .fits), omega (arith, st .passed, st .room, s .fits, s .small))
 
         pub step-pass : (list1 : List ℕ) → list1 ≡ paste list taken (drop front tail) (until - front)
-            → Walk-state a b k first size ts tail ps until (taken + (until - front)) hs cs ds ss list1
+            → Walk-state (rise-of a b k) (part-of first size) ts tail ps until (taken + (until - front)) (written hs cs ds ss list1)
         step-pass list1 made =
             turned.pass-done s st until (until - front) (omega (arith, pass-place .0)) (pass-place .1) (omega (arith, step-some))
             (undue until (omega (arith, l))) list1 made
@@ -237,7 +239,7 @@ module _ {a b k first size : ℕ} {ts ns tail ps : List ℕ} (s : Walk-site a b 
       listed-held = ap (drop taken) listed ∙ drop-at (take taken list) held taken taken-length
 
       done : (taken ≡ front) ⊎ (front ≡ size) → Peels f k above part (take taken list ++ drop front part) held
-          → Walk-done a b k first size ts tail front taken list1
+          → Walk-done (rise-of a b k) (part-of first size) ts tail front taken list1
       done way peels = record {
         room = omega (arith, room, ap length made, length-sets list taken held);
         passed = passed;
@@ -246,7 +248,7 @@ module _ {a b k first size : ℕ} {ts ns tail ps : List ℕ} (s : Walk-site a b 
         peels = rw (listed-taken, listed-held) peels;
       }
 
-      none-left : front ≤ taken → Walk-done a b k first size ts tail front taken list1
+      none-left : front ≤ taken → Walk-done (rise-of a b k) (part-of first size) ts tail front taken list1
       none-left l =
           let same : taken ≡ front = omega (arith, passed) in
           done (inl same)
@@ -257,7 +259,7 @@ module _ {a b k first size : ℕ} {ts ns tail ps : List ℕ} (s : Walk-site a b 
           none [] q = refl
           none (z ∷ zs) q = absurd (omega arith)
 
-      all-walked : ((q : ℕ) → q < front → due q ≡ false) × (size ≤ front) → Walk-done a b k first size ts tail front taken list1
+      all-walked : ((q : ℕ) → q < front → due q ≡ false) × (size ≤ front) → Walk-done (rise-of a b k) (part-of first size) ts tail front taken list1
       all-walked h =
           let same : front ≡ size = omega (arith, h .1, fits .0) in
           done (inr same)
@@ -268,13 +270,14 @@ module _ {a b k first size : ℕ} {ts ns tail ps : List ℕ} (s : Walk-site a b 
           gone = drop-of-length-le part {i = front} (omega (arith, h .1, turned.part-length s))
 
     pub walk-over : (front ≤ taken) ⊎ (((q : ℕ) → q < front → due q ≡ false) × (size ≤ front)) → (list1 : List ℕ)
-        → list1 ≡ sets list taken (entries-at first tail (set-places ss)) → Walk-done a b k first size ts tail front taken list1
+        → list1 ≡ sets list taken (entries-at first tail (set-places ss)) → Walk-done (rise-of a b k) (part-of first size) ts tail front taken list1
     walk-over (inl l) list1 made = none-left list1 (made ∙ ap (sets list taken) held-entries) l
     walk-over (inr h) list1 made = all-walked list1 (made ∙ ap (sets list taken) held-entries) h
 
-  pub walk-end : {front taken : ℕ} {hs cs ds ss list : List ℕ} → Walk-state a b k first size ts tail ps front taken hs cs ds ss list → 1 ≤ front
+  pub walk-end : {front taken : ℕ} {hs cs ds ss list : List ℕ}
+      → Walk-state (rise-of a b k) (part-of first size) ts tail ps front taken (written hs cs ds ss list) → 1 ≤ front
       → (p : ℕ) → stop-place ≤ p → p ≡ next-place first size front taken ds → (list1 : List ℕ)
-      → list1 ≡ sets list taken (entries-at first tail (set-places ss)) → Walk-done a b k first size ts tail front taken list1
+      → list1 ≡ sets list taken (entries-at first tail (set-places ss)) → Walk-done (rise-of a b k) (part-of first size) ts tail front taken list1
   walk-end {front} {taken} {hs} {cs} {ds} {ss} {list} st some p stop next list1 made =
       walk-over front taken list (st .walking) (st .room) (st .passed) some (st .stays)
       (go (stop-at first size front taken ds p next stop (lowest-small (neighbours-of ds 0) (λ v m. in-neighbours-of ds 0 v m .0)))) list1 made
@@ -289,7 +292,8 @@ module _ {a b k first size : ℕ} {ts ns tail ps : List ℕ} (s : Walk-site a b 
           )
 
 -- as the code names its values
-pub done-as : {a b k first size front taken at many : ℕ} {ts tail list : List ℕ} → at ≡ front → many ≡ taken → Walk-done a b k first size ts tail front taken
+pub done-as : {a b k first size front taken at many : ℕ} {ts tail list : List ℕ} → at ≡ front → many ≡ taken
+    → Walk-done (rise-of a b k) (part-of first size) ts tail front taken
     list
-    → Walk-done a b k first size ts tail at many list
+    → Walk-done (rise-of a b k) (part-of first size) ts tail at many list
 done-as e f d = rw (e, f) d

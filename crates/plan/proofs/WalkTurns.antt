@@ -15,7 +15,7 @@ use Rattle.mesh.{proofs.Links.Peel.{takes-permutation}}
 use Rattle.rows.{specs.Rows.{neighbours-of}, proofs.RowListLaws.{in-neighbours-of, member-neighbours-of, distinct-neighbours-of}, specs.Sets.{put-in, take-out}}
 use Rattle.walks.{specs.Walk.{Part, Walking}, proofs.Front.{few-front-head, few-from-one}}
 use Rattle.plan.specs.{Turns.{released, places-released, Releasable, Row-ready, Near-ready}, Walks.{is-left, is-later, places-touched, radios-of, joined}}
-use Rattle.plan.specs.{Walks.{Known, Walk-site, Walk-state}}
+use Rattle.plan.specs.{Walks.{Known, Walk-site, Walk-state, rise-of, part-of, written}}
 use Rattle.plan.proofs.{TurnLoops.{length-released, length-places-released}, TurnLaws.{marked-put, marked-released}, LevelLaws.{first-marked-in}}
 use Rattle.plan.proofs.{LevelLaws.{first-marked-least}, WalkLoops.{length-touched, touched-only}, WalkReleased.{marked-small, released-is}}
 use Rattle.plan.proofs.{WalkHeld.{held-is}}
@@ -58,7 +58,7 @@ module _ (k p : ℕ) (ns ps hs : List ℕ) (w : ℕ) where
   unfolding is-later
   later-of e l = rw (eq-eqb (getD ns w 0) k e, lt-ltb p (getD ps w 0) l)
 
-module _ {a b k first size : ℕ} {ts ns tail ps : List ℕ} (s : Walk-site a b k first size ts ns tail ps) where
+module _ {a b k first size : ℕ} {ts ns tail ps : List ℕ} (s : Walk-site (rise-of a b k) (part-of first size) ts ns tail ps) where
   abbrev n : ℕ
   n = radios-of first tail
 
@@ -164,7 +164,8 @@ module _ {a b k first size : ℕ} {ts ns tail ps : List ℕ} (s : Walk-site a b 
     pub near-ready : (nears : ℕ) → nears ≡ max-neighbours → Near-ready true a b x ts nears
     near-ready nears en = record { ready = row-ready; near-long = omega (arith, s .row-few x lx) }
 
-  module _ {front taken : ℕ} {hs cs ds ss list : List ℕ} (st : Walk-state a b k first size ts tail ps front taken hs cs ds ss list) where
+  module _ {front taken : ℕ} {hs cs ds ss list : List ℕ} (st : Walk-state (rise-of a b k) (part-of first size) ts tail ps front taken
+      (written hs cs ds ss list)) where
     abbrev held : List ℕ
     held = st .walking .held
 
@@ -354,7 +355,8 @@ module _ {a b k first size : ℕ} {ts ns tail ps : List ℕ} (s : Walk-site a b 
             go (inl u) = st .low q (old (bool-cases (eqb (first + front) q)) u)
             go (inr (w, m, u, e)) = omega (arith, later-cases k (first + front) ns ps hs w u .1, e)
 
-        pub look-held : k < c → Walk-state a b k first size ts tail ps (front + 1) taken (set hs v 1) (set cs v c) touched (put-in (first + front) ss) list
+        pub look-held : k < c → Walk-state (rise-of a b k) (part-of first size) ts tail ps (front + 1) taken
+            (written (set hs v 1) (set cs v c) touched (put-in (first + front) ss) list)
         look-held big = record {
           held-long = omega (arith, st .held-long, length-set hs v 1);
           counters-long = omega (arith, st .counters-long, length-set cs v c);
@@ -392,7 +394,8 @@ module _ {a b k first size : ℕ} {ts ns tail ps : List ℕ} (s : Walk-site a b 
       look-releasable = releasable hs candidate-held (st .held-long) v front-below v-left
 
       pub look-taken : count (is-left k (first + front) ns ps hs) (neighbours-of us v) ≤ k
-          → Walk-state a b k first size ts tail ps (front + 1) (taken + 1) hs (released hs 1 (neighbours-of us v) cs) freed ss (set list taken v)
+          → Walk-state (rise-of a b k) (part-of first size) ts tail ps (front + 1) (taken + 1)
+          (written hs (released hs 1 (neighbours-of us v) cs) freed ss (set list taken v))
       look-taken fit = record {
         held-long = st .held-long;
         counters-long = omega (arith, st .counters-long, length-released hs 1 (neighbours-of us v) cs);
@@ -500,8 +503,8 @@ module _ {a b k first size : ℕ} {ts ns tail ps : List ℕ} (s : Walk-site a b 
         abbrev freed-back : List ℕ
         freed-back = places-released hs1 ps 1 k (neighbours-of us v) cs (put-bit false 0 p ds)
 
-        pub back-done : Walk-state a b k first size ts tail ps front (taken + 1) hs1 (released hs1 1 (neighbours-of us v) cs) freed-back (take-out p ss)
-            (set list taken v)
+        pub back-done : Walk-state (rise-of a b k) (part-of first size) ts tail ps front (taken + 1)
+            (written hs1 (released hs1 1 (neighbours-of us v) cs) freed-back (take-out p ss) (set list taken v))
         back-done = record {
           held-long = long1;
           counters-long = omega (arith, st .counters-long, length-released hs1 1 (neighbours-of us v) cs);
@@ -546,8 +549,8 @@ module _ {a b k first size : ℕ} {ts ns tail ps : List ℕ} (s : Walk-site a b 
         pub pass-room : taken + m ≤ length list
         pass-room = omega (arith, st .passed, st .room, ends, s .fits, s .small)
 
-        pub pass-done : (list1 : List ℕ) → list1 ≡ paste list taken (drop front tail) m → Walk-state a b k first size ts tail ps until (taken + m) hs cs ds ss
-            list1
+        pub pass-done : (list1 : List ℕ) → list1 ≡ paste list taken (drop front tail) m
+            → Walk-state (rise-of a b k) (part-of first size) ts tail ps until (taken + m) (written hs cs ds ss list1)
         pass-done list1 e = record {
           held-long = st .held-long;
           counters-long = st .counters-long;

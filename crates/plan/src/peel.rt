@@ -53,7 +53,7 @@ fn begin(
     counters: &mut [u8; Site::RADIOS as usize],
     fits: &mut [u8; Site::ROW_BYTES],
 )
-    requires { ⌜ Begin-ready (call .up) (call .a) (call .b) (call .level) start size (now numbers) (now order) (now counters) ⌝ }
+    requires { ⌜ Begin-ready call start size (now numbers) (now order) (now counters) ⌝ }
     ensures counted { λ _. ⌜ now (counters .exit)
         ≡ ends-counted (call .up) (call .a) (call .b) (call .level) (now (numbers .entry)) (now (counters .entry)) ⌝ }
     ensures marked { λ _. ⌜ now (fits .exit) ≡ places-fitting (now (order .entry))
@@ -79,9 +79,9 @@ pub(crate) fn peel(
     fits: &mut [u8; Site::ROW_BYTES],
     list: &mut [u16; Site::RADIOS as usize],
 ) -> usize
-    requires { ⌜ Peel-ready (call .up) (call .a) (call .b) (call .level) (call .most) (now links) (now numbers) (now order)
+    requires { ⌜ Peel-ready call (now links) (now numbers) (now order)
         (now places) (now counters) (now fits) (length (now list)) ⌝ }
-    ensures done { λ r. ⌜ Peel-done (call .up) (call .a) (call .b) (call .level) (call .most) (now (links .entry)) (now (numbers .entry))
+    ensures done { λ r. ⌜ Peel-done call (now (links .entry)) (now (numbers .entry))
         (now (order .entry)) r (now (counters .exit)) (now (list .exit)) ⌝ }
     ensures long { λ r. ⌜ length (now (list .exit)) ≡ length (now (list .entry)) ⌝ }
 {
@@ -123,8 +123,8 @@ pub(crate) fn plan_peel(
 ) -> Plan
     requires ready { ⌜ Ready true (length (now order)) a b (tables (now links) (now numbers) (now order)) (now places) (now highs) ⌝ }
     requires room { ⌜ length (now stretch) ≡ max-radios ⌝ }
-    ensures { λ r. ⌜ Planned true a b (graph-in (length (now (order .entry))) (now (links .entry))) (now (order .entry)) (r .start)
-        (r .size) (r .taken) (now (stretch .exit)) ⌝ }
+    ensures { λ r. ⌜ Planned true a b (graph-in (length (now (order .entry))) (now (links .entry))) (now (order .entry)) r
+        (now (stretch .exit)) ⌝ }
 {
     let call = call_at(true, a, b, numbers);
     let at = stretch::stretch_of(numbers, call.level);

@@ -9,7 +9,7 @@ ghost use Rattle.mesh.specs.Tables.{marked};
 ghost use Rattle.rows.specs.Rows.{neighbours-of};
 ghost use Rattle.plan.specs.Places.{next-place};
 ghost use Rattle.plan.specs.Walks.{is-left, place-touched, places-touched, joined, Known};
-ghost use Rattle.plan.specs.Walks.{Walk-site, Walk-state, Walk-done};
+ghost use Rattle.plan.specs.Walks.{part-of, Walk-site, written, Walk-state, Walk-done};
 use super::places;
 use super::places::STOP;
 use super::planned::Plan;
@@ -141,12 +141,13 @@ fn look(
     stay: &mut [u64; 8],
     list: &mut [u16; Site::RADIOS as usize],
 ) -> Reached
-    requires { ⌜ Walk-site (rise .a) (rise .b) (rise .most) (part .first) (part .size) (now links) (now numbers) (now tail) (now places) ×
-        Walk-state (rise .a) (rise .b) (rise .most) (part .first) (part .size) (now links) (now tail) (now places) (at .front) (at .taken)
-        (now held) (now counters) (now due) (now stay) (now list) ×
+    requires { ⌜ Walk-site rise part (now links) (now numbers) (now tail) (now places) ×
+        Walk-state rise part (now links) (now tail) (now places) (at .front) (at .taken)
+        (written (now held) (now counters) (now due) (now stay) (now list)) ×
         ((at .front < part .size) × ((q : ℕ) → q < at .front → marked (now due) 0 (part .first + q) ≡ false)) ⌝ }
-    ensures state { λ r. ⌜ Walk-state (rise .a) (rise .b) (rise .most) (part .first) (part .size) (now (links .entry)) (now (tail .entry))
-        (now (places .entry)) (r .front) (r .taken) (now (held .exit)) (now (counters .exit)) (now (due .exit)) (now (stay .exit)) (now (list .exit)) ⌝ }
+    ensures state { λ r. ⌜ Walk-state rise part (now (links .entry)) (now (tail .entry))
+        (now (places .entry)) (r .front) (r .taken)
+        (written (now (held .exit)) (now (counters .exit)) (now (due .exit)) (now (stay .exit)) (now (list .exit))) ⌝ }
     ensures further { λ r. ⌜ (r .front ≡ at .front + 1) × (at .taken ≤ r .taken) ⌝ }
 {
     let mut near = [0u16; Site::NEIGHBOURS as usize];
@@ -191,12 +192,13 @@ fn back(
     stay: &mut [u64; 8],
     list: &mut [u16; Site::RADIOS as usize],
 ) -> Reached
-    requires { ⌜ Walk-site (rise .a) (rise .b) (rise .most) (part .first) (part .size) (now links) (now numbers) (now tail) (now places) ×
-        Walk-state (rise .a) (rise .b) (rise .most) (part .first) (part .size) (now links) (now tail) (now places) (at .front) (at .taken)
-        (now held) (now counters) (now due) (now stay) (now list) ×
+    requires { ⌜ Walk-site rise part (now links) (now numbers) (now tail) (now places) ×
+        Walk-state rise part (now links) (now tail) (now places) (at .front) (at .taken)
+        (written (now held) (now counters) (now due) (now stay) (now list)) ×
         ((p ≡ head-or max-radios (neighbours-of (now due) 0)) × (p < part .first + at .front)) ⌝ }
-    ensures state { λ r. ⌜ Walk-state (rise .a) (rise .b) (rise .most) (part .first) (part .size) (now (links .entry)) (now (tail .entry))
-        (now (places .entry)) (r .front) (r .taken) (now (held .exit)) (now (counters .exit)) (now (due .exit)) (now (stay .exit)) (now (list .exit)) ⌝ }
+    ensures state { λ r. ⌜ Walk-state rise part (now (links .entry)) (now (tail .entry))
+        (now (places .entry)) (r .front) (r .taken)
+        (written (now (held .exit)) (now (counters .exit)) (now (due .exit)) (now (stay .exit)) (now (list .exit))) ⌝ }
     ensures further { λ r. ⌜ (r .front ≡ at .front) × (r .taken ≡ at .taken + 1) ⌝ }
 {
     let v = tail[p - part.first];
@@ -243,12 +245,13 @@ fn step(
     stay: &mut [u64; 8],
     list: &mut [u16; Site::RADIOS as usize],
 ) -> Reached
-    requires { ⌜ Walk-site (rise .a) (rise .b) (rise .most) (part .first) (part .size) (now links) (now numbers) (now tail) (now places) ×
-        Walk-state (rise .a) (rise .b) (rise .most) (part .first) (part .size) (now links) (now tail) (now places) (at .front) (at .taken)
-        (now held) (now counters) (now due) (now stay) (now list) ×
+    requires { ⌜ Walk-site rise part (now links) (now numbers) (now tail) (now places) ×
+        Walk-state rise part (now links) (now tail) (now places) (at .front) (at .taken)
+        (written (now held) (now counters) (now due) (now stay) (now list)) ×
         ((p ≡ next-place (part .first) (part .size) (at .front) (at .taken) (now due)) × (p ≤ max-radios)) ⌝ }
-    ensures state { λ r. ⌜ Walk-state (rise .a) (rise .b) (rise .most) (part .first) (part .size) (now (links .entry)) (now (tail .entry))
-        (now (places .entry)) (r .front) (r .taken) (now (held .exit)) (now (counters .exit)) (now (due .exit)) (now (stay .exit)) (now (list .exit)) ⌝ }
+    ensures state { λ r. ⌜ Walk-state rise part (now (links .entry)) (now (tail .entry))
+        (now (places .entry)) (r .front) (r .taken)
+        (written (now (held .exit)) (now (counters .exit)) (now (due .exit)) (now (stay .exit)) (now (list .exit))) ⌝ }
     ensures further { λ r. ⌜ (1 ≤ r .front) × (at .front + at .taken < r .front + r .taken) ⌝ }
 {
     if p < part.first + at.front {
@@ -314,10 +317,10 @@ pub(crate) fn walk(
     places: &[u16],
     list: &mut [u16; Site::RADIOS as usize],
 ) -> Plan
-    requires site { ⌜ Walk-site (rise .a) (rise .b) (rise .most) (part .first) (part .size) (now links) (now numbers) (now tail) (now places) ⌝ }
+    requires site { ⌜ Walk-site rise part (now links) (now numbers) (now tail) (now places) ⌝ }
     requires room { ⌜ length (now list) ≡ max-radios ⌝ }
     ensures start { λ r. ⌜ r .start ≡ part .first ⌝ }
-    ensures walked { λ r. ⌜ Walk-done (rise .a) (rise .b) (rise .most) (part .first) (part .size) (now (links .entry)) (now (tail .entry)) (r .size)
+    ensures walked { λ r. ⌜ Walk-done rise part (now (links .entry)) (now (tail .entry)) (r .size)
         (r .taken) (now (list .exit)) ⌝ }
 {
     let mut held = [0u8; Site::RADIOS as usize];
@@ -371,7 +374,7 @@ pub(crate) fn settled(
     tail: &[u16],
     places: &[u16],
 ) -> bool
-    requires { ⌜ ((size : ℕ) × Walk-site (rise .a) (rise .b) (rise .most) first size (now links) (now numbers) (now tail) (now places)) ⌝ }
+    requires { ⌜ ((size : ℕ) × Walk-site rise (part-of first size) (now links) (now numbers) (now tail) (now places)) ⌝ }
     ensures { λ r. ⌜ r ≡ leb (count (joined (rise .a) (rise .b) first (now (links .entry)) (now (tail .entry)) (getD (now (tail .entry)) 0 0))
         (drop 1 (now (tail .entry)))) (rise .most) ⌝ }
 {
