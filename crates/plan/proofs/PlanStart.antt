@@ -5,8 +5,8 @@ use Rattle.lists.{specs.Kit.{arith, ltb, leb, eqb, length, getD, ltb-true, eqb-
 use Rattle.lists.{specs.Facts.{Distinct}, proofs.Tests.{bool-cases, and-left, and-both}, proofs.Member.{in-cases, member-in, in-member}}
 use Rattle.lists.{proofs.Count.{count-append, count-pos, count-none, count-ext}, proofs.Filter.{in-filter}, proofs.Range.{in-range, range-in, once-in}}
 use Rattle.lists.{proofs.Range.{once-distinct}, proofs.Distinct.{distinct-right, count-plus-one}}
-use Rattle.mesh.{specs.Limits.{max-radios, max-neighbours, row-bytes}, specs.Graph.{Graph, radios, linked, neighbours-in, relinked}, specs.Cores.{number}}
-use Rattle.mesh.{specs.Levels.{lower-level}, specs.Tables.{tables, marked, graph-in}, proofs.GraphLaws.{ends, ends-of, of-ends, linked-sym, neighbours-in-list}}
+use Rattle.mesh.{specs.Limits.{max-radios, max-neighbours}, specs.Graph.{Graph, radios, linked, neighbours-in, relinked}, specs.Cores.{number}}
+use Rattle.mesh.{specs.Levels.{lower-level}, specs.Tables.{tables, graph-in}, proofs.GraphLaws.{ends, ends-of, of-ends, linked-sym, neighbours-in-list}}
 use Rattle.mesh.{proofs.GraphLaws.{neighbours-in-subset, degree-in}, proofs.Links.LevelCut.{lows, mids, highs, level-cut}, specs.Peel.{none}}
 use Rattle.mesh.{proofs.Tables.Relinked.{linked-relinked}}
 use Rattle.plan.specs.{Plans.{Ready}, Turns.{end-counted, ends-counted, places-fitting, Begin-ready}, Places.{level-start, level-size}, Peels.{stretch}}
@@ -15,6 +15,7 @@ use Rattle.plan.proofs.{TurnLoops.{length-end-counted, length-places-fi
 use Rattle.plan.proofs.{LevelLaws.{stretch-stands}, PlanLevel.{a-below, b-below, is-valid, certified, is-once, number-is, order-radios, level-is}}
 use Rattle.plan.proofs.{PlanLevel.{stretch-is, above-is, stretch-fits, stretch-number, is-level, row-is}}
 use Rattle.plan.specs.Turns.{call-of}
+use Rattle.rows.specs.Sets.{in-set}
 
 -- ---- laws of lists
 
@@ -249,11 +250,11 @@ module _ {u : Bool} {a b : ℕ} {ts ns os ps cs : List ℕ} (r : Ready u (length
     turning = turning;
   }
 
-  module _ (m : ℕ) (fs0 : List ℕ) (long : length fs0 ≡ row-bytes) (zero-row : (q : ℕ) → q < max-radios → marked fs0 0 q ≡ false) where
+  module _ (m : ℕ) (fs0 : List ℕ) (long : length fs0 ≡ 8) (zero-row : (q : ℕ) → q < max-radios → in-set fs0 q ≡ false) where
     abbrev fs1 : List ℕ
     fs1 = places-fitting os cs1 m (range start size) fs0
 
-    marks : (q : ℕ) → q < max-radios → marked fs1 0 q ≡ (member q (range start size) && leb (getD cs1 (getD os q 0) 0) m)
+    marks : (q : ℕ) → q < max-radios → in-set fs1 q ≡ (member q (range start size) && leb (getD cs1 (getD os q 0) 0) m)
     marks q l =
         marked-fitting os cs1 m (range start size) fs0 long (λ p i. omega (arith, range-in start size p i, stretch-fits r k, r .small)) q l
         ∙ ap (λ (t : Bool). t || (member q (range start size) && leb (getD cs1 (getD os q 0) 0) m)) (zero-row q l)
@@ -271,7 +272,7 @@ module _ {u : Bool} {a b : ℕ} {ts ns os ps cs : List ℕ} (r : Ready u (length
       fits-long = length-places-fitting os cs1 m (range start size) fs0 ∙ long;
     }
       where
-        fitting : (v : ℕ) → In v (stretch os start size) → marked fs1 0 (getD ps v 0) ≡ (member v (stretch os start size) && leb (getD cs1 v 0) m)
+        fitting : (v : ℕ) → In v (stretch os start size) → in-set fs1 (getD ps v 0) ≡ (member v (stretch os start size) && leb (getD cs1 v 0) m)
         fitting v i =
             let s = stretch-stands (is-level r k ek) v i in
             marks (getD ps v 0) (omega (arith, s .high, stretch-fits r k, r .small))

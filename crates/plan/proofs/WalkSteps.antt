@@ -6,32 +6,25 @@
 use Rattle.lists.{specs.Kit.{_≡_, refl, sym, ap, _∙_, _⊎_, inl, inr, Bool, true, false, List, [], _∷_, _++_, append-nil, ℕ, _+_, _-_, _≤_, _<_, min, arith}}
 use Rattle.lists.{specs.Kit.{add-zero, ltb, leb, eqb, length, getD, take, drop, replicate, length-replicate, length-append, drop-of-length-le}}
 use Rattle.lists.{specs.Kit.{take-append-drop, length-take-le, sets, sets-eq, length-sets, take-take, take-at, drop-at, drop-cons, paste, leb-true, leb-false}}
-use Rattle.lists.{specs.Kit.{ltb-true, ltb-false}, specs.Lists.{count, head-or, In}, proofs.Tests.{bool-cases, never}, proofs.Parts.{getD-zeros}}
+use Rattle.lists.{specs.Kit.{ltb-true, ltb-false}, specs.Lists.{count, head-or}, proofs.Tests.{bool-cases, never}, proofs.Parts.{getD-zeros}}
 use Rattle.lists.{proofs.Count.{count-append}}
-use Rattle.mesh.{specs.Limits.{max-radios, row-bytes}, specs.Tables.{byte-at, marked, put-link}, specs.Peel.{Peels}, proofs.Tables.Laws.{marked-replicate}}
-use Rattle.rows.{specs.Rows.{neighbours-of}, proofs.RowListLaws.{in-neighbours-of}}
+use Rattle.mesh.{specs.Limits.{max-radios}, specs.Tables.{put-link}, specs.Peel.{Peels}}
+use Rattle.rows.{specs.Rows.{neighbours-of}}
 use Rattle.walks.{specs.Walk.{Walking}, proofs.Front.{few-from-one}}
 use Rattle.plan.specs.{Turns.{Lists-neighbours}, Places.{stop-place, next-place, set-places, entries-at, Stands, Marked-places}, Walks.{is-left}}
 use Rattle.plan.specs.{Walks.{radios-of, joined, Walk-site, Walk-state, Walk-done, rise-of, part-of, written}}
-use Rattle.plan.proofs.{EntryLists.{marked-none, marked-stand, marked-listed}, LevelLaws.{first-marked-least}, WalkReleased.{marked-small}}
+use Rattle.plan.proofs.{EntryLists.{marked-none, marked-stand, marked-listed}, LevelLaws.{first-marked-least}}
+use Rattle.rows.proofs.SetLaws.{in-set-zeros}
+use Rattle.rows.specs.Sets.{in-set, common}
+use Rattle.plan.proofs.WordLaws.{lowest-small}
 use Rattle.walks.proofs.Turns as turns
 use Rattle.plan.proofs.WalkTurns as turned
-
--- a row of zeros marks nothing
-zero-marked : (q : ℕ) → marked (replicate row-bytes 0) 0 q ≡ false
-unfolding byte-at
-zero-marked q = go (bool-cases (marked (replicate row-bytes 0) 0 q))
-  where
-    go : (marked (replicate row-bytes 0) 0 q ≡ true) ⊎ (marked (replicate row-bytes 0) 0 q ≡ false) → marked (replicate row-bytes 0) 0 q ≡ false
-    go (inl t) =
-        let l = marked-small (replicate row-bytes 0) q (length-replicate {A = ℕ} row-bytes 0) t in marked-replicate row-bytes 0 q (omega arith)
-    go (inr t) = t
 
 -- ---- where a turn is
 
 module _ (first size front taken : ℕ) (ds : List ℕ) where
   abbrev lowest : ℕ
-  lowest = head-or max-radios (neighbours-of ds 0)
+  lowest = head-or max-radios (common ds ds)
 
   abbrev Turn : ℕ → Type 0
   Turn p = (taken < front) × (p ≡ lowest) × ((p < first + front) ⊎ ((first + front ≤ p) × (front < size)))
@@ -63,11 +56,6 @@ module _ (first size front taken : ℕ) (ds : List ℕ) where
       go (inr a) (inr b) (inl d) = inr (ltb-false lowest (first + front) b, leb-true size front d)
       go (inr a) (inr b) (inr d) = let is : p ≡ lowest = rw (a, b, d) at e in absurd (omega arith)
 
-lowest-small : (xs : List ℕ) → ((v : ℕ) → In v xs → v < max-radios) → head-or max-radios xs ≤ max-radios
-unfolding head-or
-lowest-small [] h = omega arith
-lowest-small (x ∷ xs) h = omega (arith, h x (inl refl))
-
 -- the loop's invariant: so far a state of the walk, and p is where its next turn is
 pub record Walk-from (a b k first size : ℕ) (ts tail ps hs cs ds ss list : List ℕ) (taken front p : ℕ) : Type 0 where
   pub some : 1 ≤ front
@@ -94,22 +82,22 @@ module _ {a b k first size : ℕ} {ts ns tail ps : List ℕ} (s : Walk-site (ris
 
   pub start-state : (list : List ℕ) → length list ≡ max-radios
       → Walk-state (rise-of a b k) (part-of first size) ts tail ps 0 0
-      (written (replicate max-radios 0) (replicate max-radios 0) (replicate row-bytes 0) (replicate 8 0) list)
+      (written (replicate max-radios 0) (replicate max-radios 0) (replicate 8 0) (replicate 8 0) list)
   start-state list room = record {
     held-long = omega (arith, s .small, length-replicate {A = ℕ} max-radios 0);
     counters-long = omega (arith, s .small, length-replicate {A = ℕ} max-radios 0);
-    due-long = length-replicate {A = ℕ} row-bytes 0;
+    due-long = length-replicate {A = ℕ} 8 0;
     room = room;
     passed = omega arith;
-    low = λ p t. absurd (never (marked (replicate row-bytes 0) 0 p) t (zero-marked p));
+    low = λ p t. absurd (never (in-set (replicate 8 0) p) t (in-set-zeros 8 p));
     stays = marked-none first size tail (λ v. eqb (getD (replicate max-radios 0) v 0) 1) (λ v. ap (λ (x : ℕ). eqb x 1) (getD-zeros max-radios v));
     walking = turns.turns-none f k above part pos (turned.is-part s) (λ v. eqb (getD (replicate max-radios 0) v 0) 1) (λ v. getD (replicate max-radios 0) v 0)
-        (λ q. marked (replicate row-bytes 0) 0 (first + q)) (λ v. ap (λ (x : ℕ). eqb x 1) (getD-zeros max-radios v))
+        (λ q. in-set (replicate 8 0) (first + q)) (λ v. ap (λ (x : ℕ). eqb x 1) (getD-zeros max-radios v))
         (λ v. omega (arith, getD-zeros max-radios v))
-        (λ p. zero-marked (first + p));
+        (λ p. in-set-zeros 8 (first + p));
   }
 
-  pub start-free : (0 < size) × ((q : ℕ) → q < 0 → marked (replicate row-bytes 0) 0 (first + q) ≡ false)
+  pub start-free : (0 < size) × ((q : ℕ) → q < 0 → in-set (replicate 8 0) (first + q) ≡ false)
   start-free = (s .some, λ q l. absurd (omega arith))
 
   -- ---- the quick path
@@ -167,13 +155,13 @@ module _ {a b k first size : ℕ} {ts ns tail ps : List ℕ} (s : Walk-site (ris
     walk-entries = (omega (arith, st .passed, front-fits .1), marked-stand first size tail (st .stays) (s .fits))
 
     module _ (p : ℕ) (turn : (p ≡ next-place first size front taken ds) × (p ≤ max-radios)) where
-      at : (taken < front) × (p ≡ head-or max-radios (neighbours-of ds 0)) × ((p < first + front) ⊎ ((first + front ≤ p) × (front < size)))
+      at : (taken < front) × (p ≡ head-or max-radios (common ds ds)) × ((p < first + front) ⊎ ((first + front ≤ p) × (front < size)))
       at = turn-at first size front taken ds p (turn .0) (turn .1)
 
       pub step-some : taken < front
       step-some = at .0
 
-      pub step-back : p < first + front → (p ≡ head-or max-radios (neighbours-of ds 0)) × (p < first + front)
+      pub step-back : p < first + front → (p ≡ head-or max-radios (common ds ds)) × (p < first + front)
       step-back l = (at .1, l)
 
       pub step-ahead : first + front ≤ p → front < size
@@ -183,10 +171,10 @@ module _ {a b k first size : ℕ} {ts ns tail ps : List ℕ} (s : Walk-site (ris
           go (inl h) = absurd (omega arith)
           go (inr h) = h .1
 
-      undue : (until : ℕ) → first + until ≤ p → (q : ℕ) → q < until → marked ds 0 (first + q) ≡ false
+      undue : (until : ℕ) → first + until ≤ p → (q : ℕ) → q < until → in-set ds (first + q) ≡ false
       undue until h q l = first-marked-least ds p (at .1) (first + q) (omega arith) (omega (arith, turn .1))
 
-      pub step-look : p ≡ first + front → (front < size) × ((q : ℕ) → q < front → marked ds 0 (first + q) ≡ false)
+      pub step-look : p ≡ first + front → (front < size) × ((q : ℕ) → q < front → in-set ds (first + q) ≡ false)
       step-look e = (step-ahead (omega arith), undue front (omega arith))
 
       module _ (until : ℕ) (u : until ≡ min (p - first) size) (l : first + front ≤ p) (ne : p ≡ first + front → ⊥) where
@@ -280,14 +268,14 @@ module _ {a b k first size : ℕ} {ts ns tail ps : List ℕ} (s : Walk-site (ris
       → list1 ≡ sets list taken (entries-at first tail (set-places ss)) → Walk-done (rise-of a b k) (part-of first size) ts tail front taken list1
   walk-end {front} {taken} {hs} {cs} {ds} {ss} {list} st some p stop next list1 made =
       walk-over front taken list (st .walking) (st .room) (st .passed) some (st .stays)
-      (go (stop-at first size front taken ds p next stop (lowest-small (neighbours-of ds 0) (λ v m. in-neighbours-of ds 0 v m .0)))) list1 made
+      (go (stop-at first size front taken ds p next stop (lowest-small ds (st .due-long)))) list1 made
     where
-      go : (front ≤ taken) ⊎ ((first + front ≤ head-or max-radios (neighbours-of ds 0)) × (size ≤ front))
-          → (front ≤ taken) ⊎ (((q : ℕ) → q < front → marked ds 0 (first + q) ≡ false) × (size ≤ front))
+      go : (front ≤ taken) ⊎ ((first + front ≤ head-or max-radios (common ds ds)) × (size ≤ front))
+          → (front ≤ taken) ⊎ (((q : ℕ) → q < front → in-set ds (first + q) ≡ false) × (size ≤ front))
       go (inl l) = inl l
       go (inr h) =
           inr (
-            λ q l. first-marked-least ds (head-or max-radios (neighbours-of ds 0)) refl (first + q) (omega (arith, h .0)) (omega (arith, front-fits st .1)),
+            λ q l. first-marked-least ds (head-or max-radios (common ds ds)) refl (first + q) (omega (arith, h .0)) (omega (arith, front-fits st .1)),
             h .1,
           )
 

@@ -48,11 +48,11 @@ pub record Turning (f : ℕ → ℕ → Bool) (most : ℕ) (order places : List 
   pub counted :
       (v : ℕ) → In v rest → getD counters v 0 ≡ count (f v) rest + count (f v) (above order (at .start) (at .size))
   pub fitting :
-      (v : ℕ) → In v (stretch order (at .start) (at .size)) → marked fits 0 (getD places v 0) ≡ (member v rest && leb (getD counters v 0) most)
-  pub standing : (p : ℕ) → p < max-radios → marked fits 0 p ≡ true → (at .start ≤ p) × (p < at .start + at .size)
+      (v : ℕ) → In v (stretch order (at .start) (at .size)) → in-set fits (getD places v 0) ≡ (member v rest && leb (getD counters v 0) most)
+  pub standing : (p : ℕ) → p < max-radios → in-set fits p ≡ true → (at .start ≤ p) × (p < at .start + at .size)
   pub spent : (v : ℕ) → In v taken → getD counters v 0 ≤ most
   pub counters-long : length order ≤ length counters
-  pub fits-long : length fits ≡ row-bytes
+  pub fits-long : length fits ≡ 8
 
 pub record Left-set (taken left : List ℕ) : Type 0 where
   pub long : length left ≡ 8

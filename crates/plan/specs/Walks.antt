@@ -1,5 +1,5 @@
 -- The walk of a link going up, on the tables that it is lent and changes: the order from the beginning end's place on, the candidates (one
--- byte a radio, 1 for a candidate) and their places, a set of words, their counters, and the places due, a set kept as one row.
+-- byte a radio, 1 for a candidate) and their places, a set of words, their counters, and the places due, a set of words too.
 --   is-left k p ns ps hs w       w counts for a radio at place p of level k: it is above, stands later in the level, or is a candidate
 --   is-later k p ns ps w         w stands in level k, later than place p
 --   place-touched k p ns ps w ds   the places due ds with the place of w, where w stands later
@@ -14,10 +14,11 @@
 -- Laws are in proofs/WalkLoops.antt, proofs/WalkTables.antt and proofs/WalkTurns.antt. Definitions only.
 use Rattle.lists.specs.{Kit.{_≡_, _⊎_, Bool, true, false, _&&_, _||_, cond, List, [], _++_, ℕ, _+_, _*_, _-_, _≤_, _<_, min, ltb, eqb, length, getD, take}}
 use Rattle.lists.specs.{Kit.{drop}, Facts.{folded, Distinct}, Lists.{In}}
-use Rattle.mesh.specs.{Limits.{max-radios, max-neighbours, row-bytes}, Tables.{marked, put-bit, put-link}, Peel.{Peels}}
+use Rattle.mesh.specs.{Limits.{max-radios, max-neighbours, row-bytes}, Tables.{marked, put-link}, Peel.{Peels}}
 use Rattle.rows.specs.Rows.{neighbours-of}
 use Rattle.walks.specs.Walk.{Few-front, Walking}
 use Rattle.plan.specs.{Places.{beginning-end, Marked-places}, Peels.{linked-after}, declared.walk.Rise.{Rise}, declared.walk.Part.{Part}}
+use Rattle.rows.specs.Sets.{in-set, put-in}
 
 unfoldable pub is-left : (k p : ℕ) → (numbers places held : List ℕ) → (w : ℕ) → Bool
 is-left k p ns ps hs w = cond (eqb (getD ns w 0) k) (ltb p (getD ps w 0) || eqb (getD hs w 0) 1) (ltb k (getD ns w 0))
@@ -26,7 +27,7 @@ unfoldable pub is-later : (k p : ℕ) → (numbers places : List ℕ) → (w : �
 is-later k p ns ps w = eqb (getD ns w 0) k && ltb p (getD ps w 0)
 
 unfoldable pub place-touched : (k p : ℕ) → (numbers places : List ℕ) → (w : ℕ) → (due : List ℕ) → List ℕ
-place-touched k p ns ps w ds = cond (is-later k p ns ps w) (put-bit true 0 (getD ps w 0) ds) ds
+place-touched k p ns ps w ds = cond (is-later k p ns ps w) (put-in (getD ps w 0) ds) ds
 
 unfoldable pub places-touched : (k p : ℕ) → (numbers places near due : List ℕ) → List ℕ
 places-touched k p ns ps vs ds = folded (place-touched k p ns ps) vs ds
@@ -91,15 +92,15 @@ written held counters due stay list = record { held = held; counters = counters;
 pub record Walk-state (rise : Rise) (part : Part) (links tail places : List ℕ) (front taken : ℕ) (w : Written) : Type 0 where
   pub held-long : radios-of (part .first) tail ≤ length (w .held)
   pub counters-long : radios-of (part .first) tail ≤ length (w .counters)
-  pub due-long : length (w .due) ≡ row-bytes
+  pub due-long : length (w .due) ≡ 8
   pub room : length (w .list) ≡ max-radios
   pub passed : taken ≤ front
-  pub low : (p : ℕ) → marked (w .due) 0 p ≡ true → part .first ≤ p
+  pub low : (p : ℕ) → in-set (w .due) p ≡ true → part .first ≤ p
   pub stays : Marked-places (part .first) (part .size) tail (λ v. eqb (getD (w .held) v 0) 1) (w .stay)
   pub walking :
       Walking (joined (rise .a) (rise .b) (part .first) links tail) (rise .most) (drop (part .size) tail) (take (part .size) tail)
       (λ v. getD places v 0 - part .first) (take taken (w .list)) front
-      (λ v. eqb (getD (w .held) v 0) 1) (λ v. getD (w .counters) v 0) (λ q. marked (w .due) 0 (part .first + q))
+      (λ v. eqb (getD (w .held) v 0) 1) (λ v. getD (w .counters) v 0) (λ q. in-set (w .due) (part .first + q))
 
 -- the first `front` entries of the list are the part's, laid out anew; the first `taken` of them were taken, the others rise
 pub record Walk-done (rise : Rise) (part : Part) (links tail : List ℕ) (front taken : ℕ) (list : List ℕ) : Type 0 where

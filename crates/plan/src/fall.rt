@@ -29,7 +29,7 @@ pub(crate) fn plan_down(
         (now (stretch .exit)) ⌝ }
 {
     let call = peel::call_at(false, a, b, numbers);
-    let mut fits = [0u8; Site::ROW_BYTES];
+    let mut fits = [0u64; 8];
     let ends = ends::both(a as u16, b as u16);
     turn::release(
         &ends,

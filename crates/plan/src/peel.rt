@@ -8,6 +8,7 @@ ghost use Rattle.plan.specs.Turns.{places-fitting, ends-counted, Begin-r
 ghost use Rattle.plan.specs.Peels.{Peel-ready, Peel-done};
 ghost use Rattle.plan.specs.Plans.{Ready, Planned};
 use super::ends;
+use super::places;
 use super::planned::Plan;
 use super::stretch;
 use super::stuck;
@@ -51,7 +52,7 @@ fn begin(
     numbers: &[u8],
     order: &[u16],
     counters: &mut [u8; Site::RADIOS as usize],
-    fits: &mut [u8; Site::ROW_BYTES],
+    fits: &mut [u64; 8],
 )
     requires { ⌜ Begin-ready call start size (now numbers) (now order) (now counters) ⌝ }
     ensures counted { λ _. ⌜ now (counters .exit)
@@ -76,7 +77,7 @@ pub(crate) fn peel(
     order: &[u16],
     places: &[u16],
     counters: &mut [u8; Site::RADIOS as usize],
-    fits: &mut [u8; Site::ROW_BYTES],
+    fits: &mut [u64; 8],
     list: &mut [u16; Site::RADIOS as usize],
 ) -> usize
     requires { ⌜ Peel-ready call (now links) (now numbers) (now order)
@@ -87,7 +88,7 @@ pub(crate) fn peel(
 {
     let mut left = [u64::MAX; rows::ROW_WORDS as usize];
     let mut taken: usize = 0;
-    let mut p = rows::first_marked(fits, 0);
+    let mut p = places::lowest(fits);
     while p < Site::RADIOS {
         let v = order[p as usize];
         list[taken] = v;
@@ -104,7 +105,7 @@ pub(crate) fn peel(
             fits,
         );
         sets::take_out(&mut left, v as u32);
-        p = rows::first_marked(fits, 0);
+        p = places::lowest(fits);
     }
     taken
 }
@@ -128,7 +129,7 @@ pub(crate) fn plan_peel(
 {
     let call = call_at(true, a, b, numbers);
     let at = stretch::stretch_of(numbers, call.level);
-    let mut fits = [0u8; Site::ROW_BYTES];
+    let mut fits = [0u64; 8];
     begin(call, at.start, at.size, numbers, order, highs, &mut fits);
     let taken = peel(
         call,

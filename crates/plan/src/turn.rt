@@ -4,6 +4,7 @@ ghost use Rattle.mesh.specs.Limits.{max-radios, max-neighbours, row-bytes};
 ghost use Rattle.lists.specs.Lists.{range};
 ghost use Rattle.mesh.specs.Tables.{put-bit, put-link};
 ghost use Rattle.rows.specs.Rows.{neighbours-of, set-bits};
+ghost use Rattle.rows.specs.Sets.{take-out};
 ghost use Rattle.plan.specs.Turns.{end-counted, counter-less, released, place-marked, places-released, places-fitting, Releasable};
 ghost use Rattle.plan.specs.Turns.{near-left, Row-ready, Near-ready, Lists-neighbours};
 use super::ends;
@@ -39,7 +40,7 @@ pub(crate) fn mark_fitting(
     most: u8,
     order: &[u16],
     counters: &[u8; Site::RADIOS as usize],
-    fits: &mut [u8; Site::ROW_BYTES],
+    fits: &mut [u64; 8],
 )
     requires { ⌜ (start + size ≤ length (now order)) × (start + size ≤ max-radios) ×
         ((p : ℕ) → p < length (now order) → getD (now order) p 0 < max-radios) ⌝ }
@@ -64,7 +65,7 @@ fn release_one(
     numbers: &[u8],
     places: &[u16],
     counters: &mut [u8; Site::RADIOS as usize],
-    fits: &mut [u8; Site::ROW_BYTES],
+    fits: &mut [u64; 8],
 )
     requires { ⌜ (v < length (now numbers)) × (v < length (now places)) × (v < max-radios) ×
         (getD (now numbers) v 0 ≡ level → 1 ≤ getD (now counters) v 0) ⌝ }
@@ -89,7 +90,7 @@ pub(crate) fn release(
     numbers: &[u8],
     places: &[u16],
     counters: &mut [u8; Site::RADIOS as usize],
-    fits: &mut [u8; Site::ROW_BYTES],
+    fits: &mut [u64; 8],
 )
     requires { ⌜ (k ≤ length (now near)) × Releasable (now numbers) (now places) level (take k (now near)) (now counters) ⌝ }
     ensures counted { λ _. ⌜ now (counters .exit) ≡ released (now (numbers .entry)) level (take k (now (near .entry))) (now (counters .entry)) ⌝ }
@@ -121,7 +122,7 @@ fn release_word(
     numbers: &[u8],
     places: &[u16],
     counters: &mut [u8; Site::RADIOS as usize],
-    fits: &mut [u8; Site::ROW_BYTES],
+    fits: &mut [u64; 8],
 )
     requires { ⌜ (first ≤ max-radios) × Releasable (now numbers) (now places) level (set-bits 64 first word) (now counters) ⌝ }
     ensures counted { λ _. ⌜ now (counters .exit) ≡ released (now (numbers .entry)) level (set-bits 64 first word) (now (counters .entry)) ⌝ }
@@ -145,7 +146,7 @@ fn release_row(
     numbers: &[u8],
     places: &[u16],
     counters: &mut [u8; Site::RADIOS as usize],
-    fits: &mut [u8; Site::ROW_BYTES],
+    fits: &mut [u64; 8],
 )
     requires { ⌜ (length (now row) ≡ row-bytes) × Releasable (now numbers) (now places) level (neighbours-of (now row) 0) (now counters) ⌝ }
     ensures counted { λ _. ⌜ now (counters .exit)
@@ -230,7 +231,7 @@ fn release_end(
     numbers: &[u8],
     places: &[u16],
     counters: &mut [u8; Site::RADIOS as usize],
-    fits: &mut [u8; Site::ROW_BYTES],
+    fits: &mut [u64; 8],
 )
     requires { ⌜ (row-bytes * v + row-bytes ≤ length (now links)) × (w < max-radios) ×
         Releasable (now numbers) (now places) (call .level) (neighbours-of (put-bit (call .up) v w (now links)) v) (now counters) ⌝ }
@@ -253,7 +254,7 @@ pub(crate) fn take_radio(
     numbers: &[u8],
     places: &[u16],
     counters: &mut [u8; Site::RADIOS as usize],
-    fits: &mut [u8; Site::ROW_BYTES],
+    fits: &mut [u64; 8],
 )
     requires { ⌜ Row-ready (call .a) (call .b) v (now links) ×
         Releasable (now numbers) (now places) (call .level)
@@ -262,7 +263,7 @@ pub(crate) fn take_radio(
         (neighbours-of (put-link (call .up) (call .a) (call .b) (now (links .entry))) v) (now (counters .entry)) ⌝ }
     ensures marked { λ _. ⌜ now (fits .exit) ≡ places-released (now (numbers .entry)) (now (places .entry)) (call .level) (call .most)
         (neighbours-of (put-link (call .up) (call .a) (call .b) (now (links .entry))) v) (now (counters .entry))
-        (put-bit false 0 p (now (fits .entry))) ⌝ }
+        (take-out p (now (fits .entry))) ⌝ }
 {
     places::put(fits, false, p);
     let w = ends::other_end(call.a, call.b, v);
@@ -292,7 +293,7 @@ fn release_left(
     numbers: &[u8],
     places: &[u16],
     counters: &mut [u8; Site::RADIOS as usize],
-    fits: &mut [u8; Site::ROW_BYTES],
+    fits: &mut [u64; 8],
 )
     requires { ⌜ (length (now row) ≡ row-bytes) × Releasable (now numbers) (now places) level (near-left (now row) 0 (now left)) (now counters) ⌝ }
     ensures counted { λ _. ⌜ now (counters .exit)
@@ -327,7 +328,7 @@ pub(crate) fn take_left(
     places: &[u16],
     left: &[u64; rows::ROW_WORDS as usize],
     counters: &mut [u8; Site::RADIOS as usize],
-    fits: &mut [u8; Site::ROW_BYTES],
+    fits: &mut [u64; 8],
 )
     requires { ⌜ Row-ready (call .a) (call .b) v (now links) ×
         Releasable (now numbers) (now places) (call .level)
@@ -336,7 +337,7 @@ pub(crate) fn take_left(
         (near-left (put-link (call .up) (call .a) (call .b) (now (links .entry))) v (now (left .entry))) (now (counters .entry)) ⌝ }
     ensures marked { λ _. ⌜ now (fits .exit) ≡ places-released (now (numbers .entry)) (now (places .entry)) (call .level) (call .most)
         (near-left (put-link (call .up) (call .a) (call .b) (now (links .entry))) v (now (left .entry))) (now (counters .entry))
-        (put-bit false 0 p (now (fits .entry))) ⌝ }
+        (take-out p (now (fits .entry))) ⌝ }
 {
     places::put(fits, false, p);
     let w = ends::other_end(call.a, call.b, v);

@@ -5,8 +5,7 @@
 ghost use Rattle.lists.specs.Kit.{_≡_, false, ℕ, _≤_, _<_, _+_, _-_, length, getD, take, drop, paste, leb};
 ghost use Rattle.mesh.specs.Limits.{max-radios, max-neighbours, row-bytes};
 ghost use Rattle.lists.specs.Lists.{count, head-or};
-ghost use Rattle.mesh.specs.Tables.{marked};
-ghost use Rattle.rows.specs.Rows.{neighbours-of};
+ghost use Rattle.rows.specs.Sets.{in-set, common};
 ghost use Rattle.plan.specs.Places.{next-place};
 ghost use Rattle.plan.specs.Walks.{is-left, place-touched, places-touched, joined, Known};
 ghost use Rattle.plan.specs.Walks.{part-of, Walk-site, written, Walk-state, Walk-done};
@@ -86,14 +85,7 @@ fn count_left(
 }
 
 // Makes the place of w due, where w stands in the level later than place p.
-fn touch_one(
-    w: usize,
-    level: u8,
-    p: u16,
-    numbers: &[u8],
-    places: &[u16],
-    due: &mut [u8; Site::ROW_BYTES],
-)
+fn touch_one(w: usize, level: u8, p: u16, numbers: &[u8], places: &[u16], due: &mut [u64; 8])
     requires { ⌜ (w < length (now numbers)) × (w < length (now places)) ⌝ }
     ensures { λ _. ⌜ now (due .exit) ≡ place-touched level p (now (numbers .entry)) (now (places .entry)) w (now (due .entry)) ⌝ }
 {
@@ -112,7 +104,7 @@ fn touch(
     p: u16,
     numbers: &[u8],
     places: &[u16],
-    due: &mut [u8; Site::ROW_BYTES],
+    due: &mut [u64; 8],
 )
     requires { ⌜ (k ≤ length (now near)) × Known (length (now numbers)) (length (now places)) (length (now numbers)) (take k (now near)) ⌝ }
     ensures { λ _. ⌜ now (due .exit)
@@ -137,14 +129,14 @@ fn look(
     places: &[u16],
     held: &mut [u8; Site::RADIOS as usize],
     counters: &mut [u8; Site::RADIOS as usize],
-    due: &mut [u8; Site::ROW_BYTES],
+    due: &mut [u64; 8],
     stay: &mut [u64; 8],
     list: &mut [u16; Site::RADIOS as usize],
 ) -> Reached
     requires { ⌜ Walk-site rise part (now links) (now numbers) (now tail) (now places) ×
         Walk-state rise part (now links) (now tail) (now places) (at .front) (at .taken)
         (written (now held) (now counters) (now due) (now stay) (now list)) ×
-        ((at .front < part .size) × ((q : ℕ) → q < at .front → marked (now due) 0 (part .first + q) ≡ false)) ⌝ }
+        ((at .front < part .size) × ((q : ℕ) → q < at .front → in-set (now due) (part .first + q) ≡ false)) ⌝ }
     ensures state { λ r. ⌜ Walk-state rise part (now (links .entry)) (now (tail .entry))
         (now (places .entry)) (r .front) (r .taken)
         (written (now (held .exit)) (now (counters .exit)) (now (due .exit)) (now (stay .exit)) (now (list .exit))) ⌝ }
@@ -188,14 +180,14 @@ fn back(
     places: &[u16],
     held: &mut [u8; Site::RADIOS as usize],
     counters: &mut [u8; Site::RADIOS as usize],
-    due: &mut [u8; Site::ROW_BYTES],
+    due: &mut [u64; 8],
     stay: &mut [u64; 8],
     list: &mut [u16; Site::RADIOS as usize],
 ) -> Reached
     requires { ⌜ Walk-site rise part (now links) (now numbers) (now tail) (now places) ×
         Walk-state rise part (now links) (now tail) (now places) (at .front) (at .taken)
         (written (now held) (now counters) (now due) (now stay) (now list)) ×
-        ((p ≡ head-or max-radios (neighbours-of (now due) 0)) × (p < part .first + at .front)) ⌝ }
+        ((p ≡ head-or max-radios (common (now due) (now due))) × (p < part .first + at .front)) ⌝ }
     ensures state { λ r. ⌜ Walk-state rise part (now (links .entry)) (now (tail .entry))
         (now (places .entry)) (r .front) (r .taken)
         (written (now (held .exit)) (now (counters .exit)) (now (due .exit)) (now (stay .exit)) (now (list .exit))) ⌝ }
@@ -241,7 +233,7 @@ fn step(
     places: &[u16],
     held: &mut [u8; Site::RADIOS as usize],
     counters: &mut [u8; Site::RADIOS as usize],
-    due: &mut [u8; Site::ROW_BYTES],
+    due: &mut [u64; 8],
     stay: &mut [u64; 8],
     list: &mut [u16; Site::RADIOS as usize],
 ) -> Reached
@@ -325,7 +317,7 @@ pub(crate) fn walk(
 {
     let mut held = [0u8; Site::RADIOS as usize];
     let mut counters = [0u8; Site::RADIOS as usize];
-    let mut due = [0u8; Site::ROW_BYTES];
+    let mut due = [0u64; 8];
     let mut stay = [0u64; 8];
     let start = Reached { front: 0, taken: 0 };
     let mut at = look(

@@ -15,16 +15,25 @@ abbrev μ-loop : tie.MeasureT-loop
     level-size numbers (call .level) - taken
 
 loop-holds : tie.Need-loop-holds Inv-loop μ-loop
-loop-holds c = masked-none (c .before .before .before .before .before .before .before .pre) _ (c .first-marked .ensures)
+loop-holds c = masked-none (c .before .before .before .before .before .before .pre) _ (c .lowest .ensures)
 
 shared-slice-read-v : tie.Need-shared-slice-read-v Inv-loop μ-loop
-shared-slice-read-v c = peel-below (c .before .before .before .before .before .before .before .before .before .before .pre) (c .before .before .loop .inv .0) (c .before .loop-test .taken)
+shared-slice-read-v c = peel-below (c .before .before .before .before .before .before .before .before .before .pre) (c .before .before .loop .inv .0)
+    (c .before .loop-test .taken)
 
 element-write-list : tie.Need-element-write-list Inv-loop μ-loop
-element-write-list c = omega (arith, peel-few (c .before .before .before .before .before .before .before .before .before .before .pre) (c .before .before .loop .inv .0) (c .before .loop-test .taken))
+element-write-list c = omega (
+  arith,
+  peel-few (c .before .before .before .before .before .before .before .before .before .pre)
+      (c .before .before .loop .inv .0) (c .before .loop-test .taken),
+)
 
 add-taken : tie.Need-add-taken Inv-loop μ-loop
-add-taken c = omega (arith, peel-few (c .before .before .before .before .before .before .before .before .before .before .pre) (c .before .before .loop .inv .0) (c .before .loop-test .taken))
+add-taken c = omega (
+  arith,
+  peel-few (c .before .before .before .before .before .before .before .before .before .pre) (c .before .before .loop .inv .0)
+      (c .before .loop-test .taken),
+)
 
 cast-take-left : tie.Need-cast-take-left Inv-loop μ-loop
 cast-take-left c = omega (arith, c .shared-slice-known5 .given (c .before .before .loop .p))
@@ -33,7 +42,7 @@ take-left-requires : tie.Need-take-left-requires Inv-loop μ-loop
 take-left-requires c κs =
     let turn = c .before .before .before .before in
     let at-loop = turn .before in
-    let start = at-loop .before .before .before .before .before .before .before .before in
+    let start = at-loop .before .before .before .before .before .before .before in
     (peel-row (start .pre) (at-loop .loop .inv .0) (turn .loop-test .taken), masked-releasable (start .pre) (at-loop .loop .inv .0) (turn .loop-test .taken) (at-loop .loop .inv .1))
 
 cast-take-out : tie.Need-cast-take-out Inv-loop μ-loop
@@ -42,25 +51,25 @@ cast-take-out c =
 
 loop-less : tie.Need-loop-less Inv-loop μ-loop
 loop-less c =
-    let turn = c .before .before .before .before .before .before .before .before .before .before .before in
+    let turn = c .before .before .before .before .before .before .before .before .before .before in
     let at-loop = turn .before in
-    let start = at-loop .before .before .before .before .before .before .before .before in
+    let start = at-loop .before .before .before .before .before .before .before in
     omega (arith, peel-room (start .pre) (at-loop .loop .inv .0) (turn .loop-test .taken))
 
 loop-again : tie.Need-loop-again Inv-loop μ-loop
 loop-again c =
-    let out = c .before .before .before .before in
+    let out = c .before .before .before in
     let made = out .before .before in
     let turn = made .before .before .before .before .before in
     let at-loop = turn .before in
-    let start = at-loop .before .before .before .before .before .before .before .before in
+    let start = at-loop .before .before .before .before .before .before .before in
     masked-turn (start .pre) (at-loop .loop .inv .0) (turn .loop-test .taken) (at-loop .loop .inv .1) _ _ _ _ (out .take-out .ensures)
-    (made .take-left .ensures .0) (made .take-left .ensures .1) (c .first-marked2 .ensures)
+    (made .take-left .ensures .0) (made .take-left .ensures .1) (c .lowest2 .ensures)
 
 returns : tie.Need-returns Inv-loop μ-loop
 returns c =
     let at-loop = c .before in
-    let start = at-loop .before .before .before .before .before .before .before .before in
+    let start = at-loop .before .before .before .before .before .before .before in
     (peel-end (start .pre) (at-loop .loop .inv .0) (c .loop-test .left), at-loop .loop .inv .0 .long-list)
 
 pub peel-spec : {M : Type 1} → statement M
