@@ -1,26 +1,15 @@
 // Sets of places, eight words each, and where the next turn of a walk is.
-ghost use Rattle.lists.specs.Kit.{_≡_, true, cond, ℕ, _+_, _*_, _≤_, _<_, length, sets};
+ghost use Rattle.lists.specs.Kit.{_≡_, ℕ, _+_, _*_, _≤_, _<_, length, sets};
 ghost use Rattle.mesh.specs.Limits.{max-radios};
 ghost use Rattle.lists.specs.Lists.{In, head-or};
 ghost use Rattle.rows.specs.Rows.{set-bits};
-ghost use Rattle.rows.specs.Sets.{in-set, put-in, take-out, common};
+ghost use Rattle.rows.specs.Sets.{common};
 ghost use Rattle.plan.specs.Places.{next-place, Stands, entries-at, set-places};
 use mesh::Site;
 use rows::sets;
 
 // Where no turn is: past every place, and past what `lowest` gives where nothing is marked.
 pub const STOP: usize = Site::RADIOS as usize + 1;
-
-// Puts place p into the set, or takes it out; past the set nothing changes.
-pub fn put(set: &mut [u64; 8], on: bool, p: u32)
-    ensures { λ _. ⌜ now (set .exit) ≡ cond on (put-in p (now (set .entry))) (take-out p (now (set .entry))) ⌝ }
-{
-    if on {
-        sets::put_in(set, p);
-        return;
-    }
-    sets::take_out(set, p);
-}
 
 // The lowest place of the set; where there is none, the most radios that a site may have.
 pub fn lowest(set: &[u64; 8]) -> u32

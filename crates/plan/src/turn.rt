@@ -8,8 +8,8 @@ ghost use Rattle.rows.specs.Sets.{take-out};
 ghost use Rattle.plan.specs.Turns.{end-counted, counter-less, released, place-marked, places-released, places-fitting, Releasable};
 ghost use Rattle.plan.specs.Turns.{near-left, Row-ready, Near-ready, Lists-neighbours};
 use super::ends;
-use super::places;
 use mesh::Site;
+use rows::sets;
 
 // The counter of v is one more going up and one less going down after, where v is of the level; the others keep theirs.
 pub(crate) fn count_end(
@@ -51,7 +51,7 @@ pub(crate) fn mark_fitting(
     while p < start + size {
         let v = order[p] as usize;
         if counters[v] <= most {
-            places::put(fits, true, p as u32);
+            sets::put_in(fits, p as u32);
         }
         p += 1;
     }
@@ -76,7 +76,7 @@ fn release_one(
     if numbers[v] == level {
         counters[v] -= 1;
         if counters[v] == most {
-            places::put(fits, true, places[v] as u32);
+            sets::put_in(fits, places[v] as u32);
         }
     }
 }
@@ -222,28 +222,6 @@ pub(crate) struct Call {
     pub(crate) most: u8,
 }
 
-// Releases the radios that row v marks, once its bit w is set or cleared.
-fn release_end(
-    call: Call,
-    v: u32,
-    w: u32,
-    links: &[u8],
-    numbers: &[u8],
-    places: &[u16],
-    counters: &mut [u8; Site::RADIOS as usize],
-    fits: &mut [u64; 8],
-)
-    requires { ⌜ (row-bytes * v + row-bytes ≤ length (now links)) × (w < max-radios) ×
-        Releasable (now numbers) (now places) (call .level) (neighbours-of (put-bit (call .up) v w (now links)) v) (now counters) ⌝ }
-    ensures counted { λ _. ⌜ now (counters .exit) ≡ released (now (numbers .entry)) (call .level)
-        (neighbours-of (put-bit (call .up) v w (now (links .entry))) v) (now (counters .entry)) ⌝ }
-    ensures marked { λ _. ⌜ now (fits .exit) ≡ places-released (now (numbers .entry)) (now (places .entry)) (call .level) (call .most)
-        (neighbours-of (put-bit (call .up) v w (now (links .entry))) v) (now (counters .entry)) (now (fits .entry)) ⌝ }
-{
-    let row = end_row(call.up, v, w, links);
-    release_row(&row, call.level, call.most, numbers, places, counters, fits);
-}
-
 // Takes the radio v at place p: the place fits no more, and the neighbours that v has after the call are released.
 // Its row is walked by words and not listed.
 pub(crate) fn take_radio(
@@ -265,10 +243,11 @@ pub(crate) fn take_radio(
         (neighbours-of (put-link (call .up) (call .a) (call .b) (now (links .entry))) v) (now (counters .entry))
         (take-out p (now (fits .entry))) ⌝ }
 {
-    places::put(fits, false, p);
+    sets::take_out(fits, p);
     let w = ends::other_end(call.a, call.b, v);
     if w != v {
-        release_end(call, v, w, links, numbers, places, counters, fits);
+        let row = end_row(call.up, v, w, links);
+        release_row(&row, call.level, call.most, numbers, places, counters, fits);
         return;
     }
     let start = Site::ROW_BYTES * v as usize;
@@ -339,7 +318,7 @@ pub(crate) fn take_left(
         (near-left (put-link (call .up) (call .a) (call .b) (now (links .entry))) v (now (left .entry))) (now (counters .entry))
         (take-out p (now (fits .entry))) ⌝ }
 {
-    places::put(fits, false, p);
+    sets::take_out(fits, p);
     let w = ends::other_end(call.a, call.b, v);
     if w != v {
         let row = end_row(call.up, v, w, links);

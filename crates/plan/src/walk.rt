@@ -91,7 +91,7 @@ fn touch_one(w: usize, level: u8, p: u16, numbers: &[u8], places: &[u16], due: &
 {
     if numbers[w] == level {
         if p < places[w] {
-            places::put(due, true, places[w] as u32);
+            sets::put_in(due, places[w] as u32);
         }
     }
 }
@@ -147,7 +147,7 @@ fn look(
     let taken = at.taken;
     let v = tail[front];
     let p = part.first + front;
-    places::put(due, false, p as u32);
+    sets::take_out(due, p as u32);
     let k = turn::neighbours_after(true, rise.a, rise.b, v as u32, links, &mut near) as usize;
     let c = count_left(&near, k, rise.most, p as u16, numbers, places, held);
     if rise.most < c {

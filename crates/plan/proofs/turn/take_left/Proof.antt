@@ -25,10 +25,10 @@ returns c =
     let copied = c .before .before .before .before in
     let branch = copied .before in
     let asked = branch .before in
-    let put = asked .before in
+    let out = asked .before in
     let start = asked .before .before .before .before .before .before in
     let same = neighbours-of-end _ _ _ _ _ _ (asked .other-end .ensures) (branch .if1 .taken) (start .pre .0) in
-    released-same _ _ _ _ _ _ _ _ _ (near-left-same _ _ _ _ _ _ (copied .end-row .ensures ∙ same .1) refl) (put .put .ensures)
+    released-same _ _ _ _ _ _ _ _ _ (near-left-same _ _ _ _ _ _ (copied .end-row .ensures ∙ same .1) refl) (out .take-out .ensures)
     (c .release-left .ensures .0) (c .release-left .ensures .1)
 
 part-release-left-end : tie.Need-part-release-left-end
@@ -52,12 +52,12 @@ returns-2 : tie.Need-returns-2
 returns-2 c =
     let branch = c .before .before .before .before in
     let asked = branch .before in
-    let put = asked .before in
+    let out = asked .before in
     let start = asked .before .before .before .before .before .before in
     let v = start .args .v in
     let long = row-bytes * v + row-bytes - row-bytes * v in
     let same = neighbours-of-lent _ _ _ _ _ _ (asked .other-end .ensures) long (omega arith) (branch .if1 .left) (start .pre .0) in
-    released-same _ _ _ _ _ _ _ _ _ (near-left-same _ _ _ _ _ _ same refl) (put .put .ensures)
+    released-same _ _ _ _ _ _ _ _ _ (near-left-same _ _ _ _ _ _ same refl) (out .take-out .ensures)
     (c .release-left2 .ensures .0) (c .release-left2 .ensures .1)
 
 pub take-left-spec : {M : Type 1} → statement M
