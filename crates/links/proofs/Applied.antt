@@ -12,7 +12,7 @@ use Rattle.mesh.{proofs.Cores.Peeling.{length-numbers, getD-numbers}, proofs.Li
 use Rattle.mesh.{specs.Valid.{Valid, smaller, larger}}
 use Rattle.calls.specs.{Switches.{switch, switched}, Outcomes.{reply, linked-with}, declared.Reply.{Reply}}
 use Rattle.tables.{specs.Steps.{stepped, all-stepped}, proofs.StepLaws.{length-all-stepped, getD-all-stepped-other, getD-all-stepped-listed}}
-use Rattle.plan.specs.{Plans.{Planned, Applicable}, Planned.{changed-part}}
+use Rattle.plan.specs.{Plans.{Planned, Applicable, plan-of}, Planned.{changed-part}}
 use Rattle.links.specs.Changes.{in-order, counted-step, plan-fits, Applied}
 use Rattle.links.proofs.ChangeLaws.{counted-step-length}
 
@@ -100,7 +100,7 @@ numbers-stepped up a b g xs valid ok =
 -- ---- the call
 
 module _ (up : Bool) (n a b : ℕ) (t : Tables) (answer : List ℕ) (ok : Applicable up n a b t answer)
-    (start size taken : ℕ) (stretch : List ℕ) (plan : Planned up a b (graph-in n (t .links)) (t .order) start size taken stretch) where
+    (start size taken : ℕ) (stretch : List ℕ) (plan : Planned up a b (graph-in n (t .links)) (t .order) (plan-of start size taken) stretch) where
   abbrev g : Graph
   g = graph-in n (t .links)
 

@@ -20,6 +20,7 @@ use Rattle.links.specs.{Steps.{Rows-known}}
 use Rattle.plan.{specs.Plans.{Ready, Planned, Applicable}, proofs.Asking.{right-of, high-numbers}, proofs.NearLaws.{neighbours-of-other}}
 use Rattle.links.proofs.{Applied.{planned-fits, applied-accepted}, PlacesLaws.{getD-paste-outside, length-places-put, placed-again}}
 use Rattle.links.proofs.{CountLaws.{touched-ends, touched-around, getD-recounted, length-recounted}}
+use Rattle.plan.specs.Plans.{plan-of}
 
 -- ---- what is known of prepared tables
 
@@ -96,7 +97,8 @@ module _ {up : Bool} {n a b : ℕ} {t : Tables} {places highs : List ℕ} (k : S
     room = omega (arith, good .lent .most);
   }
 
-  pub step-changed : (start size taken : ℕ) (stretch : List ℕ) → Planned up a b g (t .order) start size taken stretch → (answer : List ℕ) → length answer ≡ max-radios
+  pub step-changed : (start size taken : ℕ) (stretch : List ℕ) → Planned up a b g (t .order) (plan-of start size taken) stretch → (answer : List ℕ)
+      → length answer ≡ max-radios
       → (r : Reply) (v : Tables) (x : List ℕ) → Apply-contract up a b start size taken stretch t answer r v x → Changed-by up n a b t v (r .count) x start size
   unfolding switched lengths-of graph-in
   step-changed start size taken stretch plan answer room r v x d =

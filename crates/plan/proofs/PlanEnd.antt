@@ -6,8 +6,9 @@ use Rattle.lists.{proofs.Count.{count-all}}
 use Rattle.mesh.{specs.Limits.{max-neighbours, max-radios}, specs.Graph.{Graph, linked, relinked}, specs.Cores.{number}, specs.Levels.{changed, lower-level}}
 use Rattle.mesh.{specs.Levels.{new-stretch, with-stretch, new-order}, specs.Tables.{tables, graph-in}, proofs.Links.LevelCut.{mids, highs}, specs.Peel.{bound}}
 use Rattle.mesh.{specs.Peel.{Takes, none, Peels}, proofs.Links.Peel.{Peeling, takes-permutation, takes-taken-in, takes-now-in}}
-use Rattle.plan.specs.{Plans.{Ready, Planned}, Planned.{changed-part}, Places.{level-start, level-size}, Peels.{stretch, above, Peel-done}}
+use Rattle.plan.specs.{Plans.{Ready, Planned, plan-of}, Planned.{changed-part}, Places.{level-start, level-size}, Peels.{stretch, above, Peel-done}}
 use Rattle.plan.proofs.{StretchLoops.{length-stretch}, PlanLevel.{is-valid, start-is, size-is, stretch-is, above-is, stretch-fits, stretch-number}}
+use Rattle.plan.specs.Turns.{call-of}
 use Rattle.mesh.proofs.Links.Call as link-call
 
 module _ {u : Bool} {a b : ℕ} {ts ns os ps cs : List ℕ} (r : Ready u (length os) a b (tables ts ns os) ps cs) where
@@ -32,7 +33,7 @@ module _ {u : Bool} {a b : ℕ} {ts ns os ps cs : List ℕ} (r : Ready u (length
   abbrev level : List ℕ
   level = stretch os start size
 
-  module _ (taken : ℕ) (cs1 list1 list2 : List ℕ) (done : Peel-done u a b K (bound u K) ts ns os taken cs1 list1) (room : length list1 ≡ max-radios)
+  module _ (taken : ℕ) (cs1 list1 list2 : List ℕ) (done : Peel-done (call-of u a b K (bound u K)) ts ns os taken cs1 list1) (room : length list1 ≡ max-radios)
       (written : list2 ≡ sets list1 taken (filter (λ v. ltb (bound u K) (getD cs1 v 0)) level)) where
     abbrev first : List ℕ
     first = take taken list1
@@ -96,7 +97,7 @@ module _ {u : Bool} {a b : ℕ} {ts ns os ps cs : List ℕ} (r : Ready u (length
         ∙ sym (link-call.new-stretch-is max-neighbours u a b g os (is-valid r) (r .allowed) peel)
         ∙ sym (ap₂ (λ (xs ys : List ℕ). new-stretch u after K (changed u a b g) xs ys) (stretch-is r K) (above-is r K))
 
-    plan-at : Planned u a b g os start size taken list2
+    plan-at : Planned u a b g os (plan-of start size taken) list2
     unfolding changed-part graph-in peel new-order with-stretch
     plan-at = record {
       fits = stretch-fits r K;
@@ -124,7 +125,7 @@ module _ {u : Bool} {a b : ℕ} {ts ns os ps cs : List ℕ} (r : Ready u (length
         ∙ ap (λ (xs : List ℕ). take start os ++ xs) (take-append-drop size (drop start os))
         ∙ take-append-drop start os
 
-    unmoved-at : taken ≡ 0 → u ≡ false → Planned u a b g os 0 0 taken list1
+    unmoved-at : taken ≡ 0 → u ≡ false → Planned u a b g os (plan-of 0 0 taken) list1
     unfolding changed-part
     unmoved-at z d = record {
       fits = omega arith;
@@ -141,14 +142,15 @@ module _ {u : Bool} {a b : ℕ} {ts ns os ps cs : List ℕ} (r : Ready u (length
 
   -- as the code names its values
   pub plan-end : (w : Bool) (x y k m from many taken : ℕ) (cs1 list1 list2 : List ℕ) → w ≡ u → x ≡ a → y ≡ b → k ≡ K → m ≡ bound u K
-      → from ≡ level-start ns k → many ≡ level-size ns k → Peel-done w x y k m ts ns os taken cs1 list1 → length list1 ≡ max-radios
-      → list2 ≡ sets list1 taken (filter (λ v. ltb m (getD cs1 v 0)) (stretch os from many)) → Planned u a b g os from many taken list2
+      → from ≡ level-start ns k → many ≡ level-size ns k → Peel-done (call-of w x y k m) ts ns os taken cs1 list1 → length list1 ≡ max-radios
+      → list2 ≡ sets list1 taken (filter (λ v. ltb m (getD cs1 v 0)) (stretch os from many)) → Planned u a b g os (plan-of from many taken) list2
   plan-end w x y k m from many taken cs1 list1 list2 ew ex ey ek em es ez done room written =
       let fs : from ≡ start = es ∙ ap (level-start ns) ek in
       let fz : many ≡ size = ez ∙ ap (level-size ns) ek in
       rw (fs, fz) (plan-at taken cs1 list1 list2 (rw (ew, ex, ey, em, ek) at done) room (rw (fs, fz, em) at written))
 
   pub plan-unmoved : (w : Bool) (x y k m taken : ℕ) (cs1 list1 : List ℕ) → w ≡ u → x ≡ a → y ≡ b → k ≡ K → m ≡ bound u K
-      → Peel-done w x y k m ts ns os taken cs1 list1 → length list1 ≡ max-radios → taken ≡ 0 → u ≡ false → Planned u a b g os 0 0 taken list1
+      → Peel-done (call-of w x y k m) ts ns os taken cs1 list1 → length list1 ≡ max-radios → taken ≡ 0 → u ≡ false
+      → Planned u a b g os (plan-of 0 0 taken) list1
   plan-unmoved w x y k m taken cs1 list1 ew ex ey ek em done room z d =
       unmoved-at taken cs1 list1 (sets list1 taken (filter (λ v. ltb (bound u K) (getD cs1 v 0)) level)) (rw (ew, ex, ey, em, ek) at done) room refl z d

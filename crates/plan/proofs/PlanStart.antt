@@ -5,15 +5,17 @@ use Rattle.lists.{specs.Kit.{arith, ltb, leb, eqb, length, getD, ltb-true, eqb-
 use Rattle.lists.{specs.Facts.{Distinct}, proofs.Tests.{bool-cases, and-left, and-both}, proofs.Member.{in-cases, member-in, in-member}}
 use Rattle.lists.{proofs.Count.{count-append, count-pos, count-none, count-ext}, proofs.Filter.{in-filter}, proofs.Range.{in-range, range-in, once-in}}
 use Rattle.lists.{proofs.Range.{once-distinct}, proofs.Distinct.{distinct-right, count-plus-one}}
-use Rattle.mesh.{specs.Limits.{max-radios, max-neighbours, row-bytes}, specs.Graph.{Graph, radios, linked, neighbours-in, relinked}, specs.Cores.{number}}
-use Rattle.mesh.{specs.Levels.{lower-level}, specs.Tables.{tables, marked, graph-in}, proofs.GraphLaws.{ends, ends-of, of-ends, linked-sym, neighbours-in-list}}
+use Rattle.mesh.{specs.Limits.{max-radios, max-neighbours}, specs.Graph.{Graph, radios, linked, neighbours-in, relinked}, specs.Cores.{number}}
+use Rattle.mesh.{specs.Levels.{lower-level}, specs.Tables.{tables, graph-in}, proofs.GraphLaws.{ends, ends-of, of-ends, linked-sym, neighbours-in-list}}
 use Rattle.mesh.{proofs.GraphLaws.{neighbours-in-subset, degree-in}, proofs.Links.LevelCut.{lows, mids, highs, level-cut}, specs.Peel.{none}}
 use Rattle.mesh.{proofs.Tables.Relinked.{linked-relinked}}
 use Rattle.plan.specs.{Plans.{Ready}, Turns.{end-counted, ends-counted, places-fitting, Begin-ready}, Places.{level-start, level-size}, Peels.{stretch}}
-use Rattle.plan.specs.{Peels.{above, linked-after, Turning, Peel-ready}}
+use Rattle.plan.specs.{Peels.{above, linked-after, Turning, Peel-ready, stretch-at}}
 use Rattle.plan.proofs.{TurnLoops.{length-end-counted, length-places-fitting}, BeginLaws.{getD-end-other, getD-end-same, marked-fitting}}
 use Rattle.plan.proofs.{LevelLaws.{stretch-stands}, PlanLevel.{a-below, b-below, is-valid, certified, is-once, number-is, order-radios, level-is}}
 use Rattle.plan.proofs.{PlanLevel.{stretch-is, above-is, stretch-fits, stretch-number, is-level, row-is}}
+use Rattle.plan.specs.Turns.{call-of}
+use Rattle.rows.specs.Sets.{in-set}
 
 -- ---- laws of lists
 
@@ -209,8 +211,8 @@ module _ {u : Bool} {a b : ℕ} {ts ns os ps cs : List ℕ} (r : Ready u (length
             (and-both (linked g v o) (leb (num v) (num o)) h (le-leb (num v) (num o) q)),
       )
 
-  pub begin-ready : Begin-ready u a b k start size ns os cs
-  begin-ready = record {
+  pub begin-ready : (m : ℕ) → Begin-ready (call-of u a b k m) start size ns os cs
+  begin-ready m = record {
     differ = r .allowed .differ;
     known-a = (omega (arith, a-below r, r .numbers-length), omega (arith, a-below r, r .small));
     known-b = (omega (arith, b-below r, r .numbers-length), omega (arith, b-below r, r .small));
@@ -236,8 +238,8 @@ module _ {u : Bool} {a b : ℕ} {ts ns os ps cs : List ℕ} (r : Ready u (length
       counted-level v (s .0) (s .1) ∙ count-append (linked after v) (mids num k os) (highs num k os) ∙ rw (stretch-is r k, above-is r k)
 
   -- counters and fitting places before the first turn
-  pub turning-ready : (m : ℕ) (counters fits : List ℕ) → Turning (linked-after u a b n ts) m os ps start size [] counters fits
-      → (list-room : ℕ) → n ≤ list-room → Peel-ready u a b k m ts ns os ps counters fits list-room
+  pub turning-ready : (m : ℕ) (counters fits : List ℕ) → Turning (linked-after u a b n ts) m os ps (stretch-at start size) [] counters fits
+      → (list-room : ℕ) → n ≤ list-room → Peel-ready (call-of u a b k m) ts ns os ps counters fits list-room
   turning-ready m counters fits turning lists el = record {
     level = is-level r k ek;
     differ = r .allowed .differ;
@@ -248,16 +250,16 @@ module _ {u : Bool} {a b : ℕ} {ts ns os ps cs : List ℕ} (r : Ready u (length
     turning = turning;
   }
 
-  module _ (m : ℕ) (fs0 : List ℕ) (long : length fs0 ≡ row-bytes) (zero-row : (q : ℕ) → q < max-radios → marked fs0 0 q ≡ false) where
+  module _ (m : ℕ) (fs0 : List ℕ) (long : length fs0 ≡ 8) (zero-row : (q : ℕ) → q < max-radios → in-set fs0 q ≡ false) where
     abbrev fs1 : List ℕ
     fs1 = places-fitting os cs1 m (range start size) fs0
 
-    marks : (q : ℕ) → q < max-radios → marked fs1 0 q ≡ (member q (range start size) && leb (getD cs1 (getD os q 0) 0) m)
+    marks : (q : ℕ) → q < max-radios → in-set fs1 q ≡ (member q (range start size) && leb (getD cs1 (getD os q 0) 0) m)
     marks q l =
         marked-fitting os cs1 m (range start size) fs0 long (λ p i. omega (arith, range-in start size p i, stretch-fits r k, r .small)) q l
         ∙ ap (λ (t : Bool). t || (member q (range start size) && leb (getD cs1 (getD os q 0) 0) m)) (zero-row q l)
 
-    pub begin-turning : Turning (linked-after u a b n ts) m os ps start size [] cs1 fs1
+    pub begin-turning : Turning (linked-after u a b n ts) m os ps (stretch-at start size) [] cs1 fs1
     unfolding ends-counted
     begin-turning = record {
       rest = stretch os start size;
@@ -270,11 +272,11 @@ module _ {u : Bool} {a b : ℕ} {ts ns os ps cs : List ℕ} (r : Ready u (length
       fits-long = length-places-fitting os cs1 m (range start size) fs0 ∙ long;
     }
       where
-        fitting : (v : ℕ) → In v (stretch os start size) → marked fs1 0 (getD ps v 0) ≡ (member v (stretch os start size) && leb (getD cs1 v 0) m)
+        fitting : (v : ℕ) → In v (stretch os start size) → in-set fs1 (getD ps v 0) ≡ (member v (stretch os start size) && leb (getD cs1 v 0) m)
         fitting v i =
             let s = stretch-stands (is-level r k ek) v i in
             marks (getD ps v 0) (omega (arith, s .high, stretch-fits r k, r .small))
             ∙ rw (s .entry, in-member (getD ps v 0) (range start size) (in-range start size (getD ps v 0) (s .low) (s .high)), in-member v (stretch os start size) i)
 
-    pub peel-ready : (list-room : ℕ) → n ≤ list-room → Peel-ready u a b k m ts ns os ps cs1 fs1 list-room
+    pub peel-ready : (list-room : ℕ) → n ≤ list-room → Peel-ready (call-of u a b k m) ts ns os ps cs1 fs1 list-room
     peel-ready lists el = turning-ready m cs1 fs1 begin-turning lists el

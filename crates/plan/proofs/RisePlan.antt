@@ -9,6 +9,8 @@ use Rattle.plan.specs.{Plans.{Ready, Planned}, Turns.{ends-counted, fits
 use Rattle.plan.specs.{Peels.{Peel-done}}
 use Rattle.plan.proofs.{StretchLoops.{length-stretch}, PlanLevel.{level-is, stretch-fits, stretch-number, order-radios}, PlanStart.{counter-a}}
 use Rattle.plan.proofs.{PlanStart.{counter-b, counter-other, counted-stretch}, PlanEnd.{plan-end}}
+use Rattle.plan.specs.Turns.{call-of}
+use Rattle.plan.specs.Plans.{plan-of}
 
 -- ---- which radios fit with the link
 
@@ -74,13 +76,14 @@ module _ {a b : ℕ} {ts ns os ps cs : List ℕ} (r : Ready true (length os) a b
     stuck-all : filter (λ v. ltb k (getD cs1 v 0)) level ≡ level
     stuck-all = filter-all (λ v. ltb k (getD cs1 v 0)) level (λ v i. lt-ltb k (getD cs1 v 0) (above v i))
 
-    done : (list : List ℕ) → Peel-done true a b k k ts ns os 0 cs1 list
+    done : (list : List ℕ) → Peel-done (call-of true a b k k) ts ns os 0 cs1 list
     done list = record {
       fits = omega arith;
       peels = rw stuck-all (record { takes = none; full = λ v i. omega (arith, above v i, counted-stretch r k ek v i) });
     }
 
-    whole-plan : (list1 list2 : List ℕ) → length list1 ≡ max-radios → list2 ≡ paste list1 0 (drop start os) size → Planned true a b g os start size 0 list2
+    whole-plan : (list1 list2 : List ℕ) → length list1 ≡ max-radios → list2 ≡ paste list1 0 (drop start os) size
+        → Planned true a b g os (plan-of start size 0) list2
     whole-plan list1 list2 room e =
         plan-end r true a b k k start size 0 cs1 list1 list2 refl refl refl (ek ∙ level-is r) (ek ∙ level-is r) refl refl (done list1) room (e ∙ written)
       where
@@ -93,7 +96,7 @@ module _ {a b : ℕ} {ts ns os ps cs : List ℕ} (r : Ready true (length os) a b
   -- as the code names its values
   pub whole-lent : (from many : ℕ) → (from ≡ level-start ns k) × (many ≡ level-size ns k) → (t : Bool)
       → t ≡ all (stays-linked a b k cs) (stretch os from many) → t ≡ true → (list1 list2 : List ℕ) → length list1 ≡ max-radios
-      → list2 ≡ paste list1 0 (drop from os) (from + many - from) → Planned true a b g os from many 0 list2
+      → list2 ≡ paste list1 0 (drop from os) (from + many - from) → Planned true a b g os (plan-of from many 0) list2
   whole-lent from many at t et h list1 list2 room e =
       let same : from + many - from ≡ many = omega arith in
       rw (at .0, at .1)

@@ -4,10 +4,12 @@ use Rattle.lists.{specs.Kit.{_≡_, refl, sym, ap, _∙_, _⊎_, inl, inr, Bool
 use Rattle.lists.{specs.Kit.{_≤_, _<_, arith, add-one, bitAnd, and-le-l, trailingZeros, leb, eqb, length, getD, set, drop, length-set, drop-cons}}
 use Rattle.lists.{specs.Kit.{getD-set-other, drop-length, eq-eqb, ne-eqb}, specs.Lists.{range, filter}, proofs.Tests.{bool-cases}, proofs.Member.{in-left}}
 use Rattle.lists.{proofs.Distinct.{distinct-left}, proofs.Filter.{filter-filter}, proofs.Parts.{length-cond}}
-use Rattle.mesh.{specs.Limits.{max-radios, row-bytes}, specs.Tables.{digit, marked, put-bit}, proofs.Tables.Laws.{length-put-bit}}
+use Rattle.mesh.{specs.Limits.{max-radios, row-bytes}, specs.Tables.{digit, marked}}
 use Rattle.rows.{specs.Rows.{row-from, set-bits, row-word, word-of}, proofs.WordLaws.{set-bits-nothing, set-bits-lowest}, proofs.RowWords.{row-from-zero}}
 use Rattle.rows.{proofs.RowWords.{row-from-end, row-from-word, words-from, marked-word, word-of-whole}, specs.Sets.{in-set}, proofs.SetLaws.{digit-and}}
 use Rattle.plan.specs.Turns.{end-counted, counter-less, released, place-marked, places-released, places-fitting, near-left, Releasable}
+use Rattle.rows.proofs.SetLaws.{length-put-in}
+use Rattle.rows.specs.Sets.{put-in}
 
 -- ---- lengths
 
@@ -18,7 +20,7 @@ length-counter-less ns k v cs = length-cond (eqb (getD ns v 0) k) (set cs v (get
 pub length-place-marked : (ns ps : List ℕ) (k m v : ℕ) (cs fs : List ℕ) → length (place-marked ns ps k m v cs fs) ≡ length fs
 unfolding place-marked
 length-place-marked ns ps k m v cs fs =
-    length-cond (eqb (getD ns v 0) k && eqb (getD cs v 0) m) (put-bit true 0 (getD ps v 0) fs) fs (length-put-bit true 0 (getD ps v 0) fs)
+    length-cond (eqb (getD ns v 0) k && eqb (getD cs v 0) m) (put-in (getD ps v 0) fs) fs (length-put-in (getD ps v 0) fs)
 
 pub length-end-counted : (u : Bool) (k : ℕ) (ns : List ℕ) (v : ℕ) (cs : List ℕ) → length (end-counted u k ns v cs) ≡ length cs
 unfolding end-counted
@@ -39,8 +41,8 @@ pub length-places-fitting : (os cs : List ℕ) (m : ℕ) (ps fs : List ℕ) → 
 unfolding places-fitting
 length-places-fitting os cs m [] fs = refl
 length-places-fitting os cs m (p ∷ ps) fs =
-    let new = cond (leb (getD cs (getD os p 0) 0) m) (put-bit true 0 p fs) fs in
-    length-places-fitting os cs m ps new ∙ length-cond (leb (getD cs (getD os p 0) 0) m) (put-bit true 0 p fs) fs (length-put-bit true 0 p fs)
+    let new = cond (leb (getD cs (getD os p 0) 0) m) (put-in p fs) fs in
+    length-places-fitting os cs m ps new ∙ length-cond (leb (getD cs (getD os p 0) 0) m) (put-in p fs) fs (length-put-in p fs)
 
 -- from p on to the stretch's end is left
 pub record Fitting-from (order counters : List ℕ) (most start size : ℕ) (old : List ℕ) (p : ℕ) (fits : List ℕ) : Type 0 where
@@ -56,16 +58,16 @@ module _ (os cs : List ℕ) (m start size : ℕ) (old : List ℕ) where
     is = let e : start + size - start ≡ size = omega arith in ap (λ (x : ℕ). places-fitting os cs m (range start x) old) e;
   }
 
-  pub fitting-turn : (p : ℕ) (fits new : List ℕ) → p < start + size → new ≡ cond (leb (getD cs (getD os p 0) 0) m) (put-bit true 0 p fits) fits
+  pub fitting-turn : (p : ℕ) (fits new : List ℕ) → p < start + size → new ≡ cond (leb (getD cs (getD os p 0) 0) m) (put-in p fits) fits
       → Fitting-from os cs m start size old p fits → Fitting-from os cs m start size old (p + 1) new
   unfolding places-fitting range
   fitting-turn p fits new l e h = record {
-    long = ap length e ∙ length-cond (leb (getD cs (getD os p 0) 0) m) (put-bit true 0 p fits) fits (length-put-bit true 0 p fits) ∙ h .long;
+    long = ap length e ∙ length-cond (leb (getD cs (getD os p 0) 0) m) (put-in p fits) fits (length-put-in p fits) ∙ h .long;
     low = (omega (arith, h .low .0), omega arith);
     is =
         let parts : start + size - p ≡ suc (start + size - (p + 1)) = omega arith in
         ap (places-fitting os cs m (range (p + 1) (start + size - (p + 1)))) e
-        ∙ ap (λ (x : ℕ). places-fitting os cs m (range x (start + size - (p + 1))) (cond (leb (getD cs (getD os p 0) 0) m) (put-bit true 0 p fits) fits)) (add-one p)
+        ∙ ap (λ (x : ℕ). places-fitting os cs m (range x (start + size - (p + 1))) (cond (leb (getD cs (getD os p 0) 0) m) (put-in p fits) fits)) (add-one p)
         ∙ sym (ap (λ (x : ℕ). places-fitting os cs m (range p x) fits) parts)
         ∙ h .is;
   }
@@ -87,7 +89,7 @@ module _ (ns ps : List ℕ) (k m v : ℕ) (cs fs : List ℕ) where
   level-less e = rw (eq-eqb (getD ns v 0) k e)
 
   pub release-fits : getD ns v 0 ≡ k → getD less v 0 ≡ m
-      → (less ≡ counter-less ns k v cs) × (put-bit true 0 (getD ps v 0) fs ≡ place-marked ns ps k m v (counter-less ns k v cs) fs)
+      → (less ≡ counter-less ns k v cs) × (put-in (getD ps v 0) fs ≡ place-marked ns ps k m v (counter-less ns k v cs) fs)
   unfolding place-marked
   release-fits e f = (sym (level-less e), rw (level-less e, eq-eqb (getD ns v 0) k e, eq-eqb (getD less v 0) m f))
 

@@ -15,8 +15,9 @@ use Rattle.mesh.{specs.Levels.{new-order}, specs.Tables.{tables, graph-in}, spe
 use Rattle.mesh.{proofs.Links.Peel.{takes-permutation}}
 use Rattle.walks.specs.Walk.{Few-front}
 use Rattle.plan.specs.{Planned.{changed-part}, Plans.{Ready, Planned}, Places.{level-start, level-size, beginning-end}, Peels.{linked-after, Level}}
-use Rattle.plan.specs.{Walks.{radios-of, joined, Walk-site, Walk-done}}
+use Rattle.plan.specs.{Walks.{radios-of, joined, Walk-site, Walk-done, rise-of, part-of}}
 use Rattle.plan.proofs.PlanLevel.{a-below, b-below, is-valid, is-once, number-is, level-is, above-is, stretch-fits, is-level, row-is, row-few}
+use Rattle.plan.specs.Plans.{plan-of}
 use Rattle.walks.proofs.Beginning as beginning
 
 -- ---- the beginning end
@@ -230,7 +231,7 @@ module _ {a b : ℕ} {ts ns os ps cs : List ℕ} (r : Ready true (length os) a b
         rw (← part-rest, ← highs-high, eK)
         (beginning.tail-few max-neighbours a b g os (is-valid r) (r .allowed) (take first os) e rest cut (pick .end) no-end)
 
-    pub site : Walk-site a b k first size ts ns tail ps
+    pub site : Walk-site (rise-of a b k) (part-of first size) ts ns tail ps
     site = record {
       small = omega (arith, all-radios, r .small);
       numbers-length = r .numbers-length ∙ sym all-radios;
@@ -257,7 +258,7 @@ module _ {a b : ℕ} {ts ns os ps cs : List ℕ} (r : Ready true (length os) a b
 
     -- ---- what a walk comes to
 
-    module _ (front taken : ℕ) (list : List ℕ) (done : Walk-done a b k first size ts tail front taken list) where
+    module _ (front taken : ℕ) (list : List ℕ) (done : Walk-done (rise-of a b k) (part-of first size) ts tail front taken list) where
       abbrev old : List ℕ
       old = drop front part
 
@@ -321,7 +322,7 @@ module _ {a b : ℕ} {ts ns os ps cs : List ℕ} (r : Ready true (length os) a b
           let is : getD (new ++ stuck) i 0 ≡ getD list i 0 = ap (λ (z : List ℕ). getD z i 0) (sym listed) ∙ getD-take front list i 0 l in
           rw is at (walked-in (getD (new ++ stuck) i 0) (in-getD (new ++ stuck) i (omega (arith, ap length listed, front-long))))
 
-      pub walked-plan : Planned true a b g os first front taken list
+      pub walked-plan : Planned true a b g os (plan-of first front taken) list
       unfolding changed-part graph-in
       walked-plan = record {
         fits = omega (arith, done .fits, sizes, stretch-fits r k);
@@ -340,7 +341,7 @@ module _ {a b : ℕ} {ts ns os ps cs : List ℕ} (r : Ready true (length os) a b
     abbrev Few-later : Type 0
     Few-later = count (linked after e) (drop 1 part) + count (linked after e) high ≤ k
 
-    unmoved-plan : Few-later → (list : List ℕ) → length list ≡ max-radios → Planned true a b g os first 0 0 list
+    unmoved-plan : Few-later → (list : List ℕ) → length list ≡ max-radios → Planned true a b g os (plan-of first 0 0) list
     unfolding changed-part graph-in member
     unmoved-plan h list room = record {
       fits = omega (arith, inside);
@@ -359,7 +360,7 @@ module _ {a b : ℕ} {ts ns os ps cs : List ℕ} (r : Ready true (length os) a b
 
     -- as a row tells it
     pub settled-plan : leb (count (joined a b first ts tail (getD tail 0 0)) (drop 1 tail)) k ≡ true → (list : List ℕ) → length list ≡ max-radios
-        → Planned true a b g os first 0 0 list
+        → Planned true a b g os (plan-of first 0 0) list
     settled-plan h =
         unmoved-plan (omega (arith, few-later, ap (count (linked after e)) behind, count-append (linked after e) (drop 1 part) high))
       where
@@ -381,20 +382,20 @@ module _ {a b : ℕ} {ts ns os ps cs : List ℕ} (r : Ready true (length os) a b
       lent-is : lent ≡ tail
       lent-is = el ∙ take-all (length os - from) (drop from os) (omega (arith, length-drop from os)) ∙ ap (λ (x : ℕ). drop x os) ef
 
-      pub site-lent : Walk-site a b k from size ts ns lent ps
+      pub site-lent : Walk-site (rise-of a b k) (part-of from size) ts ns lent ps
       site-lent = rw (lent-is, ef) site
 
       pub settled-lent : (t : Bool) (list : List ℕ) → t ≡ leb (count (joined a b from ts lent (getD lent 0 0)) (drop 1 lent)) k → t ≡ true
-          → length list ≡ max-radios → Planned true a b g os from 0 0 list
+          → length list ≡ max-radios → Planned true a b g os (plan-of from 0 0) list
       settled-lent t list e h room = rw ef (settled-plan (rw (lent-is, ef) at (sym e ∙ h)) list room)
 
-      pub walked-lent : (at front taken : ℕ) (list : List ℕ) → at ≡ from → Walk-done a b k from size ts lent front taken list
-          → Planned true a b g os at front taken list
+      pub walked-lent : (at front taken : ℕ) (list : List ℕ) → at ≡ from → Walk-done (rise-of a b k) (part-of from size) ts lent front taken list
+          → Planned true a b g os (plan-of at front taken) list
       walked-lent at front taken list e done = rw (e, ef) (walked-plan front taken list (rw (lent-is, ef) at done))
 
 -- a plan that moves nothing, as the code names its values
 pub planned-as : {a b from at front taken : ℕ} {g : Graph} {os list : List ℕ} → (at ≡ from) × (front ≡ 0) × (taken ≡ 0)
-    → Planned true a b g os from 0 0 list → Planned true a b g os at front taken list
+    → Planned true a b g os (plan-of from 0 0) list → Planned true a b g os (plan-of at front taken) list
 planned-as e p = rw (e .0, e .1, e .2) p
 
 -- ends that have an entry in both tables

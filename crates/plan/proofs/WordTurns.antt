@@ -69,7 +69,7 @@ put-other : (v w : ℕ) (ws : List ℕ) → length ws ≡ 8 → v < max-radios �
 put-other v w ws long l ne = in-put-in v w ws (omega arith) ∙ rw (ne-eqb v w (λ e. ne (sym e)))
 
 module _ {rise : Rise} {span : Part} {ts ns tail ps : List ℕ}
-    (s : Walk-site (rise .a) (rise .b) (rise .most) (span .first) (span .size) ts ns tail ps) where
+    (s : Walk-site rise span ts ns tail ps) where
   abbrev a : ℕ
   a = rise .a
 
@@ -691,7 +691,7 @@ module _ {rise : Rise} {span : Part} {ts ns tail ps : List ℕ}
     words-entries = (omega (arith, st .passed, front-fits .1), entries.marked-stand first size tail (st .stays) (s .fits))
 
     pub words-end : 1 ≤ front → (p : ℕ) → stop-place ≤ p → p ≡ next-turn size front taken due → (list1 : List ℕ)
-        → list1 ≡ sets list taken (entries-at first tail (set-places stay)) → Walk-done a b k first size ts tail front taken list1
+        → list1 ≡ sets list taken (entries-at first tail (set-places stay)) → Walk-done rise span ts tail front taken list1
     words-end some p stop next list1 made = walk-over s front taken list (st .walking) (st .room) (st .passed) some (st .stays) way list1 made
       where
         way : (front ≤ taken) ⊎ (((q : ℕ) → q < front → due-at q ≡ false) × (size ≤ front))

@@ -5,7 +5,7 @@
 use Rattle.lists.specs.Kit.{_≡_, Bool, List, ℕ, min, length}
 use Rattle.mesh.specs.{Tables.{Tables, graph-in}, Sound.{sound}}
 use Rattle.calls.specs.Questions.{lengths-of, link-refusal}
-use Rattle.plan.specs.Plans.{Ready, Planned}
+use Rattle.plan.specs.Plans.{Ready, plan-of, Planned}
 
 -- `answer` is the length of the answer table
 pub record Asked (up : Bool) (n a b : ℕ) (t : Tables) (answer : ℕ) (places highs : List ℕ) (r : ℕ) : Type 0 where
@@ -16,5 +16,5 @@ pub record Asked (up : Bool) (n a b : ℕ) (t : Tables) (answer : ℕ) (places h
 -- plan's entries it holds anything.
 pub record Plan-contract (up : Bool) (n a b : ℕ) (t : Tables) (answer : ℕ) (lent : List ℕ) (r start size taken : ℕ) (stretch : List ℕ) : Type 0 where
   pub number : r ≡ link-refusal up n a b (lengths-of t) (min answer (length lent)) (sound n t) (graph-in n (t .links))
-  pub planned : r ≡ 0 → Planned up a b (graph-in n (t .links)) (t .order) start size taken stretch
+  pub planned : r ≡ 0 → Planned up a b (graph-in n (t .links)) (t .order) (plan-of start size taken) stretch
   pub refused : (r ≡ 0 → ⊥) → (start ≡ 0) × (size ≡ 0) × (taken ≡ 0) × (stretch ≡ lent)

@@ -25,11 +25,11 @@ pub(crate) fn plan_down(
 ) -> Plan
     requires ready { ⌜ Ready false (length (now order)) a b (tables (now links) (now numbers) (now order)) (now places) (now highs) ⌝ }
     requires room { ⌜ length (now stretch) ≡ max-radios ⌝ }
-    ensures { λ r. ⌜ Planned false a b (graph-in (length (now (order .entry))) (now (links .entry))) (now (order .entry)) (r .start)
-        (r .size) (r .taken) (now (stretch .exit)) ⌝ }
+    ensures { λ r. ⌜ Planned false a b (graph-in (length (now (order .entry))) (now (links .entry))) (now (order .entry)) r
+        (now (stretch .exit)) ⌝ }
 {
     let call = peel::call_at(false, a, b, numbers);
-    let mut fits = [0u8; Site::ROW_BYTES];
+    let mut fits = [0u64; 8];
     let ends = ends::both(a as u16, b as u16);
     turn::release(
         &ends,

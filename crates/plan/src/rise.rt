@@ -39,8 +39,8 @@ fn plan_on(
     requires ready { ⌜ Ready true (length (now order)) (rise .a) (rise .b) (tables (now links) (now numbers) (now order)) (now places) (now highs) ⌝ }
     requires room { ⌜ length (now stretch) ≡ max-radios ⌝ }
     requires begins { ⌜ Begins (rise .a) (rise .b) (rise .most) first (now numbers) (now places) ⌝ }
-    ensures { λ r. ⌜ Planned true (rise .a) (rise .b) (graph-in (length (now (order .entry))) (now (links .entry))) (now (order .entry)) (r .start)
-        (r .size) (r .taken) (now (stretch .exit)) ⌝ }
+    ensures { λ r. ⌜ Planned true (rise .a) (rise .b) (graph-in (length (now (order .entry))) (now (links .entry))) (now (order .entry)) r
+        (now (stretch .exit)) ⌝ }
 {
     let tail = &order[first..];
     if walk::settled(rise, first, links, numbers, tail, places) {
@@ -117,8 +117,8 @@ pub(crate) fn plan_up(
 ) -> Plan
     requires ready { ⌜ Ready true (length (now order)) a b (tables (now links) (now numbers) (now order)) (now places) (now highs) ⌝ }
     requires room { ⌜ length (now stretch) ≡ max-radios ⌝ }
-    ensures { λ r. ⌜ Planned true a b (graph-in (length (now (order .entry))) (now (links .entry))) (now (order .entry)) (r .start)
-        (r .size) (r .taken) (now (stretch .exit)) ⌝ }
+    ensures { λ r. ⌜ Planned true a b (graph-in (length (now (order .entry))) (now (links .entry))) (now (order .entry)) r
+        (now (stretch .exit)) ⌝ }
 {
     let most = ends::lower(numbers[a as usize], numbers[b as usize]);
     let e = ends::beginning(a as usize, b as usize, numbers, places);

@@ -9,24 +9,24 @@ returns c = next-none _ _ _ _ _ (c .if1 .taken)
 returns-2 : tie.Need-returns-2
 returns-2 c =
     let at = c .before in
-    next-before _ _ _ _ _ _ (at .before .before .if1 .left) (at .before .first-marked-arg .given .0) (at .first-marked .ensures) (omega (arith, c .if2 .taken))
+    next-before _ _ _ _ _ _ (at .before .if1 .left) (at .lowest .ensures) (omega (arith, c .if2 .taken))
 
 returns-3 : tie.Need-returns-3
 returns-3 c =
     let at = c .before .before in
-    next-before _ _ _ _ _ _ (at .before .before .if1 .left) (at .before .first-marked-arg .given .0) (at .first-marked .ensures)
+    next-before _ _ _ _ _ _ (at .before .if1 .left) (at .lowest .ensures)
     (omega (arith, c .before .if2 .left, c .if3 .taken))
 
 returns-4 : tie.Need-returns-4
 returns-4 c =
     let at = c .before .before .before in
-    next-end _ _ _ _ _ _ (at .before .before .if1 .left) (at .before .first-marked-arg .given .0) (at .first-marked .ensures)
+    next-end _ _ _ _ _ _ (at .before .if1 .left) (at .lowest .ensures)
     (omega (arith, c .before .before .if2 .left, c .before .if3 .left)) (c .if4 .taken)
 
 returns-5 : tie.Need-returns-5
 returns-5 c =
     let at = c .before .before .before in
-    next-on _ _ _ _ _ _ (at .before .before .if1 .left) (at .before .first-marked-arg .given .0) (at .first-marked .ensures)
+    next-on _ _ _ _ _ _ (at .before .if1 .left) (at .lowest .ensures)
     (omega (arith, c .before .before .if2 .left, c .before .if3 .left)) (c .if4 .left)
 
 pub next-spec : {M : Type 1} → statement M

@@ -1,7 +1,7 @@
 -- `turn::mark_fitting` meets its contract: the places from p on give what all places give (`Fitting-from`). The measure is the
 -- places that are left.
 use Rattle.lists.specs.Kit.{_≡_, _∙_, ⊎-elim, true, cond, _+_, _-_, arith, leb, getD, needs, le-leb, lt-leb}
-use Rattle.mesh.specs.Tables.{put-bit}
+use Rattle.rows.specs.Sets.{put-in}
 use Rattle.plan.proofs.{TurnLoops.{cond-passed, cond-failed, Fitting-from, fitting-none, fitting-turn, fitting-end}}
 use Rattle.plan.proofs.{turn.mark_fitting.Statement.{statement}}
 use Rattle.plan.proofs.turn.mark_fitting.Tie as tie
@@ -24,7 +24,7 @@ loop-again c =
     let call = at-loop .before .before .args in
     let p = at-loop .loop .p in
     let counter = getD (call .counters .now) (getD (call .order .now) p 0) 0 in
-    let new : c .if1 .fits ≡ cond (leb counter (call .most)) (put-bit true 0 p (at-loop .loop .fits)) (at-loop .loop .fits) =
+    let new : c .if1 .fits ≡ cond (leb counter (call .most)) (put-in p (at-loop .loop .fits)) (at-loop .loop .fits) =
     ⊎-elim (λ w. w .3 ∙ w .2 .ensures ∙ cond-passed _ _ _ (le-leb counter (call .most) (w .0 .taken)))
     (λ w. w .1 ∙ cond-failed _ _ _ (lt-leb counter (call .most) (w .0 .left))) (c .if1 .came) in
     fitting-turn _ _ _ _ _ _ p _ _ (c .before .before .before .loop-test .taken) new (at-loop .loop .inv)

@@ -70,10 +70,10 @@ returns c =
     let touched = c in
     let counted = c .before .before .before .before .before .before .before in
     let made = c .before .before .before .before .before .before .before .before .before .before .before in
-    let put = c .before .before .before .before .before .before .before .before .before .before .before .before .before in
+    let out = c .before .before .before .before .before .before .before .before .before .before .before .before .before in
     let start = c .before .before .before .before .before .before .before .before .before .before .before .before .before .before .before .before .before
     .before .before .before .before in (
-      look-holds (start .pre .0) (start .pre .1) (start .pre .2) _ _ (made .neighbours-after .ensures) _ (put .put .ensures) _ _ _ (counted .count-left .ensures)
+      look-holds (start .pre .0) (start .pre .1) (start .pre .2) _ _ (made .neighbours-after .ensures) _ (out .take-out .ensures) _ _ _ (counted .count-left .ensures)
           (c .before .before .before .before .before .if1 .taken) (touched .touch .ensures) (c .before .before .before .put-in .ensures),
       (refl, omega arith),
     )
@@ -91,14 +91,14 @@ element-write-list c =
 release-requires : tie.Need-release-requires
 release-requires c κs =
     let made = c .before .before .before .before .before .before .before .before .before .before .before in
-    let put = c .before .before .before .before .before .before .before .before .before .before .before .before .before in
+    let out = c .before .before .before .before .before .before .before .before .before .before .before .before .before in
     let start = c .before .before .before .before .before .before .before .before .before .before .before .before .before .before .before .before .before
     .before .before .before .before in
-    look-release (start .pre .0) (start .pre .1) (start .pre .2) _ _ (made .neighbours-after .ensures) _ (put .put .ensures)
+    look-release (start .pre .0) (start .pre .1) (start .pre .2) _ _ (made .neighbours-after .ensures) _ (out .take-out .ensures)
     (made .neighbours-after .kept .1 .1 .1 .1 .1 .0)
 
-add-t33 : tie.Need-add-t33
-add-t33 c =
+add-t34 : tie.Need-add-t34
+add-t34 c =
     let start = c .before .before .before .before .before .before .before .before .before .before .before .before .before .before .before .before .before
     .before .before .before .before in
     omega (arith, start .pre .2 .0, start .pre .1 .passed, start .pre .0 .fits, start .pre .0 .small)
@@ -109,8 +109,8 @@ add-t20 c =
     .before .before .before .before .before in
     omega (arith, start .pre .2 .0, start .pre .1 .passed, start .pre .0 .fits, start .pre .0 .small)
 
-add-t54 : tie.Need-add-t54
-add-t54 c =
+add-t55 : tie.Need-add-t55
+add-t55 c =
     let start = c .before .before .before .before .before .before .before .before .before .before .before .before .before .before .before .before .before
     .before .before .before .before .before in
     omega (arith, start .pre .2 .0, start .pre .1 .passed, start .pre .0 .fits, start .pre .0 .small)
@@ -120,10 +120,10 @@ returns-2 c =
     let freed = c in
     let counted = c .before .before .before .before .before .before .before .before in
     let made = c .before .before .before .before .before .before .before .before .before .before .before .before in
-    let put = c .before .before .before .before .before .before .before .before .before .before .before .before .before .before in
+    let out = c .before .before .before .before .before .before .before .before .before .before .before .before .before .before in
     let start = c .before .before .before .before .before .before .before .before .before .before .before .before .before .before .before .before .before
     .before .before .before .before .before in (
-      look-takes (start .pre .0) (start .pre .1) (start .pre .2) _ _ (made .neighbours-after .ensures) _ (put .put .ensures) _ _ _ (counted .count-left .ensures)
+      look-takes (start .pre .0) (start .pre .1) (start .pre .2) _ _ (made .neighbours-after .ensures) _ (out .take-out .ensures) _ _ _ (counted .count-left .ensures)
           (c .before .before .before .before .before .before .if1 .left) (freed .release .ensures .0) (freed .release .ensures .1),
       (refl, omega arith),
     )
@@ -133,5 +133,5 @@ look-spec =
     tie.close (
     tie.spec (λ c. search needs) (λ c. search needs) (λ c. search needs) (λ c. search needs) (λ c κs. search needs) cast-neighbours-after (λ c. search needs)
     neighbours-after-requires (λ c. search needs) (λ c. search needs) (λ c. search needs) count-left-requires cast-held element-write-held (λ c. search needs)
-    (λ c κs. search needs) cast-counters element-write-counters (λ c. search needs) cast-touch touch-requires add-t33 returns mul-list element-write-list
-    (λ c. search needs) release-requires add-t20 add-t54 returns-2)
+    (λ c κs. search needs) cast-counters element-write-counters (λ c. search needs) cast-touch touch-requires add-t34 returns mul-list element-write-list
+    (λ c. search needs) release-requires add-t20 add-t55 returns-2)
