@@ -252,9 +252,9 @@ module _ (n : ℕ) (hs : List ℕ) (room : ℕ) (s : Of-size n hs) where
   unfolding one-sided one-sided-count
   marking-end w further k a e m l = record {
     counted =
-        λ t h. let c : k + total (pairs-of n hs) (range a (n - a)) ≡ total (pairs-of n hs) (range 0 n) = m .counted h in sym
+        λ h. let c : k + total (pairs-of n hs) (range a (n - a)) ≡ total (pairs-of n hs) (range 0 n) = m .counted h in sym
         (sym c ∙ rw (pairs-past n hs a l) (omega arith));
-    table = λ t long.
+    table = λ long.
         table-eq n further _ (m .long ∙ e ∙ long) (length-bit-table n (heard-alone hs)) (m .bytes) (bytes-bit-table n (heard-alone hs))
         (λ x y lx ly. m .marks (e ∙ long) x y lx ly ∙ rw (lt-ltb x a (omega (arith, lx, l))) (sym (marked-bit-table n (heard-alone hs) x y lx ly)));
   }

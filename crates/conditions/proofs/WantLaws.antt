@@ -12,7 +12,7 @@ use Rattle.mesh.{specs.Limits.{max-radios, row-bytes}, specs.Tables.{digit, mar
 use Rattle.mesh.{proofs.Tables.Laws.{length-bit-table, marked-bit-table}, proofs.Tables.Rows.{within-of}}
 use Rattle.rows.{specs.Rows.{set-bits, row-word}, proofs.RowWords.{marked-word, words-from, words-end}}
 use Rattle.calls.specs.Heard.{agreed, heard-alone, one-sided}
-use Rattle.conditions.specs.Hearing.{Of-size, Is-prefix, wanted, wanted-by, wanted-in, above-from, Listed-from, Wanted-listed}
+use Rattle.conditions.specs.Hearing.{Of-size, Is-prefix, wanted, wanted-by, wanted-in, above-from, Listed-from}
 use Rattle.conditions.proofs.{TallyLaws.{word-lowest, word-less, word-none}, AskLaws.{agreed-past}}
 
 -- ---- words
@@ -264,12 +264,8 @@ module _ (u : Bool) (hs ws ts : List ℕ) (a n : ℕ) (sh : Of-size n hs) (sw : 
       let o = d .is (omega (arith, room, ap length above-is)) in
       record { counted = omega (arith, o .0, ap length above-is); listed = o .1 ∙ above-is }
 
--- ---- a row that is not whole
+-- ---- the one-sided pairs
 
-pub further-long : (n : ℕ) (hs ws : List ℕ) → ws ≡ one-sided n hs → length ws ≡ row-bytes * n
+pub length-one-sided : (n : ℕ) (hs ws : List ℕ) → ws ≡ one-sided n hs → length ws ≡ row-bytes * n
 unfolding one-sided
-further-long n hs ws e = ap length e ∙ length-bit-table n (heard-alone hs)
-
-pub wanted-short : (u : Bool) (hs ws ts : List ℕ) (a : ℕ) (old new : List ℕ) → ((n : ℕ) → Of-size n hs → ws ≡ one-sided n hs → Of-size n ts → a < n → ⊥)
-    → Wanted-listed u hs ws ts a old 0 new
-wanted-short u hs ws ts a old new never = record { is = λ n sh sw st w l o. absurd (never n sh sw st l) }
+length-one-sided n hs ws e = ap length e ∙ length-bit-table n (heard-alone hs)

@@ -1,7 +1,7 @@
 -- A plan applied, on plain values: what is written is what an accepted link call comes to.
 -- In order: laws of lists, a bound on numbers, the changed radios, the numbers, the order, the call.
 use Rattle.lists.{specs.Kit.{_≡_, sym, ap, ap₂, _∙_, _⊎_, inl, inr, Bool, true, false, _&&_, not, List, [], _∷_, ℕ, suc, _+_, _-_, _≤_, _<_, arith, le-trans}}
-use Rattle.lists.{specs.Kit.{eqb, le-leb, ℤ, length, getD, take, drop, length-drop, length-take-le, take-all, ext-getD, getD-take, getD-drop}}
+use Rattle.lists.{specs.Kit.{eqb, ℤ, length, getD, take, drop, length-drop, length-take-le, take-all, ext-getD, getD-take, getD-drop}}
 use Rattle.lists.{specs.Lists.{range, count, filter, member, overwrite, In, Entries-below}, specs.Facts.{Distinct}, proofs.Tests.{bool-cases, never, and-left}}
 use Rattle.lists.{proofs.Member.{in-member, member-in, not-member, getD-of-in}, proofs.Range.{range-in, length-range, distinct-range}}
 use Rattle.lists.{proofs.Count.{count-mono, count-le-length}, proofs.Filter.{length-filter, filter-ext, distinct-filter, filter-range-within}}
@@ -13,7 +13,7 @@ use Rattle.mesh.{specs.Valid.{Valid, smaller, larger}}
 use Rattle.calls.specs.{Switches.{switch, switched}, Outcomes.{reply, linked-with}, declared.Reply.{Reply}}
 use Rattle.tables.{specs.Steps.{stepped, all-stepped}, proofs.StepLaws.{length-all-stepped, getD-all-stepped-other, getD-all-stepped-listed}}
 use Rattle.plan.specs.{Plans.{Planned, Applicable, plan-of}, Planned.{changed-part}}
-use Rattle.links.specs.Changes.{in-order, counted-step, plan-fits, Applied}
+use Rattle.links.specs.Changes.{in-order, counted-step, Plan-fits, Applied}
 use Rattle.links.proofs.ChangeLaws.{counted-step-length}
 
 -- ---- a bound on numbers
@@ -111,11 +111,9 @@ module _ (up : Bool) (n a b : ℕ) (t : Tables) (answer : List ℕ) (ok : Applic
   unfolding graph-in
   entries-planned = entries-changed-part up taken size stretch n (plan .taken-fits) (plan .long) (plan .radios)
 
-  pub planned-fits : n ≤ length (t .order) → plan-fits start size taken (length stretch) (length (t .order)) ≡ true
-  unfolding plan-fits graph-in
-  planned-fits long =
-      let fits : start + size ≤ length (t .order) = omega (arith, plan .fits) in
-      rw (le-leb taken size (plan .taken-fits), le-leb size (length stretch) (plan .long), le-leb (start + size) (length (t .order)) fits)
+  pub planned-fits : n ≤ length (t .order) → Plan-fits start size taken (length stretch) (length (t .order))
+  unfolding graph-in
+  planned-fits long = record { taken-fits = plan .taken-fits; long = plan .long; fits = omega (arith, plan .fits) }
 
   pub in-order-planned : in-order (changed-part up taken size stretch) ≡ cs
   unfolding graph-in

@@ -227,10 +227,10 @@ length-recounted ts ns vs hs =
     length-folded (λ v now. set now v (high-count ns v (neighbours-of ts v))) (λ v now. length-set now v (high-count ns v (neighbours-of ts v))) vs hs
 
 -- what is left of the radios brings the counts to what all of them bring them to
-pub record Recounting (n : ℕ) (links numbers radios old rest highs : List ℕ) : Type 0 where
-  pub long : length highs ≡ length old
+pub record Recounting (n : ℕ) (links numbers radios old rest not-lower : List ℕ) : Type 0 where
+  pub long : length not-lower ≡ length old
   pub known : (v : ℕ) → In v rest → v < n
-  pub is : recounted links numbers rest highs ≡ recounted links numbers radios old
+  pub is : recounted links numbers rest not-lower ≡ recounted links numbers radios old
 
 module _ (n : ℕ) (ts ns near old : List ℕ) where
   pub recounting-none : ((v : ℕ) → In v near → v < n) → Recounting n ts ns near old near old
@@ -260,7 +260,7 @@ module _ (n : ℕ) (ts ns near old : List ℕ) where
 
 -- the set bits of a word: each turn takes the lowest off
 module _ (n : ℕ) (ts ns : List ℕ) (first word : ℕ) (old : List ℕ) where
-  abbrev pub Word-recounting : (rest : ℕ) → (highs : List ℕ) → Type 0
+  abbrev pub Word-recounting : (rest : ℕ) → (not-lower : List ℕ) → Type 0
   Word-recounting rest now = (rest < 2 ^ 64) × Recounting n ts ns (set-bits 64 first word) old (set-bits 64 first rest) now
 
   module _ (rest : ℕ) (now : List ℕ) (some : rest ≡ 0 → ⊥) (h : Word-recounting rest now) where
@@ -288,7 +288,7 @@ abbrev pub radios-from : (words : List ℕ) → (j : ℕ) → List ℕ
 radios-from ws j = filter (in-set ws) (range (64 * j) (max-radios - 64 * j))
 
 module _ (n : ℕ) (ts ns ws old : List ℕ) where
-  abbrev pub Set-recounting : (j : ℕ) → (highs : List ℕ) → Type 0
+  abbrev pub Set-recounting : (j : ℕ) → (not-lower : List ℕ) → Type 0
   Set-recounting j now = (j ≤ 8) × Recounting n ts ns (set-radios ws) old (radios-from ws j) now
 
   pub set-none : ((v : ℕ) → In v (set-radios ws) → v < n) → Set-recounting 0 old

@@ -9,18 +9,17 @@ use Rattle.mesh.{specs.Levels.{changed}, specs.Tables.{Tables, tables, marked, 
 use Rattle.mesh.{proofs.Cores.Peeling.{getD-numbers}, proofs.Cores.KOrders.{k-order-certificate}, proofs.Links.Call.{changed-below, unchanged-number}}
 use Rattle.mesh.{proofs.Tables.Rows.{symmetric-of, within-of, few-of}}
 use Rattle.calls.{specs.Questions.{lengths-of, size-good, site-lengths, ends-refusal}, specs.Switches.{switch, switched}, specs.declared.Reply.{Reply}}
-use Rattle.calls.{proofs.QuestionLaws.{size-good-true, site-lengths-true}, proofs.ChainLaws.{ends-zero}, specs.Outcomes.{Linked}, proofs.SoundSwitches.{Good}}
+use Rattle.calls.{proofs.QuestionLaws.{size-good-true, site-lengths-true}, proofs.ChainLaws.{site-zero, ends-zero}, specs.Outcomes.{Linked}, proofs.SoundSwitches.{Good}}
 use Rattle.calls.{proofs.SoundSwitches.{good-valid, switched-good}}
 use Rattle.rows.{specs.Rows.{neighbours-of}, proofs.RowListLaws.{in-neighbours-of, member-neighbours-of, length-neighbours-of}}
-use Rattle.conditions.specs.Conditions.{Placed, Highs, high-count}
-use Rattle.soundness.{specs.Checks.{fits-sound}, proofs.HighCounts.{high-count-neighbours-in}, proofs.SoundSite.{Sound-site, fits-sound-site, site-good-fits}}
+use Rattle.conditions.specs.Conditions.{Placed, Not-lower, high-count}
+use Rattle.soundness.{specs.Checks.{fits-sound, Asked}, proofs.SoundSite.{Sound-site, fits-sound-site, site-good-fits}}
 use Rattle.soundness.{proofs.SoundSite.{site-good-sound, number-entry}}
-use Rattle.links.specs.{Changes.{Apply-contract}, Steps.{Prepared, Step-ready, Changed-by, Carried, Stepped, places-put, around, touched, recounted}}
+use Rattle.links.specs.{Changes.{Plan-fits, Applied}, Steps.{Prepared, Step-ready, Changed-by, Carried, Stepped, places-put, around, touched, recounted}}
 use Rattle.links.specs.{Steps.{Rows-known}}
-use Rattle.plan.{specs.Plans.{Ready, Planned, Applicable}, proofs.Asking.{right-of, high-numbers}, proofs.NearLaws.{neighbours-of-other}}
-use Rattle.links.proofs.{Applied.{planned-fits, applied-accepted}, PlacesLaws.{getD-paste-outside, length-places-put, placed-again}}
+use Rattle.plan.{specs.Plans.{Ready, Planned, Applicable, plan-of}, proofs.Asking.{right-of, ready-of}, proofs.NearLaws.{neighbours-of-other}}
+use Rattle.links.proofs.{Applied.{applied-accepted}, PlacesLaws.{getD-paste-outside, length-places-put, placed-again}}
 use Rattle.links.proofs.{CountLaws.{touched-ends, touched-around, getD-recounted, length-recounted}}
-use Rattle.plan.specs.Plans.{plan-of}
 
 -- ---- what is known of prepared tables
 
@@ -39,6 +38,17 @@ fits-good n t h =
       is-sound = and-right (site-lengths n (lengths-of t)) (sound n t) rest;
     }
 
+-- questions 1 to 3 got yes, and what they found is at hand
+pub prepared-asked : (n : ℕ) (t : Tables) (others : Bool) (ps hs : List ℕ) (q : ℕ) → Asked n t others ps hs q → q ≡ 0 → length ps ≡ max-radios
+    → length hs ≡ max-radios → Prepared n t ps hs
+prepared-asked n t others ps hs q asked zero lp lh = record {
+  good = site-good-fits n t others (site-zero n (lengths-of t) others (sound n t) 0 (sym (asked .number) ∙ zero) .0);
+  places-length = lp;
+  not-lower-length = lh;
+  placed = asked .placed zero;
+  counted = asked .counts zero;
+}
+
 -- rows that can be counted
 pub rows-known : (n : ℕ) (t : Tables) → Sound-site n t → Rows-known n (t .links) (t .numbers)
 rows-known n t s = record {
@@ -53,7 +63,7 @@ rows-known n t s = record {
     below v w l lw m (inl e) = ltb-true w n e
     below v w l lw m (inr e) = never (marked (t .links) v w) m (within-of n (t .links) (s .within) v w l (ltb-false w n e) lw)
 
-module _ {up : Bool} {n a b : ℕ} {t : Tables} {places highs : List ℕ} (k : Step-ready up n a b t places highs) where
+module _ {up : Bool} {n a b : ℕ} {t : Tables} {places not-lower : List ℕ} (k : Step-ready up n a b t places not-lower) where
   abbrev g : Graph
   g = graph-in n (t .links)
 
@@ -69,22 +79,12 @@ module _ {up : Bool} {n a b : ℕ} {t : Tables} {places highs : List ℕ} (k : S
 
   -- ---- the plan
 
-  pub step-plan : Ready up n a b t places highs
-  unfolding lengths-of graph-in
-  step-plan = record {
-    small = good .lent .most;
-    links-length = good .lent .lengths .links;
-    numbers-length = good .lent .lengths .numbers;
-    order-length = good .lent .lengths .order;
-    is-sound = good .is-sound;
-    allowed = allowed;
-    places-length = omega (arith, good .lent .most, k .prepared .places-length);
-    highs-length = omega (arith, good .lent .most, k .prepared .highs-length);
-    placed = λ i l low high. k .prepared .placed .at i l;
-    counted = λ v l level. k .prepared .counted .at v l
-        ∙ high-count-neighbours-in n t (good .is-sound) (good .lent .most) v l
-        ∙ high-numbers g (t .numbers) (site .numbers) v l;
-  }
+  pub step-plan : Ready up n a b t places not-lower
+  step-plan =
+      let p = k .prepared in
+      let lp : max-radios ≤ length places = omega (arith, p .places-length) in
+      let lh : max-radios ≤ length not-lower = omega (arith, p .not-lower-length) in
+      ready-of up n a b t true good places not-lower (p .placed) (p .counted) lp lh (k .asked)
 
   -- ---- what it is applied to
 
@@ -97,14 +97,19 @@ module _ {up : Bool} {n a b : ℕ} {t : Tables} {places highs : List ℕ} (k : S
     room = omega (arith, good .lent .most);
   }
 
-  pub step-changed : (start size taken : ℕ) (stretch : List ℕ) → Planned up a b g (t .order) (plan-of start size taken) stretch → (answer : List ℕ)
-      → length answer ≡ max-radios
-      → (r : Reply) (v : Tables) (x : List ℕ) → Apply-contract up a b start size taken stretch t answer r v x → Changed-by up n a b t v (r .count) x start size
+  -- what applying the plan wants
+  pub step-fits : (start size taken : ℕ) (stretch : List ℕ) → Planned up a b g (t .order) (plan-of start size taken) stretch
+      → Plan-fits start size taken (length stretch) (length (t .order))
+  unfolding lengths-of graph-in
+  step-fits start size taken stretch plan =
+      record { taken-fits = plan .taken-fits; long = plan .long; fits = omega (arith, plan .fits, good .lent .lengths .order) }
+
+  pub step-changed : (start size taken : ℕ) (stretch : List ℕ) → Planned up a b g (t .order) (plan-of start size taken) stretch → (answer : List ℕ) → length answer ≡ max-radios
+      → (r : Reply) (v : Tables) (x : List ℕ) → Applied up a b start size taken stretch t answer r v x → Changed-by up n a b t v (r .count) x start size
   unfolding switched lengths-of graph-in
   step-changed start size taken stretch plan answer room r v x d =
       let ok = applicable answer room in
-      let fit = planned-fits up n a b t answer ok start size taken stretch plan (omega (arith, good .lent .lengths .order)) in
-      let l = applied-accepted up n a b t answer ok start size taken stretch plan r v x (d .fitting fit) in
+      let l = applied-accepted up n a b t answer ok start size taken stretch plan r v x d in
       record {
         tables = ap (λ (o : Linked). o .tables) l;
         counted = ap (λ (o : Linked). o .reply .count) l;
@@ -158,8 +163,8 @@ module _ {up : Bool} {n a b : ℕ} {t : Tables} {places highs : List ℕ} (k : S
           ∙ unchanged-number up a b g w lw (not-member w cs not)
           ∙ sym (getD-numbers (relinked up a b g) w lw)
 
-  counts-after : (new : List ℕ) → new ≡ recounted (after .links) (after .numbers) (touched a b cs (after .links)) highs
-      → Highs n (after .links) (after .numbers) new
+  counts-after : (new : List ℕ) → new ≡ recounted (after .links) (after .numbers) (touched a b cs (after .links)) not-lower
+      → Not-lower n (after .links) (after .numbers) new
   unfolding graph-in
   counts-after new e = record { at = λ v l. ap (λ (hs : List ℕ). getD hs v 0) e ∙ count-of v l }
     where
@@ -175,16 +180,16 @@ module _ {up : Bool} {n a b : ℕ} {t : Tables} {places highs : List ℕ} (k : S
       )
 
       either : (v : ℕ) → v < n → (m : Bool) → member v (touched a b cs ts) ≡ m
-          → cond m (high-count (after .numbers) v (neighbours-of ts v)) (getD highs v 0) ≡ high-count (after .numbers) v (neighbours-of ts v)
+          → cond m (high-count (after .numbers) v (neighbours-of ts v)) (getD not-lower v 0) ≡ high-count (after .numbers) v (neighbours-of ts v)
       either v l true f = refl
       either v l false f =
           let u = untouched v (omega (arith, site .small)) f in
           k .prepared .counted .at v l ∙ kept-count v l (u .0) (u .1) (u .2)
 
       count-of : (v : ℕ) → v < n
-          → getD (recounted ts (after .numbers) (touched a b cs ts) highs) v 0 ≡ high-count (after .numbers) v (neighbours-of ts v)
+          → getD (recounted ts (after .numbers) (touched a b cs ts) not-lower) v 0 ≡ high-count (after .numbers) v (neighbours-of ts v)
       count-of v l =
-          getD-recounted ts (after .numbers) v (touched a b cs ts) highs (omega (arith, k .prepared .highs-length, site .small))
+          getD-recounted ts (after .numbers) v (touched a b cs ts) not-lower (omega (arith, k .prepared .not-lower-length, site .small))
           ∙ either v l (member v (touched a b cs ts)) refl
 
   -- as the code names its values: v are the tables after the change, k the count of changed radios, which stand in front of `list`
@@ -203,13 +208,13 @@ module _ {up : Bool} {n a b : ℕ} {t : Tables} {places highs : List ℕ} (k : S
     numbers-length = ap (λ (o : Tables). length (o .numbers)) (d .tables) ∙ site-after .numbers-long
 
     -- what counting anew wants
-    pub renew-ready : Rows-known (length (v .numbers)) (v .links) (v .numbers) × (length (v .numbers) ≤ length highs) × (a < length (v .numbers)) × (b < length (v .numbers))
+    pub renew-ready : Rows-known (length (v .numbers)) (v .links) (v .numbers) × (length (v .numbers) ≤ length not-lower) × (a < length (v .numbers)) × (b < length (v .numbers))
         × (length (take many list) ≡ many) × ((i : ℕ) → i < length (take many list) → getD (take many list) i 0 < length (v .numbers))
     unfolding graph-in
     renew-ready =
         let rows : Rows-known n (v .links) (v .numbers) = subst (λ (o : Tables). Rows-known n (o .links) (o .numbers)) (sym (d .tables)) (rows-known n after site-after) in (
           subst (λ (m : ℕ). Rows-known m (v .links) (v .numbers)) (sym numbers-length) rows,
-          omega (arith, numbers-length, k .prepared .highs-length, site .small),
+          omega (arith, numbers-length, k .prepared .not-lower-length, site .small),
           omega (arith, numbers-length, allowed .a-radio),
           omega (arith, numbers-length, allowed .b-radio),
           changed-long,
@@ -235,18 +240,18 @@ module _ {up : Bool} {n a b : ℕ} {t : Tables} {places highs : List ℕ} (k : S
 
     -- the tables after, prepared again
     pub step-carried : (p : List ℕ) → p ≡ places-put (v .order) (range start size) places
-        → (h : List ℕ) → h ≡ recounted (v .links) (v .numbers) (touched a b (take many list) (v .links)) highs → Carried up n a b t v p h
+        → (h : List ℕ) → h ≡ recounted (v .links) (v .numbers) (touched a b (take many list) (v .links)) not-lower → Carried up n a b t v p h
     step-carried p f h e =
         let again : Placed n (v .order) p =
         rw f (placed-again n (t .order) (v .order) places start size (once-distinct n (v .order) order-once) order-length (d .part-fits) (λ q l. omega (arith, order-known q l, k .prepared .places-length)) (d .unmoved) (k .prepared .placed)) in
-        let is : h ≡ recounted (after .links) (after .numbers) (touched a b cs (after .links)) highs =
+        let is : h ≡ recounted (after .links) (after .numbers) (touched a b cs (after .links)) not-lower =
         e ∙ rw (list-is, d .tables) in
         record {
           tables = d .tables;
           prepared = subst (λ (o : Tables). Prepared n o p h) (sym (d .tables)) (record {
             good = site-good-fits n after true good-after;
             places-length = ap length f ∙ length-places-put (v .order) (range start size) places ∙ k .prepared .places-length;
-            highs-length = ap length is ∙ length-recounted (after .links) (after .numbers) _ highs ∙ k .prepared .highs-length;
+            not-lower-length = ap length is ∙ length-recounted (after .links) (after .numbers) _ not-lower ∙ k .prepared .not-lower-length;
             placed = subst (λ (o : Tables). Placed n (o .order) p) (d .tables) again;
             counted = counts-after h is;
           });
@@ -254,17 +259,17 @@ module _ {up : Bool} {n a b : ℕ} {t : Tables} {places highs : List ℕ} (k : S
 
 -- ---- a step
 
-module _ (up : Bool) (n a b : ℕ) (t : Tables) (places highs : List ℕ) (k : Prepared n t places highs) (r : ℕ)
+module _ (up : Bool) (n a b : ℕ) (t : Tables) (places not-lower : List ℕ) (k : Prepared n t places not-lower) (r : ℕ)
     (asked : r ≡ ends-refusal max-neighbours up n a b (graph-in n (t .links))) where
   order-long : length (t .order) ≡ n
   unfolding lengths-of
   order-long = fits-good n t (k .good) .lent .lengths .order
 
-  pub step-refused : (r ≡ 0 → ⊥) → Stepped up n a b t r t places highs
+  pub step-refused : (r ≡ 0 → ⊥) → Stepped up n a b t r t places not-lower
   step-refused h = record { number = asked; done = λ z. absurd (h z); refused = λ z. refl; prepared = k }
 
-  pub step-ready : r ≡ 0 → Step-ready up (length (t .order)) a b t places highs
-  step-ready z = subst (λ (m : ℕ). Step-ready up m a b t places highs) (sym order-long) (record { prepared = k; asked = sym asked ∙ z })
+  pub step-ready : r ≡ 0 → Step-ready up (length (t .order)) a b t places not-lower
+  step-ready z = subst (λ (m : ℕ). Step-ready up m a b t places not-lower) (sym order-long) (record { prepared = k; asked = sym asked ∙ z })
 
   pub step-done : r ≡ 0 → (v : Tables) (p h : List ℕ) → Carried up (length (t .order)) a b t v p h → Stepped up n a b t 0 v p h
   step-done z v p h d =
@@ -272,7 +277,7 @@ module _ (up : Bool) (n a b : ℕ) (t : Tables) (places highs : List ℕ) (k : P
       record { number = sym z ∙ asked; done = λ y. c .tables; refused = λ y. absurd (y refl); prepared = c .prepared }
 
 -- questions 4 to 7 are put to rows that are proper
-pub step-asked : {n : ℕ} {t : Tables} {places highs : List ℕ} → Prepared n t places highs
+pub step-asked : {n : ℕ} {t : Tables} {places not-lower : List ℕ} → Prepared n t places not-lower
     → (n ≤ max-radios) × (length (t .links) ≡ row-bytes * n) × (rows-proper max-neighbours n (t .links) ≡ true)
 unfolding lengths-of
 step-asked {n} {t} k =

@@ -3,7 +3,7 @@
 use Rattle.lists.specs.Kit.{not-true, not-false, needs}
 use Rattle.mesh.specs.Tables.{tables}
 use Rattle.calls.specs.Questions.{lengths-of}
-use Rattle.soundness.proofs.{ExamineLaws.{asked-lengths, asked-sizes, asked-no, asked-yes}, asked.Statement.{statement}}
+use Rattle.soundness.proofs.{CheckLaws.{asked-lengths, asked-sizes, asked-no, asked-yes}, asked.Statement.{statement}}
 use Rattle.soundness.proofs.asked.Tie as tie
 
 returns : tie.Need-returns

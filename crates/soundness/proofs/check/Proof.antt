@@ -1,7 +1,7 @@
 -- `soundness::check` meets its contract: the third question is the value, and not a refusal.
 use Rattle.lists.specs.Kit.{needs}
 use Rattle.mesh.specs.Tables.{tables}
-use Rattle.soundness.proofs.{ExamineLaws.{check-sound, check-unsound, check-refused}, check.Statement.{statement}}
+use Rattle.soundness.proofs.{CheckLaws.{check-sound, check-unsound, check-refused}, check.Statement.{statement}}
 use Rattle.soundness.proofs.check.Tie as tie
 
 returns : tie.Need-returns

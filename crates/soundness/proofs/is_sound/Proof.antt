@@ -1,7 +1,7 @@
 -- `soundness::is_sound` meets its contract: with the order placed and its numbers rising, the rows decide (`sound-rows`).
 use Rattle.lists.specs.Kit.{not-true, not-false, needs}
 use Rattle.mesh.specs.Tables.{tables}
-use Rattle.soundness.proofs.{ExamineLaws.{place-room, held-unplaced, entries-below, held-falls, rows-room, held-rows}, is_sound.Statement.{statement}}
+use Rattle.soundness.proofs.{CheckLaws.{place-room, held-unplaced, entries-below, held-falls, rows-room, held-rows}, is_sound.Statement.{statement}}
 use Rattle.soundness.proofs.is_sound.Tie as tie
 
 place-requires : tie.Need-place-requires

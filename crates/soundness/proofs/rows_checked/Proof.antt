@@ -5,10 +5,10 @@ use Rattle.soundness.proofs.{AllRows.{Rows-so-far, rows-none, rows-bad,
 use Rattle.soundness.proofs.rows_checked.Tie as tie
 
 abbrev Inv-loop : tie.InvT-loop
-Inv-loop n links numbers places highs₀ highest a₀ highs a = Rows-so-far n links numbers places highs₀ highs a
+Inv-loop n links numbers places not-lower₀ highest a₀ not-lower a = Rows-so-far n links numbers places not-lower₀ not-lower a
 
 abbrev μ-loop : tie.MeasureT-loop
-μ-loop n links numbers places highs₀ highest a₀ highs a = n - a
+μ-loop n links numbers places not-lower₀ highest a₀ not-lower a = n - a
 
 loop-holds : tie.Need-loop-holds Inv-loop μ-loop
 loop-holds c = rows-none _ _ _ _ _

@@ -7,11 +7,11 @@ use Rattle.hearing.proofs.{HearLoops.{Row-switching, switching-none, sw
 use Rattle.hearing.proofs.hear.switch_row.Tie as tie
 
 abbrev Inv-loop : tie.InvT-loop
-Inv-loop up n a list links₀ numbers₀ order₀ places₀ highs₀ i₀ links numbers order places highs i =
-    Row-switching up n a list (tables links₀ numbers₀ order₀) (tables links numbers order) places highs i
+Inv-loop up n a list links₀ numbers₀ order₀ places₀ not-lower₀ i₀ links numbers order places not-lower i =
+    Row-switching up n a list (tables links₀ numbers₀ order₀) (tables links numbers order) places not-lower i
 
 abbrev μ-loop : tie.MeasureT-loop
-μ-loop up n a list links₀ numbers₀ order₀ places₀ highs₀ i₀ links numbers order places highs i = length list - i
+μ-loop up n a list links₀ numbers₀ order₀ places₀ not-lower₀ i₀ links numbers order places not-lower i = length list - i
 
 loop-holds : tie.Need-loop-holds Inv-loop μ-loop
 loop-holds c = switching-none _ _ _ _ (c .before .before .before .before .pre .0)

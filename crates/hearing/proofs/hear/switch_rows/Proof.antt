@@ -3,16 +3,16 @@
 use Rattle.lists.specs.Kit.{_≡_, refl, sym, _∙_, suc, _-_, length, needs}
 use Rattle.mesh.specs.{Limits.{max-neighbours}, Tables.{tables}}
 use Rattle.links.proofs.BatchLaws.{same-lengths}
-use Rattle.hearing.proofs.{HearLoops.{Rows-switching, rows-none, rows-fit, rows-long, rows-short, rows-turn, rows-done}}
+use Rattle.hearing.proofs.{HearLoops.{Rows-switching, rows-none, rows-whole, rows-fit, rows-long, rows-short, rows-turn, rows-done}}
 use Rattle.hearing.proofs.{hear.switch_rows.Statement.{statement}}
 use Rattle.hearing.proofs.hear.switch_rows.Tie as tie
 
 abbrev Inv-loop : tie.InvT-loop
-Inv-loop up n heard further links₀ numbers₀ order₀ places₀ highs₀ list₀ a₀ links numbers order places highs list a =
-    (length list ≡ suc max-neighbours) × Rows-switching up n heard further (tables links₀ numbers₀ order₀) (tables links numbers order) places highs a
+Inv-loop up n heard one-sided links₀ numbers₀ order₀ places₀ not-lower₀ list₀ a₀ links numbers order places not-lower list a =
+    (length list ≡ suc max-neighbours) × Rows-switching up n heard one-sided (tables links₀ numbers₀ order₀) (tables links numbers order) places not-lower a
 
 abbrev μ-loop : tie.MeasureT-loop
-μ-loop up n heard further links₀ numbers₀ order₀ places₀ highs₀ list₀ a₀ links numbers order places highs list a = n - a
+μ-loop up n heard one-sided links₀ numbers₀ order₀ places₀ not-lower₀ list₀ a₀ links numbers order places not-lower list a = n - a
 
 loop-holds : tie.Need-loop-holds Inv-loop μ-loop
 loop-holds c =
@@ -57,4 +57,5 @@ loop-again c =
 pub switch-rows-spec : {M : Type 1} → statement M
 switch-rows-spec =
     tie.close (
-    tie.spec Inv-loop μ-loop loop-holds slice-aggregate-list (λ c κs. search needs) array-share-prefix-list slice-aggregate-switch-row switch-row-requires (λ c. search needs) (λ c. search needs) loop-again (λ c. same-lengths (c .before .before .before .before .before .before .before .pre .0) (c .before .loop .inv .1 .ready) .links) (λ c. same-lengths (c .before .before .before .before .before .before .before .pre .0) (c .before .loop .inv .1 .ready) .numbers) (λ c. same-lengths (c .before .before .before .before .before .before .before .pre .0) (c .before .loop .inv .1 .ready) .order) (λ c. rows-done (c .before .loop .inv .1) (c .loop-test .left)))
+    tie.spec Inv-loop μ-loop loop-holds slice-aggregate-list
+    (λ c κs. rows-whole (c .before .before .before .loop .inv .1) (c .before .before .loop-test .taken)) array-share-prefix-list slice-aggregate-switch-row switch-row-requires (λ c. search needs) (λ c. search needs) loop-again (λ c. same-lengths (c .before .before .before .before .before .before .before .pre .0) (c .before .loop .inv .1 .ready) .links) (λ c. same-lengths (c .before .before .before .before .before .before .before .pre .0) (c .before .loop .inv .1 .ready) .numbers) (λ c. same-lengths (c .before .before .before .before .before .before .before .pre .0) (c .before .loop .inv .1 .ready) .order) (λ c. rows-done (c .before .loop .inv .1) (c .loop-test .left)))

@@ -8,10 +8,10 @@ use Rattle.hearing.proofs.one_sided.mark_row.Statement.{statement}
 use Rattle.hearing.proofs.one_sided.mark_row.Tie as tie
 
 abbrev Inv-loop : tie.InvT-loop
-Inv-loop heard a further₀ start end row n₀ k₀ further n k = Words-marking heard a further₀ k n further
+Inv-loop heard a one-sided₀ start end row n₀ k₀ one-sided n k = Words-marking heard a one-sided₀ k n one-sided
 
 abbrev μ-loop : tie.MeasureT-loop
-μ-loop heard a further₀ start end row n₀ k₀ further n k = 8 - k
+μ-loop heard a one-sided₀ start end row n₀ k₀ one-sided n k = 8 - k
 
 part-row-end : tie.Need-part-row-end Inv-loop μ-loop
 part-row-end c = omega (arith, c .before .before .pre)

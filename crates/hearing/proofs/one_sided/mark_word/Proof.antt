@@ -6,10 +6,10 @@ use Rattle.hearing.proofs.one_sided.mark_word.Statement.{statement}
 use Rattle.hearing.proofs.one_sided.mark_word.Tie as tie
 
 abbrev Inv-loop : tie.InvT-loop
-Inv-loop heard a first word further₀ n₀ rest₀ further n rest = Word-marking heard a first word further₀ rest n further
+Inv-loop heard a first word one-sided₀ n₀ rest₀ one-sided n rest = Word-marking heard a first word one-sided₀ rest n one-sided
 
 abbrev μ-loop : tie.MeasureT-loop
-μ-loop heard a first word further₀ n₀ rest₀ further n rest = rest
+μ-loop heard a first word one-sided₀ n₀ rest₀ one-sided n rest = rest
 
 add-mark-pair : tie.Need-add-mark-pair Inv-loop μ-loop
 add-mark-pair c =

@@ -7,11 +7,11 @@ use Rattle.links.proofs.{BatchLaws.{batching-halt}, batch.take_links.St
 use Rattle.links.proofs.batch.take_links.Tie as tie
 
 abbrev Inv-loop : tie.InvT-loop
-Inv-loop n list links₀ numbers₀ order₀ places₀ highs₀ done₀ at₀ links numbers order places highs done at =
-    Batching n list (tables links₀ numbers₀ order₀) (tables links numbers order) places highs done at
+Inv-loop n list links₀ numbers₀ order₀ places₀ not-lower₀ done₀ at₀ links numbers order places not-lower done at =
+    Batching n list (tables links₀ numbers₀ order₀) (tables links numbers order) places not-lower done at
 
 abbrev μ-loop : tie.MeasureT-loop
-μ-loop n list links₀ numbers₀ order₀ places₀ highs₀ done₀ at₀ links numbers order places highs done at = length list - at
+μ-loop n list links₀ numbers₀ order₀ places₀ not-lower₀ done₀ at₀ links numbers order places not-lower done at = length list - at
 
 loop-holds : tie.Need-loop-holds Inv-loop μ-loop
 loop-holds c = batching-none _ _ (c .before .before .before .before .pre .0)

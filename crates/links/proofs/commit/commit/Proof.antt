@@ -3,7 +3,7 @@
 use Rattle.lists.specs.Kit.{refl, sym, _≤_, arith, length, needs, not-true, not-false}
 use mir.Facts.{toZ-ofZ}
 use Rattle.mesh.specs.{Limits.{max-radios}, Tables.{tables}}
-use Rattle.links.proofs.{ProposalLaws.{commit-refused, commit-not, list-few, commit-accepted}, commit.commit.Statement.{statement}}
+use Rattle.links.proofs.{ProposalLaws.{commit-refused, commit-fits, commit-not, list-few, commit-accepted}, commit.commit.Statement.{statement}}
 use Rattle.links.proofs.commit.commit.Tie as tie
 
 returns : tie.Need-returns
@@ -11,10 +11,16 @@ returns c =
     let decided = c .before .before .before in
     let x = c .before .before .before .before .before .before .before .before .before .before .before .before .args in
     commit-refused (x .up) (x .n) (x .a) (x .b) (tables (x .links .now) (x .numbers .now) (x .order .now)) _ refl _ _ _ _ _ _
-    (decided .plan .ensures) (search needs) (x .step) (x .list .now) (c .before .if1 .taken) _ (c .refused .ensures .0) (c .refused .ensures .1) (c .refused .ensures .2)
+    (decided .plan .ensures) (x .step) (x .list .now) (c .before .if1 .taken) _ (c .refused .ensures .0) (c .refused .ensures .1) (c .refused .ensures .2)
 
 slice-aggregate-is-proposal : tie.Need-slice-aggregate-is-proposal
 slice-aggregate-is-proposal c = let yes = c .before in sym (yes .before .before .plan .ensures .planned (yes .if1 .left) .room)
+
+is-proposal-requires : tie.Need-is-proposal-requires
+is-proposal-requires c κs =
+    let yes = c .before in
+    let planned = yes .before .before .plan .ensures .planned (yes .if1 .left) in
+    (planned .taken-fits, planned .long)
 
 returns-2 : tie.Need-returns-2
 returns-2 c =
@@ -24,7 +30,7 @@ returns-2 c =
     let s = c .before .before .before .before .before .before .before .before .before .before .before .before .before .before .before in
     let x = s .args in
     commit-not (x .up) (x .n) (x .a) (x .b) (tables (x .links .now) (x .numbers .now) (x .order .now)) _ refl _ _ _ _ _ _
-    (decided .plan .ensures) (search needs) (x .step) (x .list .now) (yes .if1 .left)
+    (decided .plan .ensures) (x .step) (x .list .now) (yes .if1 .left)
     _ (asked .is-proposal .result) (toZ-ofZ (s .fits .step)) (asked .is-proposal .ensures) (not-true (asked .is-proposal .result) (c .before .if2 .taken)) _ (c .refused2 .ensures .0)
     (c .refused2 .ensures .1) (c .refused2 .ensures .2)
 
@@ -37,12 +43,20 @@ cast-count c =
     let x = s .args in
     let few : length (x .list .now) ≤ max-radios =
     list-few (x .up) (x .n) (x .a) (x .b) (tables (x .links .now) (x .numbers .now) (x .order .now)) _ refl _ _ _ _ _ _
-    (decided .plan .ensures) (search needs) (x .step) (x .list .now) (yes .if1 .left)
+    (decided .plan .ensures) (x .step) (x .list .now) (yes .if1 .left)
     _ (asked .is-proposal .result) (toZ-ofZ (s .fits .step)) (asked .is-proposal .ensures) (not-false (asked .is-proposal .result) (c .if2 .left)) in
     record { fits = omega (arith, few) }
 
 slice-aggregate-write : tie.Need-slice-aggregate-write
 slice-aggregate-write c = let yes = c .before .before .before .before in sym (yes .before .before .plan .ensures .planned (yes .if1 .left) .room)
+
+write-requires : tie.Need-write-requires
+write-requires c κs =
+    let yes = c .before .before .before .before .before .before .before in
+    let decided = yes .before .before in
+    let x = decided .before .before .before .before .before .before .before .before .before .args in
+    commit-fits (x .up) (x .n) (x .a) (x .b) (tables (x .links .now) (x .numbers .now) (x .order .now)) _ refl _ _ _ _ _ _
+    (decided .plan .ensures) (x .step) (x .list .now) (yes .if1 .left)
 
 returns-3 : tie.Need-returns-3
 returns-3 c =
@@ -54,11 +68,11 @@ returns-3 c =
     let s = c .before .before .before .before .before .before .before .before .before .before .before .before .before .before .before .before .before .before .before .before .before .before .before .before .before in
     let x = s .args in
     commit-accepted (x .up) (x .n) (x .a) (x .b) (tables (x .links .now) (x .numbers .now) (x .order .now)) _ refl _ _ _ _ _ _
-    (decided .plan .ensures) (search needs) (x .step) (x .list .now) (yes .if1 .left)
+    (decided .plan .ensures) (x .step) (x .list .now) (yes .if1 .left)
     _ (asked .is-proposal .result) (toZ-ofZ (s .fits .step)) (asked .is-proposal .ensures) (not-false (asked .is-proposal .result) (same .if2 .left)) _
     (done .write .ensures)
 
 pub commit-spec : {M : Type 1} → statement M
 commit-spec =
     tie.close (
-    tie.spec (λ c. search needs) (λ c κs. search needs) (λ c κs. search needs) (λ c. search needs) (λ c. search needs) (λ c. search needs) returns slice-aggregate-is-proposal (λ c κs. search needs) (λ c κs. search needs) (λ c. search needs) (λ c. search needs) (λ c. search needs) returns-2 cast-count slice-aggregate-write (λ c κs. search needs) (λ c. search needs) (λ c. search needs) (λ c. search needs) returns-3)
+    tie.spec (λ c. search needs) (λ c κs. search needs) (λ c κs. search needs) (λ c. search needs) (λ c. search needs) (λ c. search needs) returns slice-aggregate-is-proposal is-proposal-requires (λ c κs. search needs) (λ c. search needs) (λ c. search needs) (λ c. search needs) returns-2 cast-count slice-aggregate-write write-requires (λ c. search needs) (λ c. search needs) (λ c. search needs) returns-3)

@@ -5,10 +5,10 @@ use Rattle.links.proofs.{CountLaws.{Set-recounting, set-none, bits-know
 use Rattle.links.proofs.counts.recount.Tie as tie
 
 abbrev Inv-loop : tie.InvT-loop
-Inv-loop set links numbers highs₀ k₀ highs k = Set-recounting (length numbers) links numbers set highs₀ k highs
+Inv-loop set links numbers not-lower₀ k₀ not-lower k = Set-recounting (length numbers) links numbers set not-lower₀ k not-lower
 
 abbrev μ-loop : tie.MeasureT-loop
-μ-loop set links numbers highs₀ k₀ highs k = 8 - k
+μ-loop set links numbers not-lower₀ k₀ not-lower k = 8 - k
 
 loop-holds : tie.Need-loop-holds Inv-loop μ-loop
 loop-holds c = set-none _ _ _ _ _ (c .before .before .pre .2)

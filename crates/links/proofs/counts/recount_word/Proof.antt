@@ -6,10 +6,10 @@ use Rattle.links.proofs.{counts.recount_word.Statement.{statement}}
 use Rattle.links.proofs.counts.recount_word.Tie as tie
 
 abbrev Inv-loop : tie.InvT-loop
-Inv-loop word first links numbers highs₀ rest₀ highs rest = Word-recounting (length numbers) links numbers first word highs₀ rest highs
+Inv-loop word first links numbers not-lower₀ rest₀ not-lower rest = Word-recounting (length numbers) links numbers first word not-lower₀ rest not-lower
 
 abbrev μ-loop : tie.MeasureT-loop
-μ-loop word first links numbers highs₀ rest₀ highs rest = rest
+μ-loop word first links numbers not-lower₀ rest₀ not-lower rest = rest
 
 loop-holds : tie.Need-loop-holds Inv-loop μ-loop
 loop-holds c = (search needs, recounting-none _ _ _ _ _ (c .before .before .pre .3))
@@ -20,11 +20,11 @@ add-v c = omega (arith, trailing-le 64 (c .before .loop .rest), c .before .befor
 high-of-requires : tie.Need-high-of-requires Inv-loop μ-loop
 high-of-requires c κs = (c .before .before .before .before .pre .0, lowest-known _ _ _ _ _ _ (c .before .loop .rest) _ (c .loop-test .taken) (c .before .loop .inv))
 
-cast-highs : tie.Need-cast-highs Inv-loop μ-loop
-cast-highs c = omega (arith, trailing-le 64 (c .before .before .loop .rest), c .before .before .before .before .before .pre .2)
+cast-not-lower : tie.Need-cast-not-lower Inv-loop μ-loop
+cast-not-lower c = omega (arith, trailing-le 64 (c .before .before .loop .rest), c .before .before .before .before .before .pre .2)
 
-element-write-highs : tie.Need-element-write-highs Inv-loop μ-loop
-element-write-highs c =
+element-write-not-lower : tie.Need-element-write-not-lower Inv-loop μ-loop
+element-write-not-lower c =
     let at-loop = c .before .before in
     let start = at-loop .before .before .before in
     omega (arith, lowest-known _ _ _ _ _ _ (at-loop .loop .rest) _ (c .before .loop-test .taken) (at-loop .loop .inv), start .pre .0 .small)
@@ -40,7 +40,7 @@ loop-again c =
     let at-loop = c .before .before in
     let start = at-loop .before .before .before in
     word-recounted _ _ _ _ _ _ (at-loop .loop .rest) _ (c .before .loop-test .taken) (at-loop .loop .inv) _
-    (ap (λ (x : ℕ). set (at-loop .loop .highs) (start .args .first + trailingZeros 64 (at-loop .loop .rest)) x) (c .high-of .ensures))
+    (ap (λ (x : ℕ). set (at-loop .loop .not-lower) (start .args .first + trailingZeros 64 (at-loop .loop .rest)) x) (c .high-of .ensures))
 
 returns : tie.Need-returns Inv-loop μ-loop
 returns c = word-recounted-end _ _ _ _ _ _ _ _ (c .loop-test .left) (c .before .loop .inv)
@@ -48,4 +48,4 @@ returns c = word-recounted-end _ _ _ _ _ _ _ _ (c .loop-test .left) (c .before .
 pub recount-word-spec : {M : Type 1} → statement M
 recount-word-spec =
     tie.close (
-    tie.spec Inv-loop μ-loop loop-holds add-v high-of-requires cast-highs element-write-highs (λ c. search needs) loop-less loop-again returns)
+    tie.spec Inv-loop μ-loop loop-holds add-v high-of-requires cast-not-lower element-write-not-lower (λ c. search needs) loop-less loop-again returns)

@@ -49,7 +49,7 @@ returns c =
     let is =
     touched-listed (x .a) (x .b) (take (x .k) (x .list .now)) (x .links .now) _ _ _ (omega (arith, start .pre .2, start .pre .0 .small))
     (omega (arith, start .pre .3, start .pre .0 .small)) (joined .join-all .ensures) (put1 .put-in .ensures) (put2 .put-in2 .ensures) in
-    c .recount .ensures ∙ ap (λ (vs : List ℕ). recounted (x .links .now) (x .numbers .now) vs (x .highs .now)) is
+    c .recount .ensures ∙ ap (λ (vs : List ℕ). recounted (x .links .now) (x .numbers .now) vs (x .not-lower .now)) is
 
 pub renew-spec : {M : Type 1} → statement M
 renew-spec =

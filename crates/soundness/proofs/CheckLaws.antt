@@ -1,15 +1,13 @@
 -- The whole check on plain values: what its parts come back with decides soundness, and the calls over it.
-use Rattle.lists.{specs.Kit.{_≡_, refl, sym, ap, _∙_, _⊎_, inl, inr, Bool, true, false, _&&_, and-true, and-false, List, ℕ, _≤_, min, arith, eqb, length, getD}}
-use Rattle.lists.{specs.Lists.{range, all, Entries-below}, specs.Facts.{Each-once}, proofs.Tests.{bool-cases, never, and-left, and-right}}
-use Rattle.lists.{proofs.Range.{once-below}, proofs.Member.{in-getD}}
+use Rattle.lists.{specs.Kit.{_≡_, refl, sym, ap, _∙_, Bool, true, false, _&&_, and-false, List, ℕ, _≤_, arith, length, getD}}
+use Rattle.lists.{specs.Lists.{range, all, Entries-below}, specs.Facts.{Each-once}, proofs.Tests.{never}, proofs.Range.{once-below}, proofs.Member.{in-getD}}
 use Rattle.mesh.{specs.Limits.{max-radios, max-neighbours}, specs.Orders.{each-once, rising}, specs.Tables.{Tables}, specs.Sound.{rows-proper, number-in}}
 use Rattle.mesh.{specs.Sound.{sound, sound-within}, proofs.Cores.Orders.{each-once-of}}
-use Rattle.calls.{specs.Questions.{ask, Lengths, lengths-of, size-good, site-lengths, answer-length, lent-refusal, site-refusal, tables-refusal}}
-use Rattle.calls.{specs.Contracts.{Check-contract}, specs.Outcomes.{check-outcome}, proofs.ContractLaws.{value-refused, value-answered}}
-use Rattle.calls.{proofs.ChainLaws.{Lent-good, lent-zero, lent-yes, site-zero}, proofs.QuestionLaws.{true-size-good, true-site-lengths, true-answer-length}}
-use Rattle.calls.{proofs.QuestionLaws.{size-good-true, site-lengths-true, answer-length-true}}
+use Rattle.calls.{specs.Questions.{ask, lengths-of, size-good, site-lengths, lent-refusal, site-refusal, tables-refusal}, specs.Contracts.{Check-contract}}
+use Rattle.calls.{specs.Outcomes.{check-outcome}, proofs.ContractLaws.{value-refused, value-answered}}
+use Rattle.calls.{proofs.ChainLaws.{Lent-good, lent-zero, lent-yes, site-zero}}
 use Rattle.conditions.{specs.Conditions.{Placed, row-good}, proofs.RowByRow.{sound-rows}}
-use Rattle.soundness.specs.Checks.{Placing, Rows-room, Rows-checked, Sizes, Held, Asked, examinable, Examined, fits-sound}
+use Rattle.soundness.specs.Checks.{Placing, Rows-room, Rows-checked, Sizes, Held, Asked}
 
 -- ---- the conditions together
 
@@ -60,7 +58,7 @@ module _ (n : ℕ) (t : Tables) (ps hs : List ℕ) (sizes : Sizes n (lengths-of 
 
     pub held-rows : (u : Bool) → u ≡ rising (number-in (t .numbers)) (t .order) → u ≡ true
         → (is : List ℕ) (v : Bool) → Rows-checked n (t .links) (t .numbers) qs hs is v → Held n t qs is v
-    held-rows u e f is v c = record { answer = c .answer ∙ sym (sound-is ∙ rw (sym e ∙ f)); placed = λ _. is-placed; counts = c .highs }
+    held-rows u e f is v c = record { answer = c .answer ∙ sym (sound-is ∙ rw (sym e ∙ f)); placed = λ _. is-placed; counts = c .counts }
 
 -- ---- questions 1 to 3
 
@@ -137,78 +135,3 @@ module _ (n : ℕ) (t : Tables) (q : ℕ) (asked : q ≡ site-refusal n (lengths
       go true false c z w = refl
       go true true false z w = absurd (w refl)
       go true true true z w = absurd (z refl)
-
--- ---- where a caller puts questions 1 and 2 itself
-
-pub examinable-refusal : (n : ℕ) (l : Lengths) (p h : ℕ) → eqb (lent-refusal n l (answer-length n (min p h)) 0) 0 ≡ examinable n l p h
-unfolding examinable lent-refusal ask
-examinable-refusal n l p h = go (size-good n) (site-lengths n l) (answer-length n (min p h))
-  where
-    go : (a b c : Bool) → eqb (ask 1 a (ask 2 (b && c) 0)) 0 ≡ (a && (b && c))
-    go false b c = refl
-    go true false c = refl
-    go true true false = refl
-    go true true true = refl
-
-pub examinable-true : (n : ℕ) (l : Lengths) (p h : ℕ) → examinable n l p h ≡ true → Sizes n l p h
-unfolding examinable
-examinable-true n l p h e =
-    let q = and-right (size-good n) (site-lengths n l && answer-length n (min p h)) e in
-    let both : n ≤ min p h = answer-length-true n (min p h) (and-right (site-lengths n l) (answer-length n (min p h)) q) in
-    let long = site-lengths-true n l (and-left (site-lengths n l) (answer-length n (min p h)) q) in
-    record {
-      small = size-good-true n (and-left (size-good n) (site-lengths n l && answer-length n (min p h)) e) .1;
-      linked = long .links;
-      numbered = long .numbers;
-      ordered = long .order;
-      places = omega arith;
-      counts = omega arith;
-    }
-
-module _ (n : ℕ) (t : Tables) (ps hs : List ℕ) (u : Bool) (asked : u ≡ examinable n (lengths-of t) (length ps) (length hs)) where
-  pub examined-unfit : u ≡ false → Examined n t ps ps hs hs false
-  examined-unfit f =
-      record { answer = sym (rw (sym asked ∙ f)); placed = λ z. never false z refl; highs = λ z. never false z refl; places-long = refl; highs-long = refl }
-
-  pub examined-held : u ≡ true → (qs is : List ℕ) (r : Bool) → length qs ≡ length ps → length is ≡ length hs → Held n t qs is r → Examined n t ps qs hs is r
-  examined-held f qs is r lq li h =
-      record { answer = h .answer ∙ sym (rw (sym asked ∙ f)); placed = h .placed; highs = h .counts; places-long = lq; highs-long = li }
-
--- with room for every site, questions 1 and 2 and soundness are all that is asked
-pub examinable-room : (n : ℕ) (t : Tables) → (examinable n (lengths-of t) max-radios max-radios && sound n t) ≡ fits-sound n t
-unfolding examinable fits-sound
-examinable-room n t = go (bool-cases (size-good n))
-  where
-    go : (size-good n ≡ true) ⊎ (size-good n ≡ false)
-        → ((size-good n && (site-lengths n (lengths-of t) && answer-length n (min max-radios max-radios))) && sound n t)
-        ≡ (size-good n && (site-lengths n (lengths-of t) && sound n t))
-    go (inl e) =
-        let room : answer-length n (min max-radios max-radios) ≡ true =
-        true-answer-length n (min max-radios max-radios) (omega (arith, size-good-true n e .1)) in
-        rw (e, room, and-true (site-lengths n (lengths-of t)))
-    go (inr e) = rw e
-
--- the answer where questions 1 and 2 got yes
-pub fits-sound-lent : (n : ℕ) (t : Tables) → tables-refusal n (lengths-of t) ≡ 0 → fits-sound n t ≡ sound n t
-unfolding tables-refusal fits-sound
-fits-sound-lent n t e =
-    let g = lent-zero n (lengths-of t) true 0 e .0 in
-    rw (true-size-good n (g .least) (g .most), true-site-lengths n (lengths-of t) (g .lengths))
-
--- question 1 or 2 got no, whatever the later ones are
-pub site-refused : (n : ℕ) (l : Lengths) (others sound : Bool) (later : ℕ) → (tables-refusal n l ≡ 0 → ⊥)
-    → site-refusal n l others sound later ≡ tables-refusal n l
-unfolding site-refusal tables-refusal lent-refusal ask
-site-refused n l others sound later = go (size-good n) (site-lengths n l) (ask 3 sound later)
-  where
-    go : (a b : Bool) (x : ℕ) → (ask 1 a (ask 2 (b && true) 0) ≡ 0 → ⊥) → ask 1 a (ask 2 (b && others) x) ≡ ask 1 a (ask 2 (b && true) 0)
-    go false b x h = refl
-    go true false x h = refl
-    go true true x h = absurd (h refl)
-
--- both got yes of links, numbers and order: the further tables and soundness decide
-pub site-lent : (n : ℕ) (l : Lengths) (others sound : Bool) (later : ℕ) → tables-refusal n l ≡ 0
-    → site-refusal n l others sound later ≡ ask 2 others (ask 3 sound later)
-unfolding site-refusal tables-refusal lent-refusal ask
-site-lent n l others sound later e =
-    let g = lent-zero n l true 0 e .0 in rw (true-size-good n (g .least) (g .most), true-site-lengths n l (g .lengths))
