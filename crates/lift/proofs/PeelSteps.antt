@@ -6,17 +6,20 @@ use Rattle.lists.{specs.Kit.{min, arith, ltb, leb, eqb, length, getD, set, take
 use Rattle.lists.{specs.Kit.{eqb-false, eq-eqb, ne-eqb, ltb-true, ltb-false, lt-ltb, leb-true, leb-false, le-leb, lt-leb, not-true, not-false}}
 use Rattle.lists.{specs.Lists.{In, Entries-below, member, count, range, overwrite, head-or}, proofs.Tests.{bool-cases, never, and-left, and-right, and-both}}
 use Rattle.lists.{proofs.Tests.{or-cases, or-left, or-right, cond-false, cond-true}, proofs.Ascending.{head-or-lowest}, proofs.Member.{in-getD, member-in}}
-use Rattle.lists.{proofs.Member.{head-or-below}, proofs.Parts.{getD-any}}
-use Rattle.mesh.{specs.Limits.{max-radios, max-neighbours, row-bytes}, specs.Graph.{linked}, specs.Cores.{number}, specs.Tables.{Tables, tables, marked}}
+use Rattle.lists.{proofs.Member.{head-or-below}, proofs.Parts.{getD-any}, proofs.Filter.{in-filter}, proofs.Range.{range-in}}
+use Rattle.lists.{specs.Kit.{_*_, _^_, bitAnd, trailingZeros, lt-of-le-of-lt}, specs.Lists.{filter}}
+use lib.Bits.{and-le-l}
+use Rattle.mesh.{specs.Limits.{max-radios, max-neighbours, row-bytes}, specs.Graph.{linked}, specs.Cores.{number}, specs.Tables.{Tables, tables, marked, digit}}
 use Rattle.mesh.{specs.Tables.{put-bit, byte-at, graph-in}, specs.Sound.{sound}, specs.Valid.{Valid}, proofs.Tables.Laws.{marked-put-bit, length-put-bit}}
 use Rattle.mesh.{proofs.Tables.Rows.{few-of}, proofs.Images.Tables.{valid-graph-in}}
 use Rattle.calls.specs.Questions.{size-good, site-lengths, lengths-of}
+use Rattle.rows.{specs.Rows.{row-word, word-of}, proofs.WordLaws.{set-bits-filter, set-bits-lowest, word-at-less}, proofs.SetLaws.{digit-and}}
 use Rattle.rows.{specs.Rows.{neighbours-of, row-listed, row-count}, proofs.RowListLaws.{ascending-neighbours-of, in-neighbours-of, member-neighbours-of}}
-use Rattle.rows.{proofs.RowListLaws.{length-neighbours-of, row-listed-fits}, proofs.RowWords.{row-listed-whole}}
+use Rattle.rows.{proofs.RowListLaws.{length-neighbours-of, row-listed-fits}, proofs.RowWords.{row-listed-whole, marked-word, word-of-whole}}
 use Rattle.soundness.{specs.Checks.{fits-sound}, proofs.SoundSite.{Sound-site, fits-sound-site, linked-marked, row-listed-neighbours}}
 use Rattle.lifting.{specs.Peeling.{left, stays, Taken}, proofs.Peeling.{left-below, high-left, below-left, stays-above, stays-left, stays-cases, taken-fewer}}
 use Rattle.lifting.{proofs.Peeling.{peeling-near, peeling-takes}}
-use Rattle.lift.specs.Peels.{graph-of, Sound-links, is-due, Due, gone-of, Lowered, Peel-state, Peel-begin, Peel-end}
+use Rattle.lift.specs.Peels.{graph-of, Sound-links, is-due, Due, gone-of, Lowered, Next-due, Peel-state, Peel-begin, Peel-end}
 use Rattle.lift.proofs.PeelLaws.{or-no}
 
 -- ---- sound links
@@ -273,6 +276,40 @@ module _ (due : List ℕ) (long : length due ≡ row-bytes) (v : ℕ) (e : v ≡
           let there : In w (neighbours-of due 0) = member-in w (neighbours-of due 0) (member-neighbours-of due 0 w lw ∙ q) in
           absurd (omega (arith, first, head-or-lowest max-radios w (neighbours-of due 0) (ascending-neighbours-of due 0) there))
 
+  -- the lowest is one that may be next
+  pub next-first : Next-due due v
+  next-first = record { some = first-due; none = λ past w lw. none-before w (omega arith) lw }
+
+-- the lowest bit of what is left of word k of the set when another word masks it
+pub early-due : (due : List ℕ) → ((j : ℕ) → getD due j 0 < 256) → length due ≡ row-bytes → (k x y : ℕ) → k < 8 → x ≡ word-of due k
+    → (bitAnd x y ≡ 0 → ⊥) → marked due 0 (64 * k + trailingZeros 64 (bitAnd x y)) ≡ true
+early-due due bytes long k x y h e some = lowest (in-filter (digit w) (range 0 64) (0 + trailingZeros 64 w) listed)
+  where
+    w : ℕ
+    w = bitAnd x y
+
+    word : row-word 8 due (row-bytes * 0 + 8 * k) ≡ x
+    word = let at : row-bytes * 0 + 8 * k ≡ 8 * k = omega arith in
+        ap (row-word 8 due) at ∙ sym (word-of-whole due k (omega arith)) ∙ sym e
+
+    small : x < 2 ^ 64
+    small = omega (arith, word, word-at-less due bytes (row-bytes * 0 + 8 * k) 8)
+
+    listed : In (0 + trailingZeros 64 w) (filter (digit w) (range 0 64))
+    listed =
+        subst (In (0 + trailingZeros 64 w))
+        (sym (set-bits-lowest 64 0 w (omega arith) (lt-of-le-of-lt (and-le-l x y) small))
+        ∙ set-bits-filter 64 0 w (digit w) (λ m l. ap (digit w) (omega arith)))
+        (inl refl)
+
+    lowest : In (0 + trailingZeros 64 w) (range 0 64) × (digit w (0 + trailingZeros 64 w) ≡ true) → marked due 0 (64 * k + trailingZeros 64 w) ≡ true
+    lowest (there, on) =
+        let m = trailingZeros 64 w in
+        let same : 0 + m ≡ m = omega arith in
+        marked-word due bytes 0 k m (omega (arith, range-in 0 64 (0 + m) there .1))
+        ∙ ap (λ (z : ℕ). digit z m) word
+        ∙ and-left (digit x m) (digit y m) (sym (digit-and x y m) ∙ ap (digit w) (sym same) ∙ on)
+
 -- ---- the whole peel
 
 -- a radio that is left has an entry
@@ -292,16 +329,16 @@ due-short-again : (k a : ℕ) (held cs : List ℕ) (w : ℕ) → getD cs w 255 <
 unfolding is-due
 due-short-again k a held cs w l ne = rw (le-leb (getD cs w 255) k (omega arith), ne-eqb w a ne, lt-ltb (getD cs w 255) k l)
 
--- r and b are left so far, a has enough neighbours that stay, and v is the first radio due
+-- r and b are left so far, a has enough neighbours that stay, and v is to be taken next
 pub record Peeling-on (links held : List ℕ) (k a r b : ℕ) (cs due : List ℕ) (v : ℕ) : Type 0 where
   pub state : Peel-state links held k a cs due
   pub there : left cs r ≡ true
   pub stop-there : left cs b ≡ true
   pub fits : k ≤ getD cs a 255
-  pub first : v ≡ head-or max-radios (row-listed due 0)
+  pub next : Next-due due v
 
 module _ (links held : List ℕ) (k a r b : ℕ) (cs due : List ℕ) where
-  pub peel-starts : (v : ℕ) → length due ≡ row-bytes → Due k a held cs due → Peel-begin links held k a r b cs → v ≡ head-or max-radios (row-listed due 0)
+  pub peel-starts : (v : ℕ) → length due ≡ row-bytes → Due k a held cs due → Peel-begin links held k a r b cs → Next-due due v
       → Peeling-on links held k a r b cs due v
   peel-starts v long d h e = record {
     state = record {
@@ -315,7 +352,7 @@ module _ (links held : List ℕ) (k a r b : ℕ) (cs due : List ℕ) where
     there = h .base .there;
     stop-there = h .stop-there;
     fits = h .base .fits;
-    first = e;
+    next = e;
   }
 
   module _ (h : Peel-state links held k a cs due) where
@@ -339,7 +376,7 @@ module _ (links held : List ℕ) (k a r b : ℕ) (cs due : List ℕ) where
         at (inr e) = inr (not-true (left cs b) e)
 
     -- it goes on
-    pub peel-on : (v : ℕ) → (gone-of k a r cs || not (left cs b)) ≡ false → v ≡ head-or max-radios (row-listed due 0) → Peeling-on links held k a r b cs due v
+    pub peel-on : (v : ℕ) → (gone-of k a r cs || not (left cs b)) ≡ false → Next-due due v → Peeling-on links held k a r b cs due v
     unfolding gone-of
     peel-on v q e =
         let both = or-none (gone-of k a r cs) (not (left cs b)) q in
@@ -349,7 +386,7 @@ module _ (links held : List ℕ) (k a r b : ℕ) (cs due : List ℕ) where
           there = not-false (left cs r) (own .0);
           stop-there = not-false (left cs b) (both .1);
           fits = ltb-false (getD cs a 255) k (own .1);
-          first = e;
+          next = e;
         }
       where
         or-none : (x y : Bool) → (x || y) ≡ false → (x ≡ false) × (y ≡ false)
@@ -372,8 +409,7 @@ module _ (links held : List ℕ) (k a r b : ℕ) (cs due : List ℕ) where
       none-due : (w : ℕ) → left cs w ≡ true → is-due k a held cs w ≡ true → ⊥
       none-due w l q =
           let small : w < max-radios = inside-left cs w (h .state .long) l in
-          never (is-due k a held cs w) q (sym (h .state .due-is w small)
-          ∙ none-before due (h .state .due-long) v (h .first) w (omega arith) small)
+          never (is-due k a held cs w) q (sym (h .state .due-is w small) ∙ h .next .none past w small)
 
       fit : (w : ℕ) → left cs w ≡ true → (w ≡ a → ⊥) → (ltb (getD cs w 255) k ≡ true) ⊎ (ltb (getD cs w 255) k ≡ false) → k ≤ getD cs w 255
       fit w l ne (inr q) = ltb-false (getD cs w 255) k q

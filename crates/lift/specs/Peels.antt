@@ -6,6 +6,7 @@
 --   Lowered            some radios, where they are left, have one less, and are due where they are then to be taken
 --   gone-of            r is taken, or a has fewer neighbours that stay than the level: no pair of a whose other end stays lifts r
 --   Kept               a held radio stays, or was taken with fewer neighbours than the level
+--   Next-due           the radio to take next, of a set of radios that are due: any, or 512 where there is none
 --   Peel-state         a peel on its way
 --   Base               counters of a peel with r left and enough neighbours of a
 --   Peel-begin         what a peel begins with
@@ -45,6 +46,10 @@ abbrev pub Kept : (links held : List ℕ) → (k : ℕ) → (counters : List ℕ
 Kept links held k cs =
     (w : ℕ) → w < max-radios → marked held 0 w ≡ true →
     (stays (graph-of links) k cs w ≡ true) ⊎ ((128 ≤ getD cs w 255) × (getD cs w 255 < 128 + k))
+
+pub record Next-due (due : List ℕ) (v : ℕ) : Type 0 where
+  pub some : v < max-radios → marked due 0 v ≡ true
+  pub none : max-radios ≤ v → (w : ℕ) → w < max-radios → marked due 0 w ≡ false
 
 pub record Peel-state (links held : List ℕ) (k a : ℕ) (cs due : List ℕ) : Type 0 where
   pub peeling : Peeling (graph-of links) k a cs

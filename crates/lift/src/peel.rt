@@ -7,7 +7,7 @@ ghost use Rattle.lists.specs.Facts.{Distinct};
 ghost use Rattle.lists.specs.Lists.{Entries-below, range, count};
 ghost use Rattle.mesh.specs.Tables.{marked};
 ghost use Rattle.lifting.specs.Peeling.{left};
-ghost use Rattle.lift.specs.Peels.{is-due, Due, gone-of, Lowered, Sound-links, Peel-state, Peel-begin, Peel-end};
+ghost use Rattle.lift.specs.Peels.{is-due, Due, gone-of, Lowered, Sound-links, Next-due, Peel-state, Peel-begin, Peel-end};
 use mesh::Site;
 
 // What a counter grows by when its radio is taken.
@@ -129,8 +129,36 @@ fn is_over(r: u32, stop: u32, a: u32, level: u8, counters: &[u8]) -> bool
     GONE <= counters[stop as usize]
 }
 
-// Takes the lowest radio due, again and again, until none is due, or radio r or radio `stop` is taken, or a has fewer neighbours that stay than
-// the level. Comes back with whether none is due.
+// The lowest radio due that is not late; 512 where there is none.
+fn first_early<'a>(due: &'a [u8], late: &'a [u8]) -> u32
+    requires { ⌜ length (now due) ≡ row-bytes ⌝ }
+    ensures { λ v. ⌜ (v < max-radios → marked (now (due .entry)) 0 v ≡ true) ⌝ }
+{
+    let mut k: u32 = 0;
+    while k < rows::ROW_WORDS {
+        let word = rows::word_of(due, k) & !rows::word_of(late, k);
+        if word != 0 {
+            return rows::WORD_BITS * k + u64::trailing_zeros(word);
+        }
+        k += 1;
+    }
+    Site::RADIOS
+}
+
+// The radio to take next: the lowest due, a late one only where no other is due; 512 where none is due.
+fn next_due<'a>(due: &'a [u8], late: &'a [u8]) -> u32
+    requires { ⌜ length (now due) ≡ row-bytes ⌝ }
+    ensures { λ v. ⌜ Next-due (now (due .entry)) v ⌝ }
+{
+    let v = first_early(due, late);
+    if v < Site::RADIOS {
+        return v;
+    }
+    rows::first_marked(due, 0)
+}
+
+// Takes radios that are due, late ones last, until none is due, or radio r or radio `stop` is taken, or a has fewer neighbours that stay than
+// the level. Comes back with whether none is due. A late radio has lost most when it is taken, and is ruled out most often.
 pub(crate) fn peel(
     links: &[u8],
     r: u32,
@@ -138,6 +166,7 @@ pub(crate) fn peel(
     level: u8,
     a: u32,
     held: &[u8],
+    late: &[u8],
     counters: &mut [u8],
     due: &mut [u8],
 ) -> bool
@@ -145,13 +174,13 @@ pub(crate) fn peel(
         (length (now due) ≡ row-bytes) × Due level a (now held) (now counters) (now due) ⌝ }
     ensures { λ x. ⌜ Peel-end (now (links .entry)) (now (held .entry)) level a r stop (now (counters .exit)) x ⌝ }
 {
-    let mut v = rows::first_marked(due, 0);
+    let mut v = next_due(due, late);
     while v < Site::RADIOS {
         take(links, v, level, a, held, counters, due);
         if is_over(r, stop, a, level, counters) {
             return false;
         }
-        v = rows::first_marked(due, 0);
+        v = next_due(due, late);
     }
     true
 }
