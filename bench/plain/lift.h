@@ -40,18 +40,21 @@ static inline unsigned c_next_due(const uint8_t *due, const uint8_t *late) {
 static int c_peel_around(const struct lent *t, unsigned r, unsigned stop, unsigned level, unsigned a, const uint8_t *held, const uint8_t *late,
                          uint8_t *counters) {
     uint8_t due[ROW] = {0};
-    uint16_t near[NEIGHBOURS];
+    uint64_t stay[ROW / 8];
+    memset(stay, 255, sizeof stay);
     for (unsigned v = 0; v < RADIOS; v++)
         if (c_is_due(v, level, a, held, counters)) put_bit(due, 1, 0, v);
     for (unsigned v = c_next_due(due, late); v < RADIOS; v = c_next_due(due, late)) {
         put_bit(due, 0, 0, v);
+        stay[v / 64] &= ~(1ull << v % 64);
         counters[v] += GONE;
-        unsigned k = row_list(t->links, v, near, NEIGHBOURS);
-        for (unsigned i = 0; i < k; i++) {
-            unsigned w = near[i];
-            if (counters[w] >= GONE) continue;
-            counters[w]--;
-            if (c_is_due(w, level, a, held, counters)) put_bit(due, 1, 0, w);
+        for (unsigned i = 0; i < ROW / 8; i++) {
+            for (uint64_t rest = row_word(t->links, v, i) & stay[i]; rest; rest &= rest - 1) {
+                unsigned w = 64 * i + __builtin_ctzll(rest);
+                if (counters[w] >= GONE) continue;
+                counters[w]--;
+                if (c_is_due(w, level, a, held, counters)) put_bit(due, 1, 0, w);
+            }
         }
         if (c_is_gone(r, a, level, counters) || counters[stop] >= GONE) return 0;
     }

@@ -24,7 +24,8 @@ peel-around-requires c κs =
 
 returns : tie.Need-returns
 returns c =
-    let start = c .before .before .before .before .before .before .before .before .before .before .before .before .before .before .before .before .before .before in
+    let done = c .before .before in
+    let start = done .before .before .before .before .before .before .before .before .before .before .before .before .before .before .before .before in
     tried-found _ _ _ (start .pre .0 .site) (start .args .r) (start .pre .1) _ _ _ _ (start .pre .2) (start .pre .3) _
     (c .before .before .before .before .before .before .before .before .put-bit .ensures) _
     (c .before .before .before .before .before .before .stop-of .ensures) _ _ (c .before .before .peel-around .ensures) (c .if1 .taken)
@@ -60,7 +61,8 @@ returns-2 c =
     tried-not _ _ _ (start .pre .0 .site) (start .args .r) (start .pre .1) _ _ _ _ (start .pre .2) (start .pre .3) _
     (c .before .before .before .before .before .before .before .before .before .before .before .before .before .before .before .before .before .before .before
     .put-bit .ensures) _
-    (c .before .before .before .before .before .before .before .before .before .before .before .before .before .before .before .before .before .stop-of .ensures)
+    (c .before .before .before .before .before .before .before .before .before .before .before .before .before
+    .before .before .before .before .stop-of .ensures)
     _ _ (c .before .before .before .before .before .before .before .before .before .before .before .before .before .peel-around .ensures)
     (c .before .before .before .before .before .before .before .before .before .before .before .if1 .left) _
     (c .before .before .before .before .before .before .before .before .before .is-gone .ensures) _ _
@@ -70,5 +72,5 @@ pub lifts-spec : {M : Type 1} → statement M
 lifts-spec =
     tie.close (
     tie.spec (λ c. search needs) (λ c. search needs) (λ c κs. search needs) (λ c. search needs) (λ c κs. search needs) stop-of-requires (λ c. search needs)
-    (λ c. search needs) peel-around-requires (λ c. search needs) returns (λ c. search needs) is-gone-requires (λ c. search needs) rule-out-requires (λ c κs. search needs)
-    (λ c. search needs) returns-2)
+    (λ c. search needs) peel-around-requires (λ c. search needs) returns (λ c. search needs) is-gone-requires (λ c. search needs) rule-out-requires
+    (λ c κs. search needs) (λ c. search needs) returns-2)
