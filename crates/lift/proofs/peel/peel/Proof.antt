@@ -29,11 +29,10 @@ is-over-requires c κs =
     let taken = c .before .before .before .before .before .before in
     let long = taken .take .ensures .0 .long in
     let start = taken .before .before .before .before .before .before .before .before .before .before .before .before .before in
-    let begins = start .pre .1 in (
-      omega (arith, long, inside-left _ _ (begins .base .long) (begins .base .there)),
-      omega (arith, long, inside-left _ _ (begins .base .long) (begins .stop-there)),
-      omega (arith, long, start .pre .2),
-    )
+    let begins = start .pre .1 in
+    let r-in = inside-left _ _ (begins .base .long) (begins .base .there) in
+    let stop-in = inside-left _ _ (begins .base .long) (begins .stop-there) in
+    (omega (arith, long, r-in, stop-in), omega (arith, long, stop-in), omega (arith, long, start .pre .2))
 
 same-length : tie.Need-same-length Inv-loop μ-loop
 same-length c =
