@@ -39,7 +39,8 @@ pub(crate) fn start(level: u8, numbers: &[u8], highs: &[u8], counters: &mut [u8]
     }
 }
 
-// Peels with a and the held radios left alone, until r or `stop` is taken or a falls short. Comes back with whether none is due.
+// Peels with a and the held radios left alone and the late ones taken last, until r or `stop` is taken or a falls short. Comes back with
+// whether none is due.
 fn peel_around(
     links: &[u8],
     r: u32,
@@ -47,6 +48,7 @@ fn peel_around(
     level: u8,
     a: u32,
     held: &[u8],
+    late: &[u8],
     counters: &mut [u8],
 ) -> bool
     requires { ⌜ Sound-links (now links) × Peel-begin (now links) (now held) level a r stop (now counters) × (a < max-radios) ⌝ }
@@ -54,7 +56,7 @@ fn peel_around(
 {
     let mut due = [0u8; Site::ROW_BYTES];
     peel::mark_due(level, a, held, counters, &mut due);
-    peel::peel(links, r, stop, level, a, held, counters, &mut due)
+    peel::peel(links, r, stop, level, a, held, late, counters, &mut due)
 }
 
 // Whether the pair of a and c is ruled out: c had too few neighbours for the link to keep it when it was taken, or c stays and no such pair lifts
@@ -104,7 +106,7 @@ pub(crate) fn settle(
     ensures fewer { λ _. ⌜ count (marked (now (untried .exit)) 0) (range 0 max-radios) ≤ count (marked (now (untried .entry)) 0) (range 0 max-radios) ⌝ }
 {
     let level = numbers[r as usize];
-    if !peel_around(links, r, r, level, a, untried, base) {
+    if !peel_around(links, r, r, level, a, untried, untried, base) {
         return Site::RADIOS;
     }
     rule_out(level, false, numbers, base, untried);
@@ -143,7 +145,7 @@ pub(crate) fn lifts(
     tables::fill::copy8(&mut counters, base);
     rows::put_bit(&mut held, true, 0, b);
     let stop = stop_of(b, r, level, numbers);
-    if peel_around(links, r, stop, level, a, &held, &mut counters) {
+    if peel_around(links, r, stop, level, a, &held, untried, &mut counters) {
         return true;
     }
     rule_out(

@@ -67,7 +67,7 @@ module _ (g : Graph) (cs ds : List ℕ) (v : ℕ) (now : left cs v ≡ true) (t 
       go (inl a) (inr b) = same (rw (a, b))
       go (inr a) b = same (rw a)
 
-  taken-still : (w : ℕ) → left ds w ≡ true → (left cs w ≡ true) × (w ≡ v → ⊥)
+  pub taken-still : (w : ℕ) → left ds w ≡ true → (left cs w ≡ true) × (w ≡ v → ⊥)
   taken-still w e = (sym (taken-left w other) ∙ e, other)
     where
       other : w ≡ v → ⊥

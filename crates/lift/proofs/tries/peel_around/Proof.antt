@@ -6,12 +6,12 @@ use Rattle.lift.proofs.tries.peel_around.Tie as tie
 pub peel-around-spec : {M : Type 1} → statement M
 peel-around-spec =
     tie.close (
-    tie.spec (λ c. search needs) (λ c κs. (c .before .before .before .before .before .pre .1 .base .long, refl)) (λ c. search needs)
+    tie.spec (λ c. search needs) (λ c κs. (c .before .before .before .before .before .before .pre .1 .base .long, refl)) (λ c. search needs)
     (λ c κs. (
-      c .before .before .before .before .before .before .before .before .before .pre .0,
+      c .before .before .before .before .before .before .before .before .before .before .pre .0,
       c .before .before .before .before .before .before .before
-          .before .before .pre .1,
-      c .before .before .before .before .before .before .before .before .before .pre .2,
+          .before .before .before .pre .1,
+      c .before .before .before .before .before .before .before .before .before .before .pre .2,
       c .before .before .before .mark-due
           .ensures .0,
       c .before .before .before .mark-due .ensures .1,
