@@ -61,10 +61,6 @@ module _ (bs : List ℕ) (i : ℕ) where
       inside (inl e, d) = let at : r .offset ≡ 0 = rw e at d in omega (arith, at, e)
       inside (inr e, d) = let at : r .offset ≡ block-bytes * i + 4 = rw (e .0) at d in omega (arith, at, e .0, e .1)
 
--- a part of no bytes
-part-empty : (bs : List ℕ) (at k : ℕ) → k ≡ 0 → take k (drop at bs) ≡ []
-part-empty bs at k e = rw e
-
 module _ (r : BlockReader) (s : BlockStep) (h : Stepped r s) where
   abbrev bs : List ℕ
   bs = now (r .image)

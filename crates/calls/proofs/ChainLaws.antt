@@ -189,15 +189,6 @@ commit-zero up a b z xs l sound g p =
     let r = ends-then-zero max-neighbours up (g .n) a b g (ask 16 (is-proposal up a b z xs g) 0) (q .1) in
     (q .0, ends-zero max-neighbours up a b g (r .0), ask-zero 15 (is-proposal up a b z xs g) 0 (r .1) .0)
 
-pub commit-yes :
-    (up : Bool) (a b : ℕ) (z : ℤ) (xs : List ℕ) (l : Lengths) (sound : Bool) (g : Graph) → Site-good (g .n) l true sound →
-    Allowed max-neighbours up a b g → is-proposal up a b z xs g ≡ true → commit-refusal up (g .n) a b z xs l sound g ≡ 0
-unfolding commit-refusal
-commit-yes up a b z xs l sound g s ok p =
-    site-yes (g .n) l true sound _ s
-    ∙ ends-then-yes max-neighbours up (g .n) a b g (ask 16 (is-proposal up a b z xs g) 0) (ends-yes max-neighbours up a b g ok)
-    ∙ ask-yes 16 (is-proposal up a b z xs g) 0 p
-
 pub radio-zero :
     (n v : ℕ) (l : Lengths) (sound : Bool) → radio-refusal n v l sound ≡ 0 → Site-good n l true sound × (v < n)
 unfolding radio-refusal

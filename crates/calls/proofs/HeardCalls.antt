@@ -1,14 +1,13 @@
 -- What a hearing comes to, on any sound tables, whoever wrote them.
 --   hear-zero        its questions got yes
 --   one-sided-marked, one-sided-bits   the bits of the further table, and their number
---   one-sided-most   there are at most n * n
 --   hear-links       afterwards the links are exactly the agreed ones
 --   hear-right       what a caller has after an accepted hearing (property 2)
 --   hear-same        a table that hears what is linked changes nothing
 use Rattle.lists.{specs.Kit.{_≡_, refl, sym, ap, ap₂, _∙_, _⊎_, inl, inr, Bool, true, false, _&&_, not, List, [], _++_, map, ℕ, suc, _*_, _-_, _≤_, _<_, arith}}
 use Rattle.lists.{specs.Kit.{ltb, eqb, length, ltb-true, ltb-false, eqb-true}, specs.Lists.{range, count, total}, proofs.Tests.{bool-cases, and-left}}
-use Rattle.lists.{proofs.Tests.{and-right}, proofs.Range.{range-in, length-range}, proofs.Filter.{filter-none}, proofs.Map.{flatMap-none}}
-use Rattle.lists.{proofs.Count.{count-le-length}, proofs.Sums.{total-le, total-cong}}
+use Rattle.lists.{proofs.Tests.{and-right}, proofs.Range.{range-in}, proofs.Filter.{filter-none}, proofs.Map.{flatMap-none}}
+use Rattle.lists.{proofs.Sums.{total-cong}}
 use Rattle.mesh.{specs.Limits.{max-radios, max-neighbours, row-bytes}, specs.Graph.{Graph, graph, linked}, specs.Tables.{Tables, marked, graph-in}}
 use Rattle.mesh.{specs.Sound.{sound, symmetric, irreflexive, within, row-degree, rows-proper}, proofs.GraphLaws.{linked-sym}}
 use Rattle.mesh.{proofs.Tables.Laws.{marked-bit-table}, proofs.Tables.Rows.{within-of, row-degree-count}, proofs.Tables.Soundness.{sound-certificate}}
@@ -63,14 +62,6 @@ one-sided-bits n hs small p =
     (row-degree-count n (one-sided n hs) a (heard-alone hs a) small
     (λ b lb. one-sided-marked n hs a b la (omega arith))
     (λ b nb lb. one-sided-marked n hs a b la lb ∙ ap (λ (x : Bool). x && not (marked hs b a)) (heard-none n hs p a b la nb lb))))
-
-pub one-sided-most : (n : ℕ) (hs : List ℕ) → one-sided-count n hs ≤ n * n
-unfolding one-sided-count
-one-sided-most n hs =
-    let l = length-range 0 n in
-    let k : total (λ a. count (heard-alone hs a) (range 0 n)) (range 0 n) ≤ n * length (range 0 n) =
-    total-le (λ a. count (heard-alone hs a) (range 0 n)) n (range 0 n) (λ a i. omega (arith, l, count-le-length (heard-alone hs a) (range 0 n))) in
-    rw l at k
 
 -- ---- afterwards
 

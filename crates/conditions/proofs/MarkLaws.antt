@@ -12,11 +12,10 @@ use Rattle.mesh.{specs.Limits.{max-radios, row-bytes}, specs.Tables.{marked, pu
 use Rattle.mesh.{proofs.Tables.Laws.{byte-at-less, length-put-bit, bytes-put-bit, marked-put-bit, length-bit-table, bytes-bit-table, marked-bit-table}}
 use Rattle.mesh.{proofs.Tables.Rows.{within-of}}
 use Rattle.rows.{specs.Rows.{neighbours-of, row-from, set-bits, row-word}, proofs.RowWords.{row-from-zero, row-from-end}, proofs.RowListLaws.{in-neighbours-of}}
-use Rattle.rows.{proofs.RowListLaws.{member-neighbours-of}}
+use Rattle.rows.{proofs.RowWords.{row-split}, proofs.WordLaws.{word-lowest, word-less, word-none}, proofs.RowListLaws.{member-neighbours-of}}
 use Rattle.calls.specs.Heard.{heard-alone, one-sided, one-sided-count}
 use Rattle.conditions.specs.Hearing.{Of-size, hears, alone-put, Pair-marked, Row-marked, One-sided-marked}
-use Rattle.conditions.proofs.TallyLaws.{Counting, counting-none, counting-one, counting-part, counting-end, word-lowest, word-less, word-none}
-use Rattle.conditions.proofs.TallyLaws.{neighbours-most, row-split}
+use Rattle.conditions.proofs.TallyLaws.{Counting, counting-none, counting-one, counting-part, counting-end, neighbours-most}
 
 -- ---- a pair
 
@@ -160,7 +159,8 @@ module _ {hs : List ℕ} (bytes : (j : ℕ) → getD hs j 0 < 256) {a : ℕ} {w 
   pub words-marking-turn : Words-marking hs a w (k + 1) (r + s) y
   words-marking-turn = (omega (arith, l), row-part (rw (row-split hs bytes a k word l e) at (m .1)) d)
 
-pub words-marking-end : {hs : List ℕ} {a : ℕ} {w : List ℕ} {k r : ℕ} {x : List ℕ} → Words-marking hs a w k r x → 8 ≤ k → Row-marked hs a (neighbours-of hs a) w r x
+pub words-marking-end : {hs : List ℕ} {a : ℕ} {w : List ℕ} {k r : ℕ} {x : List ℕ} → Words-marking hs a w k r x → 8 ≤ k
+    → Row-marked hs a (neighbours-of hs a) w r x
 words-marking-end {hs} {a} {w} {k} m h = row-end (row-from-end hs a k h) (m .1)
 
 -- ---- a table

@@ -259,7 +259,8 @@ module _ (most n : ℕ) (t : Tables) (places : List ℕ) (small : n ≤ max-radi
           let h2 = and-right o (r && (f && e)) h1 in
           let h3 = and-right r (f && e) h2 in
           and-both r rows (and-left r (f && e) h2)
-          (below-all (row-good most n (t .links) (t .numbers) places) n (λ a l. of-good a (good-row (and-left p (o && (r && (f && e))) h) (and-left f e h3) (and-right f e h3) a l)))
+          (below-all (row-good most n (t .links) (t .numbers) places) n
+          (λ a l. of-good a (good-row (and-left p (o && (r && (f && e))) h) (and-left f e h3) (and-right f e h3) a l)))
 
       from : (r && rows) ≡ true → sound-within most n t ≡ true
       from h =

@@ -10,10 +10,10 @@ use Rattle.lists.{proofs.Filter.{filter-append, filter-none}}
 use mir.Val.{boolByte}
 use Rattle.mesh.{specs.Limits.{max-radios, row-bytes}, specs.Tables.{digit, marked}, specs.Sound.{within}, proofs.Tables.Digits.{digit-zero, digit-suc}}
 use Rattle.mesh.{proofs.Tables.Laws.{length-bit-table, marked-bit-table}, proofs.Tables.Rows.{within-of}}
-use Rattle.rows.{specs.Rows.{set-bits, row-word}, proofs.RowWords.{marked-word, words-from, words-end}}
+use Rattle.rows.{specs.Rows.{set-bits, row-word}, proofs.WordLaws.{word-lowest, word-less, word-none}, proofs.RowWords.{marked-word, words-from, words-end}}
 use Rattle.calls.specs.Heard.{agreed, heard-alone, one-sided}
 use Rattle.conditions.specs.Hearing.{Of-size, Is-prefix, wanted, wanted-by, wanted-in, above-from, Listed-from}
-use Rattle.conditions.proofs.{TallyLaws.{word-lowest, word-less, word-none}, AskLaws.{agreed-past}}
+use Rattle.conditions.proofs.AskLaws.{agreed-past}
 
 -- ---- words
 

@@ -196,13 +196,6 @@ module _ (a b : ℕ) (cs ts : List ℕ) where
 -- ---- counts anew
 
 module _ (ts ns : List ℕ) (v : ℕ) where
-  recounted-other : (vs hs : List ℕ) → (In v vs → ⊥) → getD (recounted ts ns vs hs) v 0 ≡ getD hs v 0
-  unfolding recounted folded
-  recounted-other [] hs h = refl
-  recounted-other (x ∷ vs) hs h =
-      recounted-other vs (set hs x (high-count ns x (neighbours-of ts x))) (λ m. h (inr m))
-      ∙ getD-set-other hs x v (high-count ns x (neighbours-of ts x)) 0 (λ e. h (inl (sym e)))
-
   pub getD-recounted : (vs hs : List ℕ) → v < length hs → getD (recounted ts ns vs hs) v 0 ≡ cond (member v vs) (high-count ns v (neighbours-of ts v)) (getD hs v 0)
   unfolding recounted folded member
   getD-recounted [] hs l = refl

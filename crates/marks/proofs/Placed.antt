@@ -1,7 +1,7 @@
 -- A mark put into its place: zeros, the name in front, then the image in front of the rest.
 --   placed       so the place is the mark of the name and the tables
 --   placed-at    put into place i of a store
-use Rattle.lists.{specs.Kit.{_≡_, ap, ap₂, _∙_, List, [], _++_, append-nil, ℕ, _+_, _*_, _-_, _≤_, arith, length, take, drop, replicate, length-append}}
+use Rattle.lists.{specs.Kit.{_≡_, ap, ap₂, _∙_, List, [], _++_, append-nil, ℕ, _+_, _*_, _-_, _≤_, arith, length, take, drop, replicate}}
 use Rattle.lists.{specs.Kit.{length-drop, length-replicate, drop-of-length-le, take-at, drop-at, drop-drop, take-all}, specs.Lists.{overwrite}}
 use Rattle.lists.{proofs.Parts.{drop-replicate}}
 use borrow.Rule.Slice.PartMut.{putMid}
@@ -22,10 +22,6 @@ module _ (n : ℕ) (t : Tables) (x : List ℕ) (k : Markable n t x) (len : ℕ) 
       let e : take (length z) x ≡ x = take-all (length z) x (omega arith) in
       named ∙ ap (λ (xs : List ℕ). xs ++ drop (length xs) z) e
       ∙ ap₂ {C = List ℕ} (λ j zs. x ++ drop j zs) m zeros ∙ ap (λ (zs : List ℕ). x ++ zs) (drop-replicate name-bytes len 0)
-
-  length-named : length y ≡ len
-  length-named =
-      omega (arith, ap length name-then, length-append x (replicate (len - name-bytes) 0), length-name x (k .name), length-replicate {A = ℕ} (len - name-bytes) 0)
 
   rest-zeros : take (length y - name-bytes) (drop name-bytes y) ≡ replicate (len - name-bytes) 0
   rest-zeros =

@@ -55,7 +55,11 @@ module _ (ts : List ℕ) (a : ℕ) (small : a < max-radios) (whole : row-bytes *
       filter-none (ltb a) lower (λ b m. le-ltb a b (omega (arith, range-in 0 (a + 1) b (in-filter (λ b. marked ts a b) (range 0 (a + 1)) b m .0)))) in
       let all-above : filter (ltb a) higher ≡ higher =
       filter-all (ltb a) higher
-      (λ b m. lt-ltb a b (omega (arith, range-in (a + 1) (max-radios - (a + 1)) b (in-filter (λ b. marked ts a b) (range (a + 1) (max-radios - (a + 1))) b m .0)))) in
+      (λ b m. lt-ltb a b (omega (
+        arith,
+        range-in (a + 1) (max-radios - (a + 1)) b
+            (in-filter (λ b. marked ts a b) (range (a + 1) (max-radios - (a + 1))) b m .0),
+      ))) in
       ap (filter (ltb a)) row ∙ filter-append (ltb a) lower higher ∙ ap₂ {C = List ℕ} (λ xs ys. xs ++ ys) none all-above
 
   pub above-words : ((j : ℕ) → getD ts j 0 < 256) → (w x : ℕ) → w ≡ row-word 8 ts (row-bytes * a + 8 * (a / 64)) → x ≡ w / 2 ^ (a % 64) / 2 ^ 1
@@ -78,7 +82,14 @@ module _ (ts : List ℕ) (a : ℕ) (small : a < max-radios) (whole : row-bytes *
       ap (marked ts a) here ∙ marked-word ts bytes a k (p + j) (omega arith) ∙ ap (λ (y : ℕ). digit y (p + j)) (sym e)
       ∙ sym (digit-shifted w p j) ∙ ap (λ (y : ℕ). digit y j) (sym is)) in
       above-whole
-      ∙ rw (parts, range-append (a + 1) d (max-radios - 64 * (k + 1)), next, filter-append (λ b. marked ts a b) (range (a + 1) d) (range (64 * (k + 1)) (max-radios - 64 * (k + 1))), bits) refl
+      ∙ rw (
+        parts,
+        range-append (a + 1) d (max-radios - 64 * (k + 1)),
+        next,
+        filter-append (λ b. marked ts a b) (range (a + 1) d)
+            (range (64 * (k + 1)) (max-radios - 64 * (k + 1))),
+        bits,
+      ) refl
 
 -- ---- written in two goes
 

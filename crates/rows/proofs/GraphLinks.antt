@@ -13,7 +13,15 @@ use Rattle.rows.proofs.{RowListLaws.{neighbours-of-filter, row-listed-r
 module _ (n : ℕ) (ts : List ℕ) (small : n ≤ max-radios) (long : length ts ≡ row-bytes * n) where
   pub rows-listed-few : (room : ℕ) → few (min room (suc max-neighbours)) n ts ≡ true → Rows-listed n ts room
   rows-listed-few room h =
-      record { most = small; few = λ a l. omega (arith, above-few ts a, length-row-listed-radio n ts long a l, few-of (min room (suc max-neighbours)) n ts h a l) }
+      record {
+        most = small;
+        few = λ a l. omega (
+          arith,
+          above-few ts a,
+          length-row-listed-radio n ts long a l,
+          few-of (min room (suc max-neighbours)) n ts h a l,
+        );
+      }
 
   module _ (w : within n ts ≡ true) where
     neighbours-above-row : (a : ℕ) → a < n → neighbours-above ts a ≡ filter (λ b. marked ts a b) (range (suc a) (n - suc a))

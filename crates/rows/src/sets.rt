@@ -51,7 +51,7 @@ fn take_word(other: u64, k: u32, set: &mut [u64], list: &mut [u16], n: usize) ->
         return n;
     }
     set[at] = set[at] ^ word;
-    n + super::list_radios(word, k, list, n) as usize
+    n + super::list_word(word, super::WORD_BITS * k, list, n) as usize
 }
 
 // Puts the radios that row a marks into the set. Where the row is not whole in the table nothing changes.
@@ -139,7 +139,7 @@ pub fn list(set: &[u64], list: &mut [u16]) -> u32
     let mut n: usize = 0;
     let mut k: u32 = 0;
     while k < super::ROW_WORDS {
-        n += super::list_radios(set[k as usize], k, list, n) as usize;
+        n += super::list_word(set[k as usize], super::WORD_BITS * k, list, n) as usize;
         k += 1;
     }
     n as u32

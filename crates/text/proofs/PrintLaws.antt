@@ -1,5 +1,5 @@
 -- Laws of `put`: one text after another, lengths, the place, and what stands in the buffer where the text fits.
-use Rattle.lists.{specs.Kit.{_≡_, refl, sym, ap, _∙_, _⊎_, inl, inr, Bool, true, false, cond, List, [], _∷_, _++_, map, ℕ, suc, _+_, _≤_, _<_, min, arith}}
+use Rattle.lists.{specs.Kit.{_≡_, refl, sym, ap, _∙_, _⊎_, inl, inr, true, false, cond, List, [], _∷_, _++_, map, ℕ, suc, _+_, _≤_, _<_, min, arith}}
 use Rattle.lists.{specs.Kit.{add-one, ltb, length, take, drop, getD, set, length-set, drop-of-length-le, drop-cons, set-out, sets, sets-eq, lt-ltb, le-ltb}}
 use Rattle.lists.{specs.Kit.{ltb-true, ltb-false}, proofs.Tests.{bool-cases}}
 use Rattle.text.specs.{Text.{space, line-feed, decimal, further-fields}, Print.{Buffer, buffer-at, max-place, next-place, put, Puts}}
@@ -108,14 +108,6 @@ next-place-min at h = go (bool-cases (ltb at max-place))
     go (inl e) = rw e (omega (arith, ltb-true at max-place e))
     go (inr e) = rw e (omega (arith, ltb-false at max-place e))
 
-next-place-le : (at : ℕ) → at ≤ next-place at
-unfolding next-place
-next-place-le at = go (ltb at max-place)
-  where
-    go : (t : Bool) → at ≤ cond t (at + 1) at
-    go true = omega arith
-    go false = omega arith
-
 -- the place after a text is its length further on, at most the largest
 pub at-put : (b : Buffer) (xs : List ℕ) → b .at ≤ max-place → put b xs .at ≡ min (b .at + length xs) max-place
 unfolding put
@@ -140,14 +132,6 @@ pub put-fits : (bytes : List ℕ) (at : ℕ) (xs : List ℕ) → at + length xs 
     → put (buffer-at bytes at) xs ≡ buffer-at (take at bytes ++ xs ++ drop (at + length xs) bytes) (at + length xs)
 put-fits bytes at xs h m =
     bytes-put bytes at xs (omega arith) ∙ ap (λ (l : List ℕ). buffer-at l (at + length xs)) (sets-eq xs bytes at h)
-
--- a text that starts at the end or past it changes no byte
-pub put-past : (b : Buffer) (xs : List ℕ) → length (b .bytes) ≤ b .at → put b xs .bytes ≡ b .bytes
-unfolding put
-put-past b [] h = refl
-put-past b (x ∷ xs) h =
-    put-past (buffer-at (set (b .bytes) (b .at) x) (next-place (b .at))) xs (omega (arith, length-set (b .bytes) (b .at) x, next-place-le (b .at)))
-    ∙ set-out (b .bytes) (b .at) x h
 
 -- ---- what a caller learns from the answered place
 

@@ -22,7 +22,11 @@ unfolding nodes-length answer-length
 room-test n nodes answer m e =
     iff-eq (ltb n m) (leb (n + 1) nodes && leb n answer)
     (λ h. let l = ltb-true n m h in and-both (leb (n + 1) nodes) (leb n answer) (le-leb (n + 1) nodes (omega arith)) (le-leb n answer (omega arith)))
-    (λ h. lt-ltb n m (omega (arith, leb-true (n + 1) nodes (and-left (leb (n + 1) nodes) (leb n answer) h), leb-true n answer (and-right (leb (n + 1) nodes) (leb n answer) h))))
+    (λ h. lt-ltb n m (omega (
+      arith,
+      leb-true (n + 1) nodes (and-left (leb (n + 1) nodes) (leb n answer) h),
+      leb-true n answer (and-right (leb (n + 1) nodes) (leb n answer) h),
+    )))
 
 -- ---- the number that the questions give
 

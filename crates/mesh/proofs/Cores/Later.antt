@@ -1,12 +1,11 @@
 -- The neighbours of a radio that stand after it in an order.
---   length-later-in     how many: what `few-later` bounds
 --   later-in-at         they are the neighbours among the entries after its place
 --   in-later-in         each stands in the order
 --   first-is-first      the first of them is a neighbour, and there is none between
 --   nobody-none         nobody exactly when there are none
-use Rattle.lists.{specs.Kit.{_≡_, refl, ap, _∙_, _⊎_, inl, inr, _↔_, Bool, true, false, List, [], _∷_, _++_, ℕ, zero, suc, _<_, arith, eqb, length, getD, drop}}
-use Rattle.lists.{specs.Kit.{eqb-true, eq-eqb, ne-eqb}, specs.Lists.{filter, head-or, In}, proofs.Tests.{bool-cases}, proofs.Filter.{in-filter, length-filter}}
-use Rattle.mesh.specs.{Graph.{neighbours-among}, Orders.{later-in, nobody, First-later}}
+use Rattle.lists.{specs.Kit.{_≡_, refl, ap, _⊎_, inl, inr, _↔_, Bool, true, false, List, [], _∷_, _++_, ℕ, zero, suc, _<_, arith, eqb, length, getD, drop}}
+use Rattle.lists.{specs.Kit.{eqb-true, eq-eqb, ne-eqb}, specs.Lists.{filter, head-or, In}, proofs.Tests.{bool-cases}, proofs.Filter.{in-filter}}
+use Rattle.mesh.specs.{Orders.{later-in, nobody, First-later}}
 
 -- ---- the first entry that passes a test
 
@@ -43,14 +42,6 @@ first-passing g (x ∷ xs) w ws e = go (first-passing g xs w ws) (bool-cases (g 
 -- ---- later-in
 
 module _ (f : ℕ → ℕ → Bool) (v : ℕ) where
-  later-in-here : (xs : List ℕ) → later-in f v (v ∷ xs) ≡ filter (f v) xs
-  unfolding later-in
-  later-in-here xs = rw (eq-eqb v v refl)
-
-  pub length-later-in : (xs : List ℕ) → length (later-in f v (v ∷ xs)) ≡ neighbours-among f v xs
-  unfolding neighbours-among
-  length-later-in xs = ap length (later-in-here xs) ∙ length-filter (f v) xs
-
   pub later-in-at : (xs : List ℕ) (p : ℕ) → p < length xs → getD xs p 0 ≡ v → ((j : ℕ) → j < p → getD xs j 0 ≡ v → ⊥)
       → later-in f v xs ≡ filter (f v) (drop (suc p) xs)
   unfolding later-in

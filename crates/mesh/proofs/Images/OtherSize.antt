@@ -1,10 +1,9 @@
 -- Question 15: the image of sound tables with another n.
 --   other-size-iff       what is worked out from the header's n is the image of some sound tables with another n
 --   is-image-not-other   an image of n radios is of no other size
---   no-size-none         bytes whose header says no size are the image of none
-use Rattle.lists.{specs.Kit.{_≡_, sym, ap, _∙_, _↔_, true, false, _&&_, not, List, ℕ, _≤_, eqb, eqb-false, eq-eqb, ne-eqb, not-true}, proofs.Tests.{and-left}}
-use Rattle.lists.{proofs.Tests.{and-right, and-both, never}}
-use Rattle.mesh.specs.{Limits.{max-radios, size-good}, Image.{word-at, is-image, Tables-image, other-size, Other-size, Image-of-none}}
+use Rattle.lists.{specs.Kit.{_≡_, ap, _↔_, true, false, _&&_, not, List, ℕ, _≤_, eqb, eqb-false, eq-eqb, ne-eqb, not-true}, proofs.Tests.{and-left}}
+use Rattle.lists.{proofs.Tests.{and-right, and-both}}
+use Rattle.mesh.specs.{Limits.{max-radios, size-good}, Image.{word-at, is-image, Tables-image, other-size, Other-size}}
 use Rattle.mesh.proofs.{Sizes.{size-good-true}, Images.Sites.{is-image-radios}, Images.Tables.{is-image-tables}}
 
 -- the image of sound tables with m radios says m
@@ -40,6 +39,3 @@ other-size-iff n bs = (there, back)
 pub is-image-not-other : (n : ℕ) (bs : List ℕ) → n ≤ max-radios → is-image n bs ≡ true → other-size n bs ≡ false
 unfolding other-size
 is-image-not-other n bs small h = rw (eq-eqb (word-at bs 4) n (is-image-radios n bs small h))
-
-pub no-size-none : (bs : List ℕ) → size-good (word-at bs 4) ≡ false → Image-of-none bs
-no-size-none bs e m s i = never (size-good m) s (ap size-good (sym (tables-image-radios m bs s i .0)) ∙ e)

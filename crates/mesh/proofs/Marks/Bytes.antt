@@ -30,13 +30,6 @@ sized-drop zero ps s = s
 sized-drop (suc r) [] s = tt
 sized-drop (suc r) (p ∷ ps) s = sized-drop r ps (s .1)
 
--- the places after r, where r is one of them
-drop-next : (r : ℕ) (ps : List (List ℕ)) → r < length ps → Sized ps →
-    (p : List ℕ) × (length p ≡ place-bytes) × (drop r ps ≡ p ∷ drop (suc r) ps)
-drop-next r [] l s = absurd (omega arith)
-drop-next zero (p ∷ ps) l s = (p, s .0, refl)
-drop-next (suc r) (p ∷ ps) l s = drop-next r ps (omega arith) (s .1)
-
 module _ (ps : List (List ℕ)) (s : Sized ps) (few : length ps ≤ places) where
   abbrev zeros : ℕ → List ℕ
   zeros k = replicate (place-bytes * k) 0

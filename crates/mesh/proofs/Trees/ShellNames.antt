@@ -3,9 +3,9 @@
 use Rattle.lists.{specs.Kit.{_≡_, refl, _∙_, _⊎_, inl, inr, Bool, true, false, List, [], _∷_, ℕ, zero, suc, _≤_, _<_, arith, eqb, ne-eqb}, specs.Lists.{range}}
 use Rattle.lists.{specs.Lists.{member, head-or, In, Ascending}, proofs.Tests.{bool-cases, never, trichotomy}, proofs.Ascending.{ascending-range}}
 use Rattle.lists.{proofs.Ascending.{ascending-filter, head-or-lowest}, proofs.Member.{head-or-in, head-or-any}}
-use Rattle.mesh.specs.{Graph.{Graph, radios}, Cores.{number}, Connected.{In-core, core-of}, Tree.{root-name, Core-set, Node-set, Named}}
+use Rattle.mesh.specs.{Graph.{Graph, radios}, Cores.{number}, Connected.{core-of}, Tree.{root-name, Core-set, Node-set, Named}}
 use Rattle.mesh.specs.{Tree.{Strictly-contains, Parent, Node-name, shell, node-name, parent-name}}
-use Rattle.mesh.proofs.Trees.{Reach.{core-of-iff, core-of-ascending}, CoreLevels.{core-of-same, in-core-here, in-core-below, in-core-lower}}
+use Rattle.mesh.proofs.Trees.{Reach.{core-of-iff, core-of-ascending}, CoreLevels.{in-core-here, in-core-below}}
 use Rattle.mesh.proofs.Trees.{NodeSets.{core-has, core-has-self, shell-in, in-shell, core-set-of, core-set-level, core-set-reaches, core-set-contains}}
 use Rattle.mesh.proofs.Trees.{NodeSets.{node-set-of, node-set-shell}}
 
@@ -116,13 +116,6 @@ module _ (g : Graph) where
           go (inr (inr a)) = absurd (omega (arith, core-set-level g (nd .core) v l (st .contains v l p)))
 
   -- ---- names alike
-
-  -- the radios of a connected core at level k have the same names above it
-  pub parent-name-same : (v k w : ℕ) → v < g .n → k ≤ number g v → In-core g v k w → parent-name g w (suc k) ≡ parent-name g v (suc k)
-  unfolding parent-name shell
-  parent-name-same v zero w l h r = refl
-  parent-name-same v (suc k) w l h r =
-      rw (core-of-same g v (suc k) w l h r, parent-name-same v k w l (omega arith) (in-core-lower g v k (suc k) w (omega arith) r))
 
   node-name-parent-at : (v k : ℕ) → v < g .n → number g v ≡ k → node-name g v ≡ parent-name g v (suc k)
   unfolding parent-name

@@ -37,7 +37,8 @@ returns-3 c =
     let word = read .word-at .result in
     let left = word / 2 ^ (call .a % 64) / 2 ^ 1 in
     two-listed (set-bits 64 (call .a + 1) left) (row-from (call .links .now) (call .a) (call .a / 64 + 1)) _ (call .list .now) _ _ _ _
-    (above-words (call .links .now) (call .a) (tested .before .if1 .left) (tested .if2 .left) (λ j. given .before .shared-slice-known .given j .fits) word left (read .word-at .ensures) refl)
+    (above-words (call .links .now) (call .a) (tested .before .if1 .left) (tested .if2 .left) (λ j. given .before .shared-slice-known .given j .fits) word left
+    (read .word-at .ensures) refl)
     (listed .list-bits .ensures .0) (listed .list-bits .ensures .1) (worded .list-words .ensures .0) (worded .list-words .ensures .1)
 
 pub list-above-spec : {M : Type 1} → statement M

@@ -1,8 +1,7 @@
 -- `rows::list_bits` meets its contract: each turn takes the lowest set bit off the word, and what is left of the word's set
 -- bits gives what all of them give (`Word-listing`). The measure is the word that is left.
-use Rattle.lists.specs.Kit.{ap, _∙_, _-_, arith, and-le-r, trailing-le, needs}
-use Rattle.rows.specs.Rows.{set-bits}
-use Rattle.rows.proofs.{WordLaws.{set-bits-nothing, length-set-bits-le}, Listing.{Word-listing, word-listing-turn, partial-none, partial-end}}
+use Rattle.lists.specs.Kit.{_-_, arith, and-le-r, trailing-le, needs}
+use Rattle.rows.proofs.{WordLaws.{word-none, length-set-bits-le}, Listing.{Word-listing, word-listing-turn, partial-none, partial-end}}
 use Rattle.rows.proofs.{Listing.{partial-full}, list_bits.Statement.{statement}}
 use Rattle.rows.proofs.list_bits.Tie as tie
 
@@ -25,10 +24,11 @@ loop-less : tie.Need-loop-less Inv-loop μ-loop
 loop-less c = omega (arith, and-le-r (c .before .before .loop .rest) (c .before .before .loop .rest - 1))
 
 loop-again : tie.Need-loop-again Inv-loop μ-loop
-loop-again c = word-listing-turn _ _ _ _ (c .before .before .loop .rest) (c .before .before .loop .n) _ (c .before .loop-test .taken) (omega arith) (c .before .before .loop .inv)
+loop-again c = word-listing-turn _ _ _ _ (c .before .before .loop .rest) (c .before .before .loop .n) _ (c .before .loop-test .taken) (omega arith)
+    (c .before .before .loop .inv)
 
 returns-2 : tie.Need-returns-2 Inv-loop μ-loop
-returns-2 c = partial-end _ _ _ (ap (set-bits 64 (c .before .before .args .first)) (c .loop-test .left) ∙ set-bits-nothing 64 _) (c .before .loop .inv .1)
+returns-2 c = partial-end _ _ _ (word-none (c .before .before .args .first) _ (c .loop-test .left)) (c .before .loop .inv .1)
 
 pub list-bits-spec : {M : Type 1} → statement M
 list-bits-spec =

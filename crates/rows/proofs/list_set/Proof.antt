@@ -21,7 +21,8 @@ add-n c =
     let read = c .before .before .before .before in
     let at-loop = read .before .before in
     let given = at-loop .before .before in
-    let few = set-word-few _ (λ j. given .before .shared-slice-known .given j .fits) (given .before .before .args .list .now) (at-loop .loop .n) (at-loop .loop .k)
+    let few = set-word-few _ (λ j. given .before .shared-slice-known .given j .fits) (given .before .before .args .list .now) (at-loop .loop .n)
+    (at-loop .loop .k)
     (read .word-at .result) (at-loop .loop .list) (at-loop .loop .list) (read .before .loop-test .taken) (read .word-at .ensures) in
     omega (arith, few, at-loop .loop .inv .few)
 
@@ -32,7 +33,8 @@ loop-again c =
     let at-loop = read .before .before in
     let given = at-loop .before .before in
     set-listing-turn _ (λ j. given .before .shared-slice-known .given j .fits) (given .before .before .args .list .now) (at-loop .loop .n) (at-loop .loop .k)
-    (read .word-at .result) (at-loop .loop .list) _ (read .before .loop-test .taken) (read .word-at .ensures) (listed .list-word .ensures .1) (at-loop .loop .inv)
+    (read .word-at .result) (at-loop .loop .list) _ (read .before .loop-test .taken) (read .word-at .ensures) (listed .list-word .ensures .1)
+    (at-loop .loop .inv)
 
 returns-2 : tie.Need-returns-2 Inv-loop μ-loop
 returns-2 c =

@@ -38,5 +38,6 @@ pub list-words-spec : {M : Type 1} → statement M
 list-words-spec =
     tie.close (
     tie.spec Inv-loop μ-loop (λ c. search needs) loop-holds (λ c. search needs) (λ c. search needs) (λ c. search needs)
-    (λ c κs. omega (arith, c .before .before .before .before .pre .whole)) (λ c. search needs) list-bits-requires (λ c. search needs) (λ c. search needs) loop-again
+    (λ c κs. omega (arith, c .before .before .before .before .pre .whole)) (λ c. search needs) list-bits-requires (λ c. search needs) (λ c. search needs)
+    loop-again
     (λ c. c .before .loop .inv .1 .long) returns)

@@ -9,7 +9,12 @@ slice-aggregate-list-above : tie.Need-slice-aggregate-list-above
 slice-aggregate-list-above c = sym (length-take-le _ _ (omega (arith, c .before .row-room .ensures)))
 
 list-above-requires : tie.Need-list-above-requires
-list-above-requires c κs = omega (arith, c .before .row-room .ensures, length-take (c .before .row-room .result) (c .before .before .before .before .args .list .now))
+list-above-requires c κs = omega (
+  arith,
+  c .before .row-room .ensures,
+  length-take (c .before .row-room .result)
+      (c .before .before .before .before .args .list .now),
+)
 
 returns : tie.Need-returns
 returns c =

@@ -1,9 +1,9 @@
 -- `take_bits` meets its contract: each turn takes the lowest set bit off the word, and what is left gives what the whole word gives
 -- (`Taking`). The measure is the word that is left.
-use Rattle.lists.specs.Kit.{refl, ap, _∙_, [], _∷_, ℕ, _+_, _-_, _^_, _<_, arith, bitAnd, and-le-l, and-le-r, trailingZeros, trailing-le, needs}
+use Rattle.lists.specs.Kit.{refl, [], _∷_, _+_, _-_, _^_, _<_, arith, bitAnd, and-le-r, trailingZeros, trailing-le, needs}
 use Rattle.mesh.specs.Graph.{link-of}
-use Rattle.rows.{specs.Rows.{set-bits}, proofs.WordLaws.{set-bits-nothing}, specs.Links.{links-to}}
-use Rattle.staircase.proofs.{TakingLaws.{Taking, taking-none, taking-front, taking-part, taking-end}, RowLaws.{bits-lowest}}
+use Rattle.rows.{specs.Rows.{set-bits}, proofs.WordLaws.{word-less}, proofs.LinksFrom.{links-lowest, links-none}, specs.Links.{links-to}}
+use Rattle.staircase.proofs.{TakingLaws.{Taking, taking-none, taking-front, taking-part, taking-end}}
 use Rattle.staircase.proofs.{take_bits.Statement.{statement}}
 use Rattle.staircase.proofs.take_bits.Tie as tie
 
@@ -39,7 +39,7 @@ take-link-requires c κs =
     let start = at-loop .before .before .before in
     let call = start .args in
     let rest = at-loop .loop .rest in
-    let lowest = bits-lowest (call .a) (call .first) rest (turn .loop-test .taken) (at-loop .loop .inv .0) in (
+    let lowest = links-lowest (call .a) (call .first) rest (at-loop .loop .inv .0) (turn .loop-test .taken) in (
       at-loop .loop .inv .1 .parents,
       taking-front _ _ _ _ (link-of (call .a) (call .first + trailingZeros 64 rest) ∷ []) (links-to (call .a) (set-bits 64 (call .first) (bitAnd rest (rest - 1)))) _ _ _
           (rw lowest at (at-loop .loop .inv .1)),
@@ -65,8 +65,8 @@ loop-again c =
     let start = at-loop .before .before .before in
     let call = start .args in
     let rest = at-loop .loop .rest in
-    let lowest = bits-lowest (call .a) (call .first) rest (turn .loop-test .taken) (at-loop .loop .inv .0) in (
-      omega (arith, and-le-l rest (rest - 1), at-loop .loop .inv .0),
+    let lowest = links-lowest (call .a) (call .first) rest (at-loop .loop .inv .0) (turn .loop-test .taken) in (
+      word-less rest (at-loop .loop .inv .0),
       taking-part _ _ _ _ (link-of (call .a) (call .first + trailingZeros 64 rest) ∷ []) (links-to (call .a) (set-bits 64 (call .first) (bitAnd rest (rest - 1)))) _ _ _ _ _ _
           (rw lowest at (at-loop .loop .inv .1)) (take-link-at .take-link .ensures) (parents-at .parents .given) (c .before .table .given),
     )
@@ -82,9 +82,7 @@ returns c =
     let at-loop = c .before in
     let start = at-loop .before .before .before in
     let call = start .args in
-    taking-end _ _ _ _ _ _ _ _
-    (ap (λ (r : ℕ). links-to (call .a) (set-bits 64 (call .first) r)) (c .loop-test .left) ∙ ap (links-to (call .a)) (set-bits-nothing 64 (call .first)))
-    (at-loop .loop .inv .1)
+    taking-end _ _ _ _ _ _ _ _ (links-none (call .a) (call .first) _ (c .loop-test .left)) (at-loop .loop .inv .1)
 
 pub take-bits-spec : {M : Type 1} → statement M
 take-bits-spec =

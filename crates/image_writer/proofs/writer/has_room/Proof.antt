@@ -17,7 +17,7 @@ returns-2 : tie.Need-returns-2
 returns-2 c =
     let counted = c .before .before in
     let start = counted .before .before .before .before .before in
-    ap (λ (k : ℕ). leb (512 * k) (start .args .bytes)) (c .block-count2 .ensures ∙ ap (block-count (start .args .n)) (counted .count-links .ensures (start .pre .0)))
+    ap (λ (k : ℕ). leb (512 * k) (start .args .bytes)) (c .block-count2 .ensures ∙ ap (block-count (start .args .n)) (counted .count-links .ensures))
 
 pub has-room-spec : {M : Type 1} → statement M
 has-room-spec =

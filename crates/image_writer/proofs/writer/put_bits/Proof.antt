@@ -1,7 +1,7 @@
 -- `writer::put_bits` meets its contract: each turn takes the lowest set bit off the word, and what is put so far leaves the links of the others
 -- (`Links-put`). The measure is the word that is left.
-use Rattle.lists.specs.Kit.{_≡_, refl, _∙_, inl, inr, _%_, _-_, _^_, _<_, arith, and-le-l, and-le-r, trailing-le, length, needs}
-use Rattle.rows.specs.{Rows.{set-bits}, Links.{links-to}}
+use Rattle.lists.specs.Kit.{_≡_, refl, _∙_, inl, inr, _%_, _-_, _^_, _<_, arith, and-le-r, trailing-le, length, needs}
+use Rattle.rows.{specs.Rows.{set-bits}, specs.Links.{links-to}, proofs.WordLaws.{word-less}}
 use Rattle.image_writer.specs.Blocks.{Links-put}
 use Rattle.image_writer.proofs.{LinksPut.{put-none, bits-turn}, writer.put_bits.Statement.{statement}}
 use Rattle.image_writer.proofs.writer.put_bits.Tie as tie
@@ -31,7 +31,7 @@ loop-again c =
     let at-loop = turn .before in
     let inv = at-loop .loop .inv in
     let rest = at-loop .loop .rest in (
-      omega (arith, and-le-l rest (rest - 1), inv .0),
+      word-less rest (inv .0),
       omega (arith, inv .1),
       put .put-link .kept .0 ∙ inv .2,
       bits-turn _ _ rest (turn .loop-test .taken) (inv .0) _ (inv .3) (omega (arith, inv .1, inv .3 .within, put .before .before .if1 .left)) (put .put-link .ensures),

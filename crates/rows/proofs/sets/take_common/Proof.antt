@@ -22,13 +22,15 @@ loop-again c =
     let test = taken .before .before .before .before in
     let at-loop = test .before in
     let call = at-loop .before .before .before .before .args in
-    common-taking-turn (call .other .now) (call .set .now) (call .list .now) (at-loop .loop .n) (at-loop .loop .k) _ (at-loop .loop .set) (at-loop .loop .list) _ _
+    common-taking-turn (call .other .now) (call .set .now) (call .list .now) (at-loop .loop .n) (at-loop .loop .k) _ (at-loop .loop .set) (at-loop .loop .list)
+    _ _
     (test .loop-test .taken) (taken .take-word .ensures .0) (taken .take-word .ensures .1 .0) (taken .take-word .ensures .1 .1) (at-loop .loop .inv)
 
 returns : tie.Need-returns Inv-loop μ-loop
 returns c =
     let at-loop = c .before in
-    common-taking-end _ _ _ (at-loop .loop .n) (at-loop .loop .k) (at-loop .loop .set) (at-loop .loop .list) (c .loop-test .left) (search needs) (at-loop .loop .inv)
+    common-taking-end _ _ _ (at-loop .loop .n) (at-loop .loop .k) (at-loop .loop .set) (at-loop .loop .list) (c .loop-test .left) (search needs)
+    (at-loop .loop .inv)
 
 pub take-common-spec : {M : Type 1} → statement M
 take-common-spec =

@@ -9,23 +9,32 @@ use Rattle.tree.proofs.levels.grow.Tie as tie
 
 take-levels-requires : tie.Need-take-levels-requires
 take-levels-requires c κs =
-    let start = c .before .before .before .before .before .before .before .before .before .before .before .before .before .before .before .before .before .before .before .before .before .before .before .before .before .before .before in
+    let start = c .before .before .before .before .before .before .before .before .before .before .before .before .before .before .before .before .before
+    .before .before .before .before .before .before .before .before .before .before in
     let call = start .args in
     record {
-      named = omega (arith, start .pre .1 .answer, c .before .before .before .before .before .before .before .before .before .before .before .before .before .before .before .before .before .answer .given);
+      named = omega (
+        arith,
+        start .pre .1 .answer,
+        c .before .before .before .before .before .before .before .before .before .before .before .before .before
+            .before .before .before .before .answer .given,
+      );
       low = omega (arith, c .before .before .before .before .least .ensures);
       start = sound-levels (length (call .numbers .now)) (tables (call .links .now) (call .numbers .now) (call .order .now)) (start .pre .0);
     }
 
 returns : tie.Need-returns
 returns c =
-    let node = c .before .before .before .before .before .before .before .before .before .before .before .before .before .before .before .before .before .before .before .before .before in
+    let node = c .before .before .before .before .before .before .before .before .before .before .before .before .before .before .before .before .before .before
+    .before .before .before in
     let filled = node .before .before .before .before .before .before in
     let start = filled .before .before .before .before .before .before .before .before .before in
     let call = start .args in
     let old = lists (call .names .now) (call .levels .now) (call .parents .now) (call .answer .now) in
     let site = fits-sound-site (length (call .numbers .now)) (tables (call .links .now) (call .numbers .now) (call .order .now)) (start .pre .0) in
-    grown-all (call .links .now) (call .numbers .now) old _ _ _ _ _ (site .small) (c .before .before .before .before .before .before .before .before .before .before .before .before .before .before .greatest .ensures) (c .before .before .before .before .before .before .before .before .before .before .before .before .before .least .ensures)
+    grown-all (call .links .now) (call .numbers .now) old _ _ _ _ _ (site .small)
+    (c .before .before .before .before .before .before .before .before .before .before .before .before .before .before .greatest .ensures)
+    (c .before .before .before .before .before .before .before .before .before .before .before .before .before .least .ensures)
     (node .put-node .ensures .0) (node .put-node .ensures .1 .0) (node .put-node .ensures .1 .1)
     (filled-front (call .answer .now) _ (length (call .numbers .now)) _ (start .pre .1 .answer) (filled .fill16 .ensures))
     (c .before .before .before .before .before .before .before .before .take-levels .ensures) (call .order .now) (start .pre .0) (start .pre .1)

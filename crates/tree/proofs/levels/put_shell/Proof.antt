@@ -21,8 +21,10 @@ returns c =
     let at-loop = c .before .before .before .before in
     let start = at-loop .before .before .before .before in
     let call = start .args in (
-      shell-putting-set (call .numbers .now) (call .order .now) (call .level) (call .from) (start .pre .0) (at-loop .loop .i) _ (λ l. c .if1 .taken) (at-loop .loop .inv),
-      shell-putting-next (call .numbers .now) (call .order .now) (call .level) (call .from) (start .pre .0) (at-loop .loop .i) _ (λ l. c .if1 .taken) (at-loop .loop .inv),
+      shell-putting-set (call .numbers .now) (call .order .now) (call .level) (call .from) (start .pre .0) (at-loop .loop .i) _ (λ l. c .if1 .taken)
+          (at-loop .loop .inv),
+      shell-putting-next (call .numbers .now) (call .order .now) (call .level) (call .from) (start .pre .0) (at-loop .loop .i) _ (λ l. c .if1 .taken)
+          (at-loop .loop .inv),
     )
 
 loop-again : tie.Need-loop-again Inv-loop μ-loop

@@ -11,7 +11,8 @@ returns c =
     let room = asked .before in
     let call = room .before .before .before .before .before .before .before .before .before .before .before .args in
     let s = lists (call .names .now) (call .levels .now) (call .parents .now) (call .answer .now) in
-    let size = places-least (call .room) s _ _ _ (room .before .before .before .least .ensures) (room .before .before .least2 .ensures) (room .before .least3 .ensures) in
+    let size = places-least (call .room) s _ _ _ (room .before .before .before .least .ensures) (room .before .before .least2 .ensures)
+    (room .before .least3 .ensures) in
     tree-refused (call .n) (call .room) (call .links .now) (call .numbers .now) (call .order .now) s _ _ _ size
     (room-test (call .n) _ (length (call .answer .now)) _ (room .least4 .ensures)) (asked .refusal .ensures) _ (c .if1 .taken) refl refl
 
@@ -22,7 +23,8 @@ grow-requires c κs =
     let room = asked .before in
     let call = room .before .before .before .before .before .before .before .before .before .before .before .args in
     let s = lists (call .names .now) (call .levels .now) (call .parents .now) (call .answer .now) in
-    let size = places-least (call .room) s _ _ _ (room .before .before .before .least .ensures) (room .before .before .least2 .ensures) (room .before .least3 .ensures) in
+    let size = places-least (call .room) s _ _ _ (room .before .before .before .least .ensures) (room .before .before .least2 .ensures)
+    (room .before .least3 .ensures) in
     tree-ready (call .n) (call .room) (call .links .now) (call .numbers .now) (call .order .now) s _ _ _ size
     (room-test (call .n) _ (length (call .answer .now)) _ (room .least4 .ensures)) (asked .refusal .ensures) (passed .if1 .left)
 
@@ -34,7 +36,8 @@ returns-2 c =
     let room = asked .before in
     let call = room .before .before .before .before .before .before .before .before .before .before .before .args in
     let s = lists (call .names .now) (call .levels .now) (call .parents .now) (call .answer .now) in
-    let size = places-least (call .room) s _ _ _ (room .before .before .before .least .ensures) (room .before .before .least2 .ensures) (room .before .least3 .ensures) in
+    let size = places-least (call .room) s _ _ _ (room .before .before .before .least .ensures) (room .before .before .least2 .ensures)
+    (room .before .least3 .ensures) in
     tree-accepted (call .n) (call .room) (call .links .now) (call .numbers .now) (call .order .now) s _ _ _ size
     (room-test (call .n) _ (length (call .answer .now)) _ (room .least4 .ensures)) (asked .refusal .ensures) (passed .if1 .left) _ _ refl (grown .grow .ensures)
 

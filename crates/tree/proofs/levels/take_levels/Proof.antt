@@ -34,8 +34,14 @@ take-level-requires c κs =
 
 add-k : tie.Need-add-k Inv-loop μ-loop
 add-k c =
-    let test = c .before .before .before .before .before .before .before .before .before .before .before .before .before .before .before .before .before .before .before .before .before .before .before .before .before in
-    omega (arith, test .loop-test .taken, test .before .before .before .before .before .before .before .before .before .before .before .before .before .before .before .pre .low)
+    let test = c .before .before .before .before .before .before .before .before .before .before .before .before .before .before .before .before .before .before
+    .before .before .before .before .before .before .before in
+    omega (
+      arith,
+      test .loop-test .taken,
+      test .before .before .before .before .before .before .before .before .before .before .before .before
+          .before .before .before .pre .low,
+    )
 
 loop-again : tie.Need-loop-again Inv-loop μ-loop
 loop-again c =
@@ -52,7 +58,15 @@ loop-again c =
       level-next (call .numbers .now) k _ (at-loop .loop .all) _ (inv .0) (put .put-shell2 .ensures .0) (inv .3) (c .before .take-set .ensures),
       put .put-shell2 .ensures .1,
       treeing-turn (call .links .now) (call .numbers .now) _ _ k _ _ _ _
-          (record { names = c .before .before .before .before .before .before .before .before .before .before .before .names .given; levels = c .before .before .before .before .before .before .before .before .before .levels .given; parents = c .before .before .before .before .before .before .before .parents .given; answer = c .before .before .before .before .before .answer .given })
+          (record {
+            names = c .before .before .before .before .before .before .before .before .before .before .before .names .given;
+            levels =
+                c .before .before .before .before .before .before .before .before .before .levels .given;
+            parents =
+                c .before .before .before .before .before .before .before .parents .given;
+            answer =
+                c .before .before .before .before .before .answer .given;
+          })
           (taken .take-level .ensures .0) (taken .take-level .ensures .1) (inv .5),
     )
 
@@ -60,7 +74,8 @@ returns : tie.Need-returns Inv-loop μ-loop
 returns c =
     let at-loop = c .before in
     let call = at-loop .before .before .before .before .before .before .before .before .before .before .before .before .before .before .args in
-    treeing-end (call .links .now) (call .numbers .now) _ (call .top) (at-loop .loop .k) _ _ (omega (arith, c .loop-test .left, at-loop .loop .inv .2)) (at-loop .loop .inv .5)
+    treeing-end (call .links .now) (call .numbers .now) _ (call .top) (at-loop .loop .k) _ _ (omega (arith, c .loop-test .left, at-loop .loop .inv .2))
+    (at-loop .loop .inv .5)
 
 pub take-levels-spec : {M : Type 1} → statement M
 take-levels-spec =
@@ -68,12 +83,31 @@ take-levels-spec =
     tie.spec Inv-loop μ-loop (λ c. search needs) (λ c κs. search needs) (λ c. search needs)
     (λ c κs. (c .before .before .before .before .before .before .before .before .before .before .before .pre .start, refl))
     (λ c. (search needs, refl, omega arith, c .before .before .before .before .at-least .ensures, c .before .put-shell .ensures .1, treeing-none _ _ _))
-    (λ c. omega (arith, c .loop-test .taken, c .before .before .before .before .before .before .before .before .before .before .before .before .before .before .before .pre .low))
+    (λ c. omega (
+      arith,
+      c .loop-test .taken,
+      c .before .before .before .before .before .before .before .before .before .before .before .before
+          .before .before .before .pre .low,
+    ))
     (λ c. search needs) (λ c κs. (c .before .before .loop .inv .4, refl))
-    (λ c. omega (arith, c .before .before .before .loop-test .taken, c .before .before .before .before .before .before .before .before .before .before .before .before .before .before .before .before .before .before .pre .low))
+    (λ c. omega (
+      arith,
+      c .before .before .before .loop-test .taken,
+      c .before .before .before .before .before .before .before .before .before .before .before .before .before .before .before
+          .before .before .before .pre .low,
+    ))
     (λ c. search needs) (λ c. search needs) (λ c. search needs) take-level-requires (λ c. search needs) (λ c. search needs)
-    (λ c κs. (c .before .before .before .before .before .before .before .before .before .before .before .before .before .before .before .before .before .before .before .before .before .put-shell2 .ensures .0 .long, c .before .before .before .before .before .before .before .before .before .before .before .before .before .before .before .before .before .before .before .before .before .before .before .before .loop .inv .0))
+    (λ c κs. (
+      c .before .before .before .before .before .before .before .before .before .before .before .before .before .before .before .before .before .before
+          .before .before .before .put-shell2 .ensures .0 .long,
+      c .before .before .before .before .before .before .before .before .before .before .before .before .before .before .before .before .before .before
+          .before .before .before .before .before .before .loop .inv .0,
+    ))
     add-k
-    (λ c. omega (arith, c .before .before .before .before .before .before .before .before .before .before .before .before .before .before .before .before .before .before .before .before .before .before .before .before .before .loop-test .taken))
+    (λ c. omega (
+      arith,
+      c .before .before .before .before .before .before .before .before .before .before .before .before .before .before .before .before
+          .before .before .before .before .before .before .before .before .before .loop-test .taken,
+    ))
     loop-again (λ c. c .before .loop .inv .5 .lengths .names) (λ c. c .before .loop .inv .5 .lengths .levels)
     (λ c. c .before .loop .inv .5 .lengths .parents) (λ c. c .before .loop .inv .5 .lengths .answer) returns)
