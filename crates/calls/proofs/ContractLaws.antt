@@ -8,7 +8,8 @@
 --   value-refused, value-answered       a contract that answers a value, met
 --   listing-refused, listing-answered   a contract that lists into a lent table, met
 use Rattle.lists.specs.{Kit.{_≡_, refl, sym, ap, _∙_, _⊎_, inl, inr, List, ℕ, zero, suc, arith}, Lists.{overwrite}}
-use Rattle.calls.specs.Outcomes.{by-number, value, listing, value-outcome, listing-outcome}
+use Rattle.calls.specs.Outcomes.{value, listing, value-outcome, listing-outcome}
+use Rattle.calls.specs.Questions.{by-number}
 
 -- ---- by the number
 

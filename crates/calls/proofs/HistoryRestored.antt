@@ -8,13 +8,14 @@ use Rattle.mesh.{specs.Image.{image-order}, proofs.Tables.ReadBack.{graph-in-li
 use Rattle.mesh.{proofs.Images.Sites.{written-read}}
 use Rattle.calls.specs.{Questions.{Lengths, lengths-of}, Marks.{set-refusal, named-refusal, mark-image}, Switches.{pairs-after, tables-after}}
 use Rattle.calls.specs.{Book.{Call, from-image, Marking, no-mark, sets, removes, returns, Outcome, outcome-with, unless-refused, outcome, setting}}
-use Rattle.calls.specs.{Book.{returning, Answer, plain, Given, given, booked, first-pairs, pairs-of, book-after, radios, beginning-tables, History}}
-use Rattle.calls.specs.{Book.{fresh, history-by, image-at, Marked, Past, past, image-under, is-mark, struck, replacing, recalled, marked-by, past-by}}
-use Rattle.calls.specs.{Book.{past-after, past-of, is-image, leaves, all-leave, history}, MarkOutcomes.{set-outcome, return-outcome}, Runs.{done, Event}}
+use Rattle.calls.specs.{Book.{returning, Answer, plain, Given, given, booked, first-pairs, pairs-of, book-after, site-size, beginning-tables, History}}
+use Rattle.calls.specs.{Book.{fresh, history-by, image-at, Marked, Past, past, image-under, matches, struck, replacing, recalled, marked-by, past-by}}
+use Rattle.calls.specs.{Book.{past-after, past-of, replaces, leaves, all-leave, history}, MarkOutcomes.{set-outcome, return-outcome}, Runs.{done, Event}}
 use Rattle.calls.specs.{Runs.{event, events, after, givens}, Demand.{Start, beginning}}
 use Rattle.calls.proofs.{Runs.{Run, Does, run, events-append}, Holds.{read-back}, MarkCalls.{named-zero, mark-is-image}, Steps.{step}}
 use Rattle.calls.proofs.{Histories.{Past-holds, image-is, order-is, replacing-hold, past-kept}, WholeList.{start-past}}
 use Rattle.mesh.specs.Image as images
+use Rattle.calls.specs.Questions.{by-number}
 
 -- ---- what is recalled
 
@@ -26,9 +27,9 @@ not-so false h = refl
 -- a mark struck of which the name or the image is another
 recalled-struck :
     (x y : List ℕ) (h : History) (j : List ℕ) (ms : List Marked) → same y x && same j (image-at h) ≡ false → recalled x h (struck y j ms) ≡ recalled x h ms
-unfolding recalled struck is-mark
+unfolding recalled struck matches
 recalled-struck x y h j [] e = refl
-recalled-struck x y h j (m ∷ ms) e = go (is-mark y j m) refl (recalled-struck x y h j ms e)
+recalled-struck x y h j (m ∷ ms) e = go (matches y j m) refl (recalled-struck x y h j ms e)
   where
     go : (t : Bool) → same (m .name) y && same (image-at (m .history)) j ≡ t → recalled x h (struck y j ms) ≡ recalled x h ms →
         recalled x h (cond t ms (m ∷ struck y j ms)) ≡ recalled x h (m ∷ ms)
@@ -42,9 +43,9 @@ recalled-struck x y h j (m ∷ ms) e = go (is-mark y j m) refl (recalled-struck 
 
 -- neither the image set nor the one replaced is the mark's
 recalled-set :
-    (x y : List ℕ) (h i : History) (r : Option (List ℕ)) (ms : List Marked) → same y x && (same (image-at i) (image-at h) || is-image r (image-at h)) ≡ false →
+    (x y : List ℕ) (h i : History) (r : Option (List ℕ)) (ms : List Marked) → same y x && (same (image-at i) (image-at h) || replaces r (image-at h)) ≡ false →
     recalled x h (record { name = y; history = i } ∷ replacing y r ms) ≡ recalled x h ms
-unfolding recalled is-mark replacing is-image
+unfolding recalled matches replacing replaces
 recalled-set x y h i none ms e = rw (own (same y x) (same (image-at i) (image-at h)) false e) refl
   where
     own : (a b c : Bool) → a && (b || c) ≡ false → a && b ≡ false
@@ -71,7 +72,7 @@ recalled-step :
     recalled x h (marked-by m i ms .marks) ≡ recalled x h ms
 unfolding marked-by leaves
 recalled-step x h i ms no-mark e = refl
-recalled-step x h i ms (sets y r) e = recalled-set x y h i r ms (not-so (same y x && (same (image-at i) (image-at h) || is-image r (image-at h))) e)
+recalled-step x h i ms (sets y r) e = recalled-set x y h i r ms (not-so (same y x && (same (image-at i) (image-at h) || replaces r (image-at h))) e)
 recalled-step x h i ms (removes y j) e = recalled-struck x y h j ms (not-so (same y x && same j (image-at h)) e)
 recalled-step x h i ms (returns y) e = refl
 
@@ -89,7 +90,7 @@ recalled-after x h (c ∷ cs) ps p e =
     ∙ recalled-step x h (history-by (o .begins) (o .switches) (p .history)) (p .marks) (o .marking) (and-left l r e)
 
 recalled-own : (x : List ℕ) (h i : History) (ms : List Marked) → image-at i ≡ image-at h → recalled x h (record { name = x; history = i } ∷ ms) ≡ i
-unfolding recalled is-mark
+unfolding recalled matches
 recalled-own x h i ms e = rw (same-refl x, e, same-refl (image-at h))
 
 -- ---- lists one after the other
@@ -120,20 +121,20 @@ number-of (h ∷ hs) = h .number
 
 -- a number 0 is no refusal
 accepted : (R : ℕ) (o : Outcome) → plain 0 ∷ [] ≡ unless-refused R o .answers → R ≡ 0
-unfolding unless-refused number-of plain
+unfolding by-number number-of plain
 accepted zero o e = refl
 accepted (suc q) o e = absurd (omega (arith, ap number-of e))
 
 accepted-set : (m : ℕ) (x bs : List ℕ) (l : Lengths) (ps : List Link) → plain 0 ∷ [] ≡ outcome (setting m x bs) l ps .answers →
     outcome (setting m x bs) l ps ≡ outcome-with (plain 0 ∷ []) none [] (sets x (image-under m x bs))
-unfolding outcome unless-refused
+unfolding outcome by-number
 accepted-set m x bs l ps e =
     let o = outcome-with (plain 0 ∷ []) none [] (sets x (image-under m x bs)) in
     ap (λ (R : ℕ). unless-refused R o) (accepted (set-refusal m l true x bs) o e)
 
 accepted-return : (j : ℕ) (x ds : List ℕ) (l : Lengths) (ps : List Link) → plain 0 ∷ [] ≡ outcome (returning j x ds) l ps .answers →
     (named-refusal j l true x ds ≡ 0) × (outcome (returning j x ds) l ps ≡ outcome-with (plain 0 ∷ []) (some (from-image j (mark-image j x ds))) [] (returns x))
-unfolding outcome unless-refused
+unfolding outcome by-number
 accepted-return j x ds l ps e =
     let o = outcome-with (plain 0 ∷ []) (some (from-image j (mark-image j x ds))) [] (returns x) in
     let z = accepted (named-refusal j l true x ds) o e in
@@ -141,7 +142,7 @@ accepted-return j x ds l ps e =
 
 -- the image of what reading an image leaves is that image
 image-read : (j : ℕ) (bs : List ℕ) → j ≤ max-radios → images.is-image j bs ≡ true → image-at (fresh (from-image j bs)) ≡ bs
-unfolding image-at fresh radios tables-after beginning-tables tables-of image-graph
+unfolding image-at fresh site-size tables-after beginning-tables tables-of image-graph
 image-read j bs small i =
     let v = image-valid j bs small i in
     ap (λ (g : Graph). image-of g (image-order j bs)) (graph-in-links-table (image-graph j bs) small (v .links-proper) (v .links-ascending)) ∙ written-read j bs i

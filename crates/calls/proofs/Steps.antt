@@ -7,19 +7,21 @@ use Rattle.lists.{specs.Kit.{_≡_, refl, ap, sym, subst, _∙_, Bool, true, Li
 use Rattle.lists.{specs.Kit.{ℤ, pos}, specs.Lists.{overwrite}, proofs.Overwrite.{take-overwrite}}
 use Rattle.mesh.specs.{Limits.{max-neighbours}, Graph.{Link, Graph, graph}, Levels.{changed, step-of}, Tables.{Tables, graph-in}, Sound.{sound}}
 use Rattle.mesh.specs.{Image.{image-links}}
-use Rattle.calls.specs.{Questions.{lengths-of, answer-length, ask, ends-then, ends-refusal, is-proposal, tables-refusal, link-refusal, commit-refusal}}
+use Rattle.calls.specs.{Questions.{lengths-of, answer-length, ask, ends-then, ends-refusal, is-proposal, tables-refusal, commit-refusal}}
 use Rattle.calls.specs.{Questions.{read-refusal}, Switches.{Switch, switch, pairs-after, tables-after, All-allowed}, Batches.{list-length, batch-refusal}}
 use Rattle.calls.specs.{Batches.{batch-switches, batch-stop}, Heard.{heard-lengths, heard-proper, agreed-few, hear-refusal, one-sided-count}}
 use Rattle.calls.specs.{Heard.{heard-switches}, Marks.{store-length, marks-good, is-marked, has-place, mark-refusal, set-refusal, named-refusal}}
 use Rattle.calls.specs.{Marks.{mark-image}, Book.{Call, clearing, reading, linking, committing, batching, hearing, setting, removing, returning, other}}
 use Rattle.calls.specs.{Book.{Outcome, Answer, plain, reported, committed, counted, image-under, Beginning, from-clearing, from-image, Marking, no-mark}}
-use Rattle.calls.specs.{Book.{sets, removes, returns, outcome-of, outcome-with, unless-refused, outcome, beginning-pairs, first-pairs, pairs-of, radios}}
-use Rattle.calls.specs.{Book.{beginning-tables}, Outcomes.{by-number, links-taken, clear-outcome, read-outcome, link-outcome, commit-outcome}}
+use Rattle.calls.specs.{Book.{sets, removes, returns, outcome-of, outcome-with, unless-refused, outcome, beginning-pairs, first-pairs, pairs-of, site-size}}
+use Rattle.calls.specs.{Book.{beginning-tables}, Outcomes.{links-taken, clear-outcome, read-outcome, link-outcome, commit-outcome}}
 use Rattle.calls.specs.{Outcomes.{batch-outcome, hear-outcome}, MarkOutcomes.{store-outcome, set-outcome, remove-outcome, return-outcome}}
 use Rattle.calls.specs.{Runs.{answer-of, replied, Done, done}, Demand.{ended, Call-kept, Start, cleared, read, By-history}, declared.Reply.{Reply}}
 use Rattle.calls.proofs.{ChainLaws.{lent-zero, site-zero, link-zero, commit-zero, read-zero}, Runs.{Does}, MarkCalls.{named-zero, mark-read}}
 use Rattle.calls.proofs.{Holds.{clear-is, read-is, Holds, clear-holds, read-holds, unchanged-holds, same-n, read-back, site-asked, with-n, all-holds}}
 use Rattle.calls.proofs.{Holds.{all-switching}, QuestionLaws.{ask-zero}, Batches.{batch-allowed}, HeardLaws.{hear-allowed}}
+use Rattle.calls.specs.Questions.{by-number}
+use Rattle.calls.specs.Chains.{link-refusal}
 
 pub record Stepped (n : ℕ) (ps : List Link) (o : Outcome) (t : Tables) (hs : List Answer) (v : Tables) : Type 0 where
   pub kept : Call-kept n ps o t hs v
@@ -60,15 +62,15 @@ module _ (n : ℕ) (ps : List Link) (t : Tables) (k : Holds n ps t) where
 
   -- a refused call
   refused :
-      (q : ℕ) (o : Outcome) (hs : List Answer) (v : Tables) → hs ≡ one (plain (suc q)) → v ≡ t → Stepped n ps (unless-refused (suc q) o) t hs v
-  unfolding unless-refused pairs-of first-pairs pairs-after tables-after
-  refused q o hs v e f = record { kept = record { answered = e; tables = λ j. f; switching = λ j. rw f ended; started = λ qs j. absurd (none-some j) }; holds = unchanged-holds n ps t k f }
+      (q : ℕ) (hs : List Answer) (v : Tables) → hs ≡ one (plain (suc q)) → v ≡ t → Stepped n ps (outcome-of (one (plain (suc q))) none []) t hs v
+  unfolding pairs-of first-pairs pairs-after tables-after
+  refused q hs v e f = record { kept = record { answered = e; tables = λ j. f; switching = λ j. rw f ended; started = λ qs j. absurd (none-some j) }; holds = unchanged-holds n ps t k f }
 
   -- a clearing, a reading or a coming back
   restarted :
-      (hs rs : List Answer) (b : Beginning) (m : Marking) (v : Tables) → hs ≡ rs → radios b ≡ n → v ≡ beginning-tables b → Start n (beginning-pairs b) v →
+      (hs rs : List Answer) (b : Beginning) (m : Marking) (v : Tables) → hs ≡ rs → site-size b ≡ n → v ≡ beginning-tables b → Start n (beginning-pairs b) v →
       Holds n (beginning-pairs b) v → Stepped n ps (unless-refused 0 (outcome-with rs (some b) [] m)) t hs v
-  unfolding unless-refused pairs-of first-pairs pairs-after tables-after the-beginning
+  unfolding by-number pairs-of first-pairs pairs-after tables-after the-beginning
   restarted hs rs b m v e z f s k′ = record {
     kept = record {
       answered = e;
@@ -84,7 +86,7 @@ module _ (n : ℕ) (ps : List Link) (t : Tables) (k : Holds n ps t) where
   -- a call that leaves links, numbers and order, and sets or removes a mark
   left-alone :
       (hs rs : List Answer) (m : Marking) (v : Tables) → hs ≡ rs → v ≡ t → Stepped n ps (unless-refused 0 (outcome-with rs none [] m)) t hs v
-  unfolding unless-refused pairs-of first-pairs pairs-after tables-after
+  unfolding by-number pairs-of first-pairs pairs-after tables-after
   left-alone hs rs m v e f = record {
     kept = record { answered = e; tables = λ j. f; switching = λ j. rw f ended; started = λ qs j. absurd (none-some j) };
     holds = unchanged-holds n ps t k f;
@@ -94,7 +96,7 @@ module _ (n : ℕ) (ps : List Link) (t : Tables) (k : Holds n ps t) where
   carried :
       (hs rs : List Answer) (ss : List Switch) (v : Tables) → hs ≡ rs → All-allowed n ps ss → v ≡ tables-after n ss t →
       Stepped n ps (unless-refused 0 (outcome-of rs none ss)) t hs v
-  unfolding unless-refused pairs-of first-pairs
+  unfolding by-number pairs-of first-pairs
   carried hs rs ss v e ok f = record {
     kept = record { answered = e; tables = λ j. f; switching = λ j. rw f (all-switching n ps ss t k ok); started = λ qs j. absurd (none-some j) };
     holds = rw f (all-holds n ps ss t k ok);
@@ -116,18 +118,18 @@ module _ (n : ℕ) (ps : List Link) (t : Tables) (k : Holds n ps t) where
   clear-step :
       (R m : ℕ) → tables-refusal m (lengths-of t) ≡ R → let o = clear-outcome m t in
       Stepped n ps (unless-refused R (outcome-of (one (plain 0)) (some (from-clearing m)) [])) t (one (plain (o .reply))) (o .tables)
-  unfolding tables-refusal radios beginning-pairs clear-outcome by-number
+  unfolding tables-refusal site-size beginning-pairs clear-outcome by-number
   clear-step zero m p =
       let lent = lent-zero m (lengths-of t) true 0 p .0 in
       rw (clear-is m t p) (restarted _ _ (from-clearing m) no-mark _ refl (same-n n ps t k m true lent) refl (clear-start m p)
       (with-n n ps t k m [] _ true lent (clear-holds m t p)))
-  clear-step (suc x) m p = rw p (refused x _ _ t refl refl)
+  clear-step (suc x) m p = rw p (refused x _ t refl refl)
 
   -- of an image that reading takes
   image-step :
       (m : ℕ) (bs : List ℕ) (mark : Marking) → read-refusal m (lengths-of t) bs ≡ 0 →
       Stepped n ps (unless-refused 0 (outcome-with (one (plain 0)) (some (from-image m bs)) [] mark)) t (one (plain 0)) (beginning-tables (from-image m bs))
-  unfolding radios beginning-pairs
+  unfolding site-size beginning-pairs
   image-step m bs mark p =
       let lent = read-zero m (lengths-of t) bs p .0 in
       restarted _ _ (from-image m bs) mark _ refl (same-n n ps t k m true lent) refl (read-start m bs p)
@@ -138,7 +140,7 @@ module _ (n : ℕ) (ps : List Link) (t : Tables) (k : Holds n ps t) where
       Stepped n ps (unless-refused R (outcome-of (one (plain 0)) (some (from-image m bs)) [])) t (one (plain (o .reply))) (o .tables)
   unfolding read-outcome by-number
   read-step zero m bs p = rw (read-is m bs t p) (image-step m bs no-mark p)
-  read-step (suc x) m bs p = rw p (refused x _ _ t refl refl)
+  read-step (suc x) m bs p = rw p (refused x _ t refl refl)
 
   -- ---- a link call
 
@@ -146,8 +148,8 @@ module _ (n : ℕ) (ps : List Link) (t : Tables) (k : Holds n ps t) where
       (R : ℕ) (u : Bool) (m a b : ℕ) (w : List ℕ) → link-refusal u m a b (lengths-of t) (length w) true (graph m ps) ≡ R →
       let o = link-outcome u m a b t w in
       Stepped n ps (unless-refused R (outcome-of (one (reported u (changed u a b (graph m ps)))) none (switch u a b ∷ []))) t
-      (one (answer-of (o .reply) (o .answer))) (o .tables)
-  unfolding link-outcome link-refusal sound by-number All-allowed tables-after answer-of reported plain
+      (one (answer-of (o .reply) (o .lent))) (o .tables)
+  unfolding link-outcome sound by-number All-allowed tables-after answer-of reported plain
   link-step zero u m a b w p =
       let z = link-zero u a b (lengths-of t) (length w) true (graph m ps) p in
       let i = same-n n ps t k m (answer-length m (length w)) (z .0 .lent) in
@@ -155,7 +157,7 @@ module _ (n : ℕ) (ps : List Link) (t : Tables) (k : Holds n ps t) where
       rw (site-asked n ps t k m (answer-length m (length w)) (λ g. ends-refusal max-neighbours u m a b g) ∙ p)
       (carried _ _ (switch u a b ∷ []) _ (rw (f, take-overwrite (changed u a b (graph m ps)) w)) (rw i at (z .1), tt) (rw i refl))
   link-step (suc y) u m a b w p =
-      rw (site-asked n ps t k m (answer-length m (length w)) (λ g. ends-refusal max-neighbours u m a b g) ∙ p) (refused y _ _ t refl refl)
+      rw (site-asked n ps t k m (answer-length m (length w)) (λ g. ends-refusal max-neighbours u m a b g) ∙ p) (refused y _ t refl refl)
 
   -- ---- committing
 
@@ -172,7 +174,7 @@ module _ (n : ℕ) (ps : List Link) (t : Tables) (k : Holds n ps t) where
       rw (site-asked n ps t k m true (λ g. ends-then max-neighbours u m a b g (ask 16 (is-proposal u a b z xs g) 0)) ∙ p)
       (carried _ _ (switch u a b ∷ []) _ (rw f) (rw i at (y .1), tt) (rw i refl))
   commit-step (suc y) u m a b z xs p =
-      rw (site-asked n ps t k m true (λ g. ends-then max-neighbours u m a b g (ask 16 (is-proposal u a b z xs g) 0)) ∙ p) (refused y _ _ t refl refl)
+      rw (site-asked n ps t k m true (λ g. ends-then max-neighbours u m a b g (ask 16 (is-proposal u a b z xs g) 0)) ∙ p) (refused y _ t refl refl)
 
   -- ---- a batch
 
@@ -185,7 +187,7 @@ module _ (n : ℕ) (ps : List Link) (t : Tables) (k : Holds n ps t) where
       let i = same-n n ps t k m (list-length (length xs)) (site-zero m (lengths-of t) (list-length (length xs)) true 0 p .0 .lent) in
       let f : graph-in m (t .links) .links ≡ ps = rw i (ap (λ (g : Graph). g .links) (read-back n ps t k)) in
       rw (site-asked n ps t k m (list-length (length xs)) (λ g. 0) ∙ p, f, i) (carried _ _ (batch-switches n xs ps) _ refl (batch-allowed n xs ps) refl)
-  batch-step (suc y) m xs p = rw (site-asked n ps t k m (list-length (length xs)) (λ g. 0) ∙ p) (refused y _ _ t refl refl)
+  batch-step (suc y) m xs p = rw (site-asked n ps t k m (list-length (length xs)) (λ g. 0) ∙ p) (refused y _ t refl refl)
 
   -- ---- a hearing
 
@@ -210,7 +212,7 @@ module _ (n : ℕ) (ps : List Link) (t : Tables) (k : Holds n ps t) where
       (carried _ _ (heard-switches (graph n ps) xs) _ refl
       (hear-allowed n xs ps (k .most) (record { is-proper = k .valid .links-proper; is-ascending = k .valid .links-ascending }) (rw i at (y .0)) (rw i at few))
       refl)
-  hear-step (suc y) m xs w p = rw (hear-asked m xs w ∙ p) (refused y _ _ t refl refl)
+  hear-step (suc y) m xs w p = rw (hear-asked m xs w ∙ p) (refused y _ t refl refl)
 
   -- ---- marks (W-211)
 
@@ -224,7 +226,7 @@ module _ (n : ℕ) (ps : List Link) (t : Tables) (k : Holds n ps t) where
       Stepped n ps (unless-refused R (outcome-with (one (plain 0)) none [] mark)) t (one (plain (store-outcome R new old .reply))) t
   unfolding store-outcome by-number
   store-step zero new old mark = left-alone _ _ mark t refl refl
-  store-step (suc y) new old mark = refused y _ _ t refl refl
+  store-step (suc y) new old mark = refused y _ t refl refl
 
   return-step :
       (R m : ℕ) (x bs : List ℕ) → named-refusal m (lengths-of t) true x bs ≡ R → let o = return-outcome m x bs t in
@@ -234,7 +236,7 @@ module _ (n : ℕ) (ps : List Link) (t : Tables) (k : Holds n ps t) where
   return-step zero m x bs p =
       let a = named-zero m (lengths-of t) true x bs p in
       rw (mark-asked m x bs (ask 18 (is-marked x bs) 0) ∙ p) (image-step m (mark-image m x bs) (returns x) (mark-read m (lengths-of t) true x bs (a .0) (a .1)))
-  return-step (suc y) m x bs p = rw (mark-asked m x bs (ask 18 (is-marked x bs) 0) ∙ p) (refused y _ _ t refl refl)
+  return-step (suc y) m x bs p = rw (mark-asked m x bs (ask 18 (is-marked x bs) 0) ∙ p) (refused y _ t refl refl)
 
   -- ---- any call
 

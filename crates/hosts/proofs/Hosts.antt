@@ -11,7 +11,7 @@ use Rattle.machine.{specs.Cells.{Place, Lent, place, entries, Inputs, Span, Sta
 use Rattle.machine.{specs.Cells.{writes, outcome-of}, proofs.Chain.{list-one, cells-count, carried, first-entries}, proofs.Again.{stands-still}}
 use Rattle.machine.{proofs.Left.{ran-lengths, ran-held}, proofs.Made.{ran-one}}
 use Rattle.mesh.specs.{Graph.{Link, graph}, Tables.{Tables, tables}, Image.{image-links}}
-use Rattle.calls.{specs.Questions.{Lengths, lengths-of}, specs.Contracts.{Clear-contract, Read-contract}, specs.Outcomes.{numbered, clear-outcome}}
+use Rattle.calls.{specs.Questions.{Lengths, lengths-of}, specs.Contracts.{Clear-contract, Read-contract}, specs.Outcomes.{tabled, clear-outcome}}
 use Rattle.calls.{specs.Outcomes.{read-outcome, link-outcome, commit-outcome, batch-outcome, hear-outcome}, specs.MarkOutcomes.{set-outcome, remove-outcome}}
 use Rattle.calls.{specs.MarkOutcomes.{return-outcome}, specs.Book.{Call, clearing, reading, linking, committing, batching, hearing, setting, removing}}
 use Rattle.calls.{specs.Book.{returning, other, Given, given, Answer, plain, counted, Outcome, outcome, booked, book-after, pairs-of}, specs.Runs.{Done}}
@@ -19,7 +19,7 @@ use Rattle.calls.{specs.Runs.{answer-of, replied, done, events, after, givens},
 use Rattle.calls.{proofs.Runs.{link-done, hear-done, Does}, proofs.Holds.{Holds}, proofs.Steps.{step}, proofs.WholeList.{start, demand-3}}
 use Rattle.hosts.specs.{Public.{Known, clear, image-read, link, commit, link-batch, hear, mark-set, mark-remove, mark-return, Public, of-book, call}}
 use Rattle.hosts.specs.{Public.{bytes, words, the-tables, number-value}, Hosts.{Site, Lie, Table-cell, of-links, of-numbers, of-order, Untouched}}
-use Rattle.hosts.specs.{Hosts.{site-at, told-of, shown, Turn, on-site, elsewhere, made, Step, Placed, book-call, call-of, fed, Said-so, Said, Agrees}}
+use Rattle.hosts.specs.{Hosts.{site-at, told-of, shown, Turn, on-site, elsewhere, made, Step, Placed, book-call, call-of, fed, Said}}
 use Rattle.hosts.specs.{Hosts.{Carried-out, clears, reads, Made, Hosted, Hosts-demand, Standing-demand}}
 use Rattle.hosts.specs.Hosts as hosts
 
@@ -112,9 +112,12 @@ three τ p q r v w h = record {
 
 -- ---- one call
 
+abbrev pub Answered : Step → List Answer → Type 0
+Answered k hs = Said (k .turn) (k .inputs) (k .returned) (k .after) hs
+
 -- what the machine shows, and the tables that stand after the call, are those of d
 abbrev pub Came : Site → Step → Done → Type 0
-Came s k d = Said k (d .answers) × Lie s (k .after) (d .tables)
+Came s k d = Answered k (d .answers) × Lie s (k .after) (d .tables)
 
 abbrev pub Shows : Site → Step → Tables → Type 0
 Shows s k t = Came s k (done (call-of k) t)
@@ -180,9 +183,9 @@ module _ (ρ : Public → Routine) (s : Site) (m : ℕ) (t : Tables) where
       let o = link-outcome up (i .0) (i .1 .0) (i .1 .1 .0) T (entries x) in
       let w = writer (j .0) (j .1 .0) (j .1 .1 .0) at σ (h .memory) lie (o .tables) (ready .writes-stand) (ready .good .1 .1 .1) (h .stand) (ran-lengths h)
       (ran-held h) in
-      let listed = first-entries w16 (h .memory) (x .0 .0) (x .0 .1) (o .reply .count) (o .answer) (h .stand .1 .1 .1 .0) in
+      let listed = first-entries w16 (h .memory) (x .0 .0) (x .0 .1) (o .reply .count) (o .lent) (h .stand .1 .1 .1 .0) in
       subst (Shows s k) (w .0) (subst (Came s k) (link-done up (i .0) (i .1 .0) (i .1 .1 .0) T (entries x))
-      ((answer-of (o .reply) (o .answer), refl, refl, (listed, tt)), w .1))
+      ((answer-of (o .reply) (o .lent), refl, refl, (listed, tt)), w .1))
 
   commit-shows : (up : Bool) → On (commit up)
   unfolding done replied
@@ -255,7 +258,7 @@ module _ (ρ : Public → Routine) (s : Site) (m : ℕ) (t : Tables) where
       let ws = writes (call (of-book mark-set) .params) i in
       let w = reader (j .0) (j .1 .0) (j .1 .1 .0) at σ (h .memory) lie ws (λ z. stands-still σ (h .memory) ws (h .else-kept) (z .0) (z .1) (z .2))
       (ready .reads-stand) (ready .reads-apart) (ready .good .1) in (
-        subst (λ (u : Tables). Said (step-of (on-site mark-set) σ i m (ran (of-book mark-set) σ i h))
+        subst (λ (u : Tables). Answered (step-of (on-site mark-set) σ i m (ran (of-book mark-set) σ i h))
             (done (call-of (step-of (on-site mark-set) σ i m (ran (of-book mark-set) σ i h))) u .answers)) (w .0) (plain (o .reply), refl, refl, tt),
         w .1,
       )
@@ -269,7 +272,7 @@ module _ (ρ : Public → Routine) (s : Site) (m : ℕ) (t : Tables) where
       let ws = writes (call (of-book mark-remove) .params) i in
       let w = reader (j .0) (j .1 .0) (j .1 .1 .0) at σ (h .memory) lie ws (λ z. stands-still σ (h .memory) ws (h .else-kept) (z .0) (z .1) (z .2))
       (ready .reads-stand) (ready .reads-apart) (ready .good .1) in (
-        subst (λ (u : Tables). Said (step-of (on-site mark-remove) σ i m (ran (of-book mark-remove) σ i h))
+        subst (λ (u : Tables). Answered (step-of (on-site mark-remove) σ i m (ran (of-book mark-remove) σ i h))
             (done (call-of (step-of (on-site mark-remove) σ i m (ran (of-book mark-remove) σ i h))) u .answers)) (w .0) (plain (o .reply), refl, refl, tt),
         w .1,
       )
@@ -298,8 +301,7 @@ module _ (ρ : Public → Routine) (s : Site) (m : ℕ) (t : Tables) where
 record Went (s : Site) (ks : List Step) (t : Tables) (τ : Memory) : Type 0 where
   lie : Lie s τ (after (map call-of ks) t)
   given : givens (events (map call-of ks) t) ≡ fed s ks
-  carried-out : Carried-out s ks t
-  agrees : (n : ℕ) (ps : List Link) → Holds n ps t → Agrees s ks ps
+  carried-out : (n : ℕ) (ps : List Link) → Holds n ps t → Carried-out s ks t ps
 
 joined :
     (s : Site) (k : Step) (ks : List Step) (t : Tables) (τ : Memory) → Lie s (k .before) t → Shows s k t →
@@ -308,12 +310,12 @@ unfolding givens booked events after Does
 joined s k ks t τ lie d w = record {
   lie = w .lie;
   given = λ j. given (call-of k) (lie .lengths j) ∷ w .given j;
-  carried-out = (lie, d .0, d .1, w .carried-out);
-  agrees = λ n ps holds.
+  carried-out = λ n ps holds.
       let z = step n ps t holds (call-of k) (done (call-of k) t .answers) (done (call-of k) t .tables) refl in
       let asked : Lengths → Outcome = λ l. outcome (call-of k) l ps in
-      subst (λ (l : Lengths). Said k (asked l .answers) × Agrees s ks (pairs-of (asked l) ps)) (lie .lengths)
-      (subst (Said k) (z .kept .answered) (d .0), w .agrees n (pairs-of (asked (lengths-of t)) ps) (z .holds));
+      let v = done (call-of k) t .tables in
+      subst (λ (l : Lengths). Lie s (k .before) t × Answered k (asked l .answers) × Lie s (k .after) v × Carried-out s ks v (pairs-of (asked l) ps))
+      (lie .lengths) (lie, subst (Answered k) (z .kept .answered) (d .0), d .1, w .carried-out n (pairs-of (asked (lengths-of t)) ps) (z .holds));
 }
 
 -- ---- the first call
@@ -404,7 +406,7 @@ first-number : List Answer → ℕ
 first-number [] = 0
 first-number (h ∷ hs) = h .number
 
-said-number : (w : Turn) (i : Inputs (call (made w) .params)) (v : Val) (τ : Memory) (hs : List Answer) → Said-so w i v τ hs → v ≡ number-value 0 →
+said-number : (w : Turn) (i : Inputs (call (made w) .params)) (v : Val) (τ : Memory) (hs : List Answer) → Said w i v τ hs → v ≡ number-value 0 →
     first-number hs ≡ 0 ⊎ (hs ≡ [])
 unfolding first-number number-of
 said-number (on-site x) i v τ hs y z = inl (ap first-number (y .1) ∙ sym (number-shown x (y .0)) ∙ ap number-of (sym (y .2) ∙ z))
@@ -422,7 +424,7 @@ module _ (ρ : Public → Routine) (runs : (x : Public) → Runs (ρ x) (call x)
 
   hosted-run : (s : Site) (t : Tables) (σ τ : Memory) (ks : List Step) → Lie s σ t → Hosted ρ s σ ks τ → ∥ Went s ks t τ ∥₁
   unfolding givens events after
-  hosted-run s t σ τ [] lie (hosts.ended f) = ∣ record { lie = untouched s σ τ f t lie; given = refl; carried-out = tt; agrees = λ n ps holds. tt } ∣₁
+  hosted-run s t σ τ [] lie (hosts.ended f) = ∣ record { lie = untouched s σ τ f t lie; given = refl; carried-out = λ n ps holds. tt } ∣₁
   hosted-run s t σ τ (k ∷ ks) lie (hosts.next f m r) =
       let stands = untouched s σ (k .before) f t lie in
       ∥∥₁-elim (done-one s k t m stands) ∥∥₁-prop (λ d.
@@ -441,8 +443,7 @@ module _ (ρ : Public → Routine) (runs : (x : Public) → Runs (ρ x) (call x)
         first = t;
         stood = lie;
         stand = w .lie;
-        agrees = w .agrees n ps (start b);
-        carried-out = w .carried-out;
+        carried-out = w .carried-out n ps (start b);
         kept = kept;
       })
 
@@ -461,7 +462,7 @@ module _ (ρ : Public → Routine) (runs : (x : Public) → Runs (ρ x) (call x)
       let c = subst (λ (c : Call). Came s k (done c t)) e (d .1) in
       let zero : o .reply ≡ 0 = elim (said-number (k .turn) (k .inputs) (k .returned) (k .after) (plain (o .reply) ∷ [])
       (c .0) z) [ inl q ↦ q | inr q ↦ absurd (cons-nil q) ] in
-      standing-demand s m [] (o .tables) (cleared m t (o .tables) (subst (λ (q : ℕ). numbered q (o .tables) ≡ o) zero refl)) (k .after) τ ks (c .1) r)
+      standing-demand s m [] (o .tables) (cleared m t (o .tables) (subst (λ (q : ℕ). tabled q (o .tables) ≡ o) zero refl)) (k .after) τ ks (c .1) r)
   hosts-demand s n ps b k ks τ (reads m image e z) made r =
       ∥∥₁-elim (began s k made (subst Known-call (sym e) tt)) ∥∥₁-prop (λ d.
       let t = d .0 in
@@ -469,5 +470,5 @@ module _ (ρ : Public → Routine) (runs : (x : Public) → Runs (ρ x) (call x)
       let c = subst (λ (c : Call). Came s k (done c t)) e (d .1) in
       let zero : o .reply ≡ 0 = elim (said-number (k .turn) (k .inputs) (k .returned) (k .after) (plain (o .reply) ∷ [])
       (c .0) z) [ inl q ↦ q | inr q ↦ absurd (cons-nil q) ] in
-      standing-demand s m (image-links m image) (o .tables) (read m image t (o .tables) (subst (λ (q : ℕ). numbered q (o .tables) ≡ o) zero refl))
+      standing-demand s m (image-links m image) (o .tables) (read m image t (o .tables) (subst (λ (q : ℕ). tabled q (o .tables) ≡ o) zero refl))
       (k .after) τ ks (c .1) r)

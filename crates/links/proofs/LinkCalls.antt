@@ -1,12 +1,13 @@
 -- A link call meets its contract, on plain values: refused and accepted, by the plan that was made.
 use Rattle.lists.specs.{Kit.{_≡_, sym, _∙_, Bool, true, List, ℕ, _≤_, arith, pos, length}, Lists.{overwrite}}
 use Rattle.mesh.specs.{Limits.{max-radios, max-neighbours}, Levels.{changed, step-of}, Tables.{Tables, graph-in}, Sound.{sound}}
-use Rattle.calls.{specs.Questions.{answer-length, lengths-of, ends-refusal, link-refusal}, specs.Switches.{switch, switched}, specs.Outcomes.{reply}}
+use Rattle.calls.{specs.Questions.{answer-length, lengths-of, ends-refusal}, specs.Switches.{switch, switched}, specs.Outcomes.{reply}}
 use Rattle.calls.{specs.Outcomes.{linked-with, link-outcome}, specs.Contracts.{Link-contract}, specs.declared.Reply.{Reply}, proofs.ContractLaws.{by-accepted}}
 use Rattle.calls.{proofs.ContractLaws.{by-refused}, proofs.ChainLaws.{site-zero}}
 use Rattle.links.specs.Changes.{plan-fits, Applied, Apply-contract}
 use Rattle.plan.{specs.Asked.{Plan-contract}, proofs.Asking.{link-room, asked-applicable}}
 use Rattle.links.proofs.Applied.{planned-fits, applied-accepted}
+use Rattle.calls.specs.Chains.{link-refusal}
 
 module _ (up : Bool) (n a b : ℕ) (t : Tables) (w lent : List ℕ) (q start size taken : ℕ) (stretch : List ℕ)
     (decided : Plan-contract up n a b t (length w) lent q start size taken stretch) (long : max-radios ≤ length lent) where
@@ -18,11 +19,11 @@ module _ (up : Bool) (n a b : ℕ) (t : Tables) (w lent : List ℕ) (q start siz
 
   -- the tables and the answer table are as they were
   pub link-refused : (q ≡ 0 → ⊥) → (r : Reply) → r .number ≡ q → r .step ≡ pos 0 → r .count ≡ 0 → Link-contract up n a b t w r t w
-  unfolding Link-contract link-outcome link-refusal sound
+  unfolding Link-contract link-outcome sound
   link-refused h r e s c = by-refused R _ _ (λ z. h (number-decided ∙ z)) (rw (e ∙ number-decided, s, c))
 
   pub fits-decided : q ≡ 0 → plan-fits start size taken (length stretch) (length (t .order)) ≡ true
-  unfolding link-refusal lengths-of
+  unfolding lengths-of
   fits-decided z =
       let zero : R ≡ 0 = sym number-decided ∙ z in
       let good = site-zero n (lengths-of t) (answer-length n (length w)) (sound n t) (ends-refusal max-neighbours up n a b (graph-in n (t .links))) zero .0 in
@@ -36,5 +37,5 @@ module _ (up : Bool) (n a b : ℕ) (t : Tables) (w lent : List ℕ) (q start siz
 
   pub link-accepted : q ≡ 0 → (r : Reply) (v : Tables) (x : List ℕ) → Apply-contract up a b start size taken stretch t w r v x
       → Link-contract up n a b t w r v x
-  unfolding Link-contract link-outcome link-refusal sound
+  unfolding Link-contract link-outcome sound
   link-accepted z r v x d = by-accepted R _ (sym number-decided ∙ z) (link-applied z r v x (d .fitting (fits-decided z)))

@@ -5,7 +5,7 @@ use Rattle.lists.{specs.Kit.{length-replicate, length-take-le, take-all}, specs
 use Rattle.lists.{proofs.Overwrite.{take-overwrite}}
 use mir.{Syntax.{w8}, Val.{SFits, toZ, ofZ}, Facts.{toZ-ofZ}}
 use Rattle.mesh.specs.{Limits.{max-radios}, Graph.{Graph}, Levels.{changed, step-of}, Tables.{Tables, graph-in}, Sound.{sound}}
-use Rattle.calls.{specs.Questions.{ask, lengths-of, same-step, is-proposal, link-refusal, commit-refusal}, specs.Outcomes.{Linked, committed-with, ask-outcome}}
+use Rattle.calls.{specs.Questions.{ask, lengths-of, same-step, is-proposal, commit-refusal}, specs.Outcomes.{Linked, tabled, ask-outcome}}
 use Rattle.calls.{specs.Outcomes.{commit-outcome}, specs.Contracts.{Ask-contract, Commit-contract}, specs.declared.Reply.{Reply}, proofs.QuestionLaws.{ask-yes}}
 use Rattle.calls.{proofs.QuestionLaws.{ask-no}, proofs.ContractLaws.{by-accepted, by-refused}, proofs.Proposals.{commit-numbered, proposal-iff, same-step-eq}}
 use Rattle.calls.{proofs.Proposals.{same-step-refl}}
@@ -14,6 +14,7 @@ use Rattle.plan.{specs.Planned.{changed-part}, specs.Asked.{Plan-contract}, pro
 use Rattle.links.specs.{Changes.{in-order, counted-step, Reported, Plan-put, Write-contract, Applied}, Proposed.{plan-proposes}}
 use Rattle.links.proofs.{ChangeLaws.{counted-step-length, counted-step-held, length-in-order}, Applied.{in-order-planned, fits-answer}}
 use Rattle.links.proofs.{LinkCalls.{number-decided, fits-decided, link-applied}}
+use Rattle.calls.specs.Chains.{link-refusal}
 
 -- ---- a plan in a stretch for as many radios as a site may have; w is the answer table
 
@@ -187,4 +188,4 @@ module _ (up : Bool) (n a b : ℕ) (t : Tables) (k : ℕ) (is : k ≡ max-radios
         commit-accepted v d =
             let put = d .fitting (fits-decided up n a b t scratch lent q start size taken stretch decided long zero) in
             let l = link-applied up n a b t scratch lent q start size taken stretch decided long zero _ v _ (applied v put) in
-            by-accepted C _ (asked ∙ ask-yes 16 _ 0 (sym told-is ∙ j)) (ap (λ (o : Linked). committed-with (o .reply) (o .tables)) l)
+            by-accepted C _ (asked ∙ ask-yes 16 _ 0 (sym told-is ∙ j)) (ap (λ (o : Linked Reply). tabled (o .reply) (o .tables)) l)

@@ -4,7 +4,7 @@ ghost use Rattle.mesh.specs.Limits.{max-radios};
 ghost use Rattle.mesh.specs.Lent.{lent};
 ghost use Rattle.mesh.specs.Tables.{graph-in};
 ghost use Rattle.calls.specs.Batches.{list-length, batch-refusal};
-ghost use Rattle.calls.specs.Outcomes.{batched, links-taken};
+ghost use Rattle.calls.specs.Outcomes.{tabled, links-taken};
 ghost use Rattle.calls.specs.Contracts.{Batch-contract};
 ghost use Rattle.links.specs.Steps.{Prepared};
 ghost use Rattle.links.specs.Batched.{Batch-asked};
@@ -26,7 +26,7 @@ fn take_links(
     highs: &mut [u8; Site::RADIOS as usize],
 ) -> Value
     requires { ⌜ Prepared n (lent links numbers order) (now places) (now highs) × (list-length (length (now list)) ≡ true) ⌝ }
-    ensures { λ r. ⌜ batched r (lent (links .exit) (numbers .exit) (order .exit))
+    ensures { λ r. ⌜ tabled r (lent (links .exit) (numbers .exit) (order .exit))
         ≡ links-taken n (now (list .entry)) (lent (links .entry) (numbers .entry) (order .entry)) ⌝ }
 {
     let mut done: u32 = 0;

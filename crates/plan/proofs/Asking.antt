@@ -6,12 +6,13 @@ use Rattle.lists.{proofs.Filter.{length-filter, filter-ext}}
 use Rattle.mesh.{specs.Limits.{max-radios, max-neighbours}, specs.Graph.{Graph, radios, linked, neighbours-in}, specs.Cores.{number, numbers}}
 use Rattle.mesh.{specs.Tables.{Tables, graph-in}, specs.Sound.{number-in, rows-proper, sound}, proofs.Cores.Peeling.{getD-numbers}, proofs.Tables.Rows.{few-of}}
 use Rattle.mesh.{proofs.Tables.ReadBack.{proper-graph-in, ascending-graph-in, degree-graph-in}, proofs.Tables.Soundness.{Right, sound-right}}
-use Rattle.calls.{specs.Questions.{Lengths, lengths-of, size-good, answer-length, lent-refusal, site-refusal, ends-refusal, link-refusal}}
+use Rattle.calls.{specs.Questions.{Lengths, lengths-of, size-good, answer-length, lent-refusal, site-refusal, ends-refusal}}
 use Rattle.calls.{proofs.QuestionLaws.{ask-no, ask-later, size-good-true, true-size-good, true-site-lengths, answer-length-true, true-answer-length}}
 use Rattle.calls.{proofs.ChainLaws.{Lent-good, lent-zero, lent-yes, lent-later, site-yes, ends-zero, link-zero}}
 use Rattle.soundness.{specs.Checks.{examinable, Examined}, proofs.HighCounts.{examined-high}}
 use Rattle.plan.specs.{Plans.{Ready, Applicable}, Asked.{Asked}}
 use Rattle.plan.proofs.EndsLaws.{proper-rows}
+use Rattle.calls.specs.Chains.{link-refusal}
 
 -- ---- sound tables
 
@@ -44,17 +45,16 @@ module _ (up : Bool) (n a b : ℕ) (t : Tables) (w : ℕ) where
 
   pub asked-lengths : (lent-refusal n (lengths-of t) (answer-length n w) 0 ≡ 0 → ⊥)
       → lent-refusal n (lengths-of t) (answer-length n w) 0 ≡ asked
-  unfolding link-refusal site-refusal
+  unfolding site-refusal
   asked-lengths h =
       lent-later n (lengths-of t) (answer-length n w) 0 _ (λ good. absurd (h (lent-yes n (lengths-of t) (answer-length n w) 0 good)))
 
   module _ (good : Lent-good n (lengths-of t) (answer-length n w)) where
     pub asked-unsound : sound n t ≡ false → 3 ≡ asked
-    unfolding link-refusal site-refusal
+    unfolding site-refusal
     asked-unsound e = sym (lent-yes n (lengths-of t) (answer-length n w) _ good ∙ ask-no 3 (sound n t) _ e)
 
     pub asked-ends : sound n t ≡ true → ends-refusal max-neighbours up n a b g ≡ asked
-    unfolding link-refusal
     asked-ends e =
         sym (site-yes n (lengths-of t) (answer-length n w) (sound n t) (ends-refusal max-neighbours up n a b g) (record { lent = good; is-sound = e }))
 
@@ -136,7 +136,7 @@ answer-room n w m k = go (bool-cases (leb n w))
 -- a lent stretch for as many radios as a site may have changes no answer
 pub link-room : (up : Bool) (n a b : ℕ) (l : Lengths) (w m : ℕ) (sound : Bool) (g : Graph) → max-radios ≤ m
     → link-refusal up n a b l (min w m) sound g ≡ link-refusal up n a b l w sound g
-unfolding link-refusal site-refusal lent-refusal
+unfolding site-refusal lent-refusal
 link-room up n a b l w m sound g h =
     ask-later 1 (size-good n) _ _ (λ p. let e : answer-length n (min w m) ≡ answer-length n w = answer-room n w m (omega (arith, size-good-true n p .1)) in rw e)
 

@@ -4,8 +4,9 @@
 -- Definitions only.
 use Rattle.lists.specs.Kit.{_≡_, Bool, List, ℕ, min, length}
 use Rattle.mesh.specs.{Tables.{Tables, graph-in}, Sound.{sound}}
-use Rattle.calls.specs.Questions.{lengths-of, link-refusal}
+use Rattle.calls.specs.Questions.{lengths-of}
 use Rattle.plan.specs.Plans.{Ready, Planned}
+use Rattle.calls.specs.Chains.{link-refusal}
 
 -- `answer` is the length of the answer table
 pub record Asked (up : Bool) (n a b : ℕ) (t : Tables) (answer : ℕ) (places highs : List ℕ) (r : ℕ) : Type 0 where
