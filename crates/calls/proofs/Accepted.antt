@@ -33,7 +33,7 @@ use Rattle.calls.specs.{Outcomes.{value-outcome, check-outcome, number-o
 use Rattle.calls.specs.{Outcomes.{tree-outcome, sheet-outcome, write-outcome, no-block, block-or-end, block-outcome}, Results.{Numbers-right, Site-right}}
 use Rattle.calls.specs.{Results.{Listed, Link-right, Radios-listed, Tree-listed, Written-right, Read-right, Ask-right, Commit-right}}
 use Rattle.calls.specs.{Results.{Block-part, Block-end, Later-right, Sheet-right}, declared.Value.{Value}, declared.Later.{Later}, declared.Block.{Block}}
-use Rattle.calls.proofs.{ContractLaws.{accepted-is, by-zero}, ChainLaws.{lent-zero, Site-good, link-zero, commit-zero, radio-zero, core-zero}}
+use Rattle.calls.proofs.{ContractLaws.{asking-is, accepted-is, by-zero}, ChainLaws.{lent-zero, Site-good, link-zero, commit-zero, radio-zero, core-zero}}
 use Rattle.calls.proofs.{ChainLaws.{write-zero, read-zero, read-yes, sheet-zero}, SheetLaws.{sheet-fits, length-sheet, columns-front, columns-by}}
 use Rattle.calls.specs.Chains.{core-refusal, backbone-refusal, write-refusal, sheet-refusal}
 use Rattle.calls.specs.declared.Reply.{Reply}
@@ -96,11 +96,10 @@ changed-exactly up a b g v j k l p q =
 pub ask-right :
     (up : Bool) (n a b : ℕ) (t : Tables) (w : List ℕ) → let o = ask-outcome up n a b t w in
     o .reply .number ≡ 0 → Ask-right up a b (graph-in n (t .links)) (o .reply .count) w (o .lent)
-unfolding ask-outcome
 ask-right up n a b t w z =
     let g = graph-in n (t .links) in
     let cs = changed up a b g in
-    let c = accepted-is (λ (o : Listing Reply (List ℕ)). o .reply .number) (ask-outcome up n a b t w) _ _ _ (λ q. refl) refl z in
+    let c = accepted-is (λ (o : Listing Reply (List ℕ)). o .reply .number) (ask-outcome up n a b t w) _ _ _ (λ q. refl) (asking-is up n a b t w) z in
     rw (c .1) (record {
       exactly = λ v j k l p q. rw (take-overwrite cs w) (changed-exactly up a b g v j k l p q);
       listed = listed-front cs w (changed-ascending up a b g);

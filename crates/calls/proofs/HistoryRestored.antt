@@ -8,7 +8,7 @@ use Rattle.mesh.{specs.Image.{image-order}, proofs.Tables.ReadBack.{graph-in-li
 use Rattle.mesh.{proofs.Images.Sites.{written-read}}
 use Rattle.calls.specs.{Questions.{Lengths, lengths-of}, Marks.{set-refusal, named-refusal, mark-image}, Switches.{pairs-after, tables-after}}
 use Rattle.calls.specs.{Book.{Call, from-image, Marking, no-mark, sets, removes, returns, Outcome, outcome-with, unless-refused, outcome, setting}}
-use Rattle.calls.specs.{Book.{returning, Answer, plain, Given, given, booked, first-pairs, pairs-of, book-after, site-size, beginning-tables, History}}
+use Rattle.calls.specs.{Book.{returning, Answer, counted, Given, given, booked, first-pairs, pairs-of, book-after, site-size, beginning-tables, History}}
 use Rattle.calls.specs.{Book.{fresh, history-by, image-at, Marked, Past, past, image-under, matches, struck, replacing, recalled, marked-by, past-by}}
 use Rattle.calls.specs.{Book.{past-after, past-of, replaces, leaves, all-leave, history}, MarkOutcomes.{set-outcome, return-outcome}, Runs.{done, Event}}
 use Rattle.calls.specs.{Runs.{event, events, after, givens}, Demand.{Start, beginning}}
@@ -120,23 +120,23 @@ number-of [] = 1
 number-of (h ∷ hs) = h .number
 
 -- a number 0 is no refusal
-accepted : (R : ℕ) (o : Outcome) → plain 0 ∷ [] ≡ unless-refused R o .answers → R ≡ 0
-unfolding by-number number-of plain
+accepted : (R : ℕ) (o : Outcome) → counted 0 0 ∷ [] ≡ unless-refused R o .answers → R ≡ 0
+unfolding by-number number-of counted
 accepted zero o e = refl
 accepted (suc q) o e = absurd (omega (arith, ap number-of e))
 
-accepted-set : (m : ℕ) (x bs : List ℕ) (l : Lengths) (ps : List Link) → plain 0 ∷ [] ≡ outcome (setting m x bs) l ps .answers →
-    outcome (setting m x bs) l ps ≡ outcome-with (plain 0 ∷ []) none [] (sets x (image-under m x bs))
+accepted-set : (m : ℕ) (x bs : List ℕ) (l : Lengths) (ps : List Link) → counted 0 0 ∷ [] ≡ outcome (setting m x bs) l ps .answers →
+    outcome (setting m x bs) l ps ≡ outcome-with (counted 0 0 ∷ []) none [] (sets x (image-under m x bs))
 unfolding outcome by-number
 accepted-set m x bs l ps e =
-    let o = outcome-with (plain 0 ∷ []) none [] (sets x (image-under m x bs)) in
+    let o = outcome-with (counted 0 0 ∷ []) none [] (sets x (image-under m x bs)) in
     ap (λ (R : ℕ). unless-refused R o) (accepted (set-refusal m l true x bs) o e)
 
-accepted-return : (j : ℕ) (x ds : List ℕ) (l : Lengths) (ps : List Link) → plain 0 ∷ [] ≡ outcome (returning j x ds) l ps .answers →
-    (named-refusal j l true x ds ≡ 0) × (outcome (returning j x ds) l ps ≡ outcome-with (plain 0 ∷ []) (some (from-image j (mark-image j x ds))) [] (returns x))
+accepted-return : (j : ℕ) (x ds : List ℕ) (l : Lengths) (ps : List Link) → counted 0 0 ∷ [] ≡ outcome (returning j x ds) l ps .answers →
+    (named-refusal j l true x ds ≡ 0) × (outcome (returning j x ds) l ps ≡ outcome-with (counted 0 0 ∷ []) (some (from-image j (mark-image j x ds))) [] (returns x))
 unfolding outcome by-number
 accepted-return j x ds l ps e =
-    let o = outcome-with (plain 0 ∷ []) (some (from-image j (mark-image j x ds))) [] (returns x) in
+    let o = outcome-with (counted 0 0 ∷ []) (some (from-image j (mark-image j x ds))) [] (returns x) in
     let z = accepted (named-refusal j l true x ds) o e in
     (z, ap (λ (R : ℕ). unless-refused R o) z)
 
@@ -149,15 +149,15 @@ image-read j bs small i =
 
 -- ---- the theorem
 
-module _ (n : ℕ) (qs : List Link) (p : Past) (t : Tables) (k : Past-holds n qs p t) (m : ℕ) (x bs : List ℕ) (d : Does (setting m x bs) t (plain 0 ∷ []) t) where
+module _ (n : ℕ) (qs : List Link) (p : Past) (t : Tables) (k : Past-holds n qs p t) (m : ℕ) (x bs : List ℕ) (d : Does (setting m x bs) t (counted 0 0 ∷ []) t) where
   abbrev marked : Past
   marked = past (p .history) (record { name = x; history = p .history } ∷ replacing x (image-under m x bs) (p .marks))
 
   marked-holds : Past-holds n qs marked t
   marked-holds = record { traced = k .traced; marks = (record { pairs = qs; tables = t; traced = k .traced }, replacing-hold n x (image-under m x bs) (p .marks) (k .marks)) }
 
-  set-is : outcome (setting m x bs) (lengths-of t) qs ≡ outcome-with (plain 0 ∷ []) none [] (sets x (image-under m x bs))
-  set-is = accepted-set m x bs (lengths-of t) qs (step n qs t (k .traced .holds) (setting m x bs) (plain 0 ∷ []) t d .kept .answered)
+  set-is : outcome (setting m x bs) (lengths-of t) qs ≡ outcome-with (counted 0 0 ∷ []) none [] (sets x (image-under m x bs))
+  set-is = accepted-set m x bs (lengths-of t) qs (step n qs t (k .traced .holds) (setting m x bs) (counted 0 0 ∷ []) t d .kept .answered)
 
   after-set : (cs : List Given) → past-after (given (setting m x bs) (lengths-of t) ∷ cs) qs p ≡ past-after cs qs marked
   unfolding past-after booked past-by marked-by pairs-of pairs-after first-pairs
@@ -171,7 +171,7 @@ module _ (n : ℕ) (qs : List Link) (p : Past) (t : Tables) (k : Past-holds n qs
       image-is n (p .history) qs t (k .traced)
       ∙ sym (ap₂ image-of (read-back n qs t (k .traced .holds)) (order-is n qs t (k .traced .holds)))
 
-  module _ (between : List Event) (u v : Tables) (j : ℕ) (ds : List ℕ) (r : Run t between u) (b : Does (returning j x ds) u (plain 0 ∷ []) v)
+  module _ (between : List Event) (u v : Tables) (j : ℕ) (ds : List ℕ) (r : Run t between u) (b : Does (returning j x ds) u (counted 0 0 ∷ []) v)
       (free : all-leave x (image-of (graph-in n (t .links)) (t .order)) (givens between) qs marked ≡ true) (still : mark-image j x ds ≡ image-of (graph-in n (t .links)) (t .order)) where
     abbrev then : Past
     then = past-after (givens between) qs marked
@@ -184,9 +184,9 @@ module _ (n : ℕ) (qs : List Link) (p : Past) (t : Tables) (k : Past-holds n qs
 
     return-is :
         (named-refusal j (lengths-of u) true x ds ≡ 0)
-        × (outcome (returning j x ds) (lengths-of u) pairs ≡ outcome-with (plain 0 ∷ []) (some (from-image j (mark-image j x ds))) [] (returns x))
+        × (outcome (returning j x ds) (lengths-of u) pairs ≡ outcome-with (counted 0 0 ∷ []) (some (from-image j (mark-image j x ds))) [] (returns x))
     return-is =
-        accepted-return j x ds (lengths-of u) pairs (step n pairs u (kept .traced .holds) (returning j x ds) (plain 0 ∷ []) v b .kept .answered)
+        accepted-return j x ds (lengths-of u) pairs (step n pairs u (kept .traced .holds) (returning j x ds) (counted 0 0 ∷ []) v b .kept .answered)
 
     -- the mark's image is the one that was set
     back-image : image-at (p .history) ≡ image-at (fresh (from-image j (mark-image j x ds)))
@@ -202,23 +202,23 @@ module _ (n : ℕ) (qs : List Link) (p : Past) (t : Tables) (k : Past-holds n qs
         (subst (λ (i : List ℕ). all-leave x i (givens between) qs marked ≡ true) (sym set-image ∙ back-image) free)
         ∙ recalled-own x (fresh (from-image j (mark-image j x ds))) (p .history) (replacing x (image-under m x bs) (p .marks)) back-image
 
-    restored : past-after (givens (event (setting m x bs) t (plain 0 ∷ []) t ∷ (between ++ (event (returning j x ds) u (plain 0 ∷ []) v ∷ [])))) qs p .history ≡ p .history
+    restored : past-after (givens (event (setting m x bs) t (counted 0 0 ∷ []) t ∷ (between ++ (event (returning j x ds) u (counted 0 0 ∷ []) v ∷ [])))) qs p .history ≡ p .history
     unfolding givens
     restored =
         let back = given (returning j x ds) (lengths-of u) ∷ [] in
         ap (λ (o : Past). o .history)
-        (after-set (givens (between ++ (event (returning j x ds) u (plain 0 ∷ []) v ∷ [])))
-        ∙ ap (λ (cs : List Given). past-after cs qs marked) (givens-append between (event (returning j x ds) u (plain 0 ∷ []) v ∷ []))
+        (after-set (givens (between ++ (event (returning j x ds) u (counted 0 0 ∷ []) v ∷ [])))
+        ∙ ap (λ (cs : List Given). past-after cs qs marked) (givens-append between (event (returning j x ds) u (counted 0 0 ∷ []) v ∷ []))
         ∙ past-append (givens between) back qs marked)
         ∙ after-return
 
 pub history-restored :
     (n : ℕ) (ps : List Link) (t₀ t u v : Tables) (s : Start n ps t₀) (before between : List Event) (m j : ℕ) (x bs ds : List ℕ) →
-    Run t₀ before t → Does (setting m x bs) t (plain 0 ∷ []) t → Run t between u → Does (returning j x ds) u (plain 0 ∷ []) v →
+    Run t₀ before t → Does (setting m x bs) t (counted 0 0 ∷ []) t → Run t between u → Does (returning j x ds) u (counted 0 0 ∷ []) v →
     all-leave x (image-of (graph-in n (t .links)) (t .order)) (givens between) (book-after (givens before) ps)
-    (past-of (givens (before ++ (event (setting m x bs) t (plain 0 ∷ []) t ∷ []))) ps (beginning s)) ≡ true →
+    (past-of (givens (before ++ (event (setting m x bs) t (counted 0 0 ∷ []) t ∷ []))) ps (beginning s)) ≡ true →
     mark-image j x ds ≡ image-of (graph-in n (t .links)) (t .order) →
-    history (givens (before ++ (event (setting m x bs) t (plain 0 ∷ []) t ∷ (between ++ (event (returning j x ds) u (plain 0 ∷ []) v ∷ []))))) ps (beginning s)
+    history (givens (before ++ (event (setting m x bs) t (counted 0 0 ∷ []) t ∷ (between ++ (event (returning j x ds) u (counted 0 0 ∷ []) v ∷ []))))) ps (beginning s)
     ≡ history (givens before) ps (beginning s)
 unfolding history past-of givens past-after
 history-restored n ps t₀ t u v s before between m j x bs ds r₁ d₁ r₂ d₂ free still =
@@ -226,8 +226,8 @@ history-restored n ps t₀ t u v s before between m j x bs ds r₁ d₁ r₂ d�
     let qs = book-after (givens before) ps in
     let p = past-after (givens before) ps p₀ in
     let k = past-kept n ps p₀ (start-past s) r₁ in
-    let set = event (setting m x bs) t (plain 0 ∷ []) t in
-    let rest = set ∷ (between ++ (event (returning j x ds) u (plain 0 ∷ []) v ∷ [])) in
+    let set = event (setting m x bs) t (counted 0 0 ∷ []) t in
+    let rest = set ∷ (between ++ (event (returning j x ds) u (counted 0 0 ∷ []) v ∷ [])) in
     let marked-then : past-after (givens (before ++ (set ∷ []))) ps p₀ ≡ marked n qs p t k m x bs d₁ =
     ap (λ (cs : List Given). past-after cs ps p₀) (givens-append before (set ∷ [])) ∙ past-append (givens before) (givens (set ∷ [])) ps p₀
     ∙ after-set n qs p t k m x bs d₁ [] in
@@ -242,11 +242,11 @@ marked-events :
     (between : List Call) (t : Tables) (m j : ℕ) (x bs ds : List ℕ) → let u = after between t in
     set-outcome m x t bs .reply ≡ 0 → return-outcome j x ds u .reply ≡ 0 →
     events (setting m x bs ∷ (between ++ (returning j x ds ∷ []))) t
-    ≡ event (setting m x bs) t (plain 0 ∷ []) t ∷ (events between t ++ (event (returning j x ds) u (plain 0 ∷ []) (return-outcome j x ds u .tables) ∷ []))
+    ≡ event (setting m x bs) t (counted 0 0 ∷ []) t ∷ (events between t ++ (event (returning j x ds) u (counted 0 0 ∷ []) (return-outcome j x ds u .tables) ∷ []))
 unfolding events done
 marked-events between t m j x bs ds z y = rw (z, events-append between (returning j x ds ∷ []) t, y)
 
-set-event : (t : Tables) (m : ℕ) (x bs : List ℕ) → set-outcome m x t bs .reply ≡ 0 → events (setting m x bs ∷ []) t ≡ event (setting m x bs) t (plain 0 ∷ []) t ∷ []
+set-event : (t : Tables) (m : ℕ) (x bs : List ℕ) → set-outcome m x t bs .reply ≡ 0 → events (setting m x bs ∷ []) t ≡ event (setting m x bs) t (counted 0 0 ∷ []) t ∷ []
 unfolding events done
 set-event t m x bs z = rw z
 

@@ -13,7 +13,7 @@ use Rattle.calls.specs.{Questions.{ask, lengths-of, answer-length, site-
 use Rattle.calls.specs.{Questions.{ends-then, ends-refusal, commit-refusal}, Outcomes.{reply, linked-with, Listing, listing, Tabled}}
 use Rattle.calls.specs.{Outcomes.{link-outcome, ask-outcome, commit-outcome}}
 use Rattle.calls.proofs.{QuestionLaws.{ask-yes, ask-no, ask-zero, ask-later, size-good-true, true-answer-length}, ChainLaws.{site-zero, site-yes}}
-use Rattle.calls.proofs.{ChainLaws.{ends-then-zero, ends-then-yes, ends-then-no}, ContractLaws.{number-by, by-zero, by-other}}
+use Rattle.calls.proofs.{ChainLaws.{ends-then-zero, ends-then-yes, ends-then-no}, ContractLaws.{asking-is, number-by, by-zero, by-other}}
 use Rattle.calls.specs.declared.Reply.{Reply}
 use Rattle.calls.specs.Chains.{link-refusal}
 
@@ -119,12 +119,10 @@ module _ (up : Bool) (n a b : ℕ) (t : Tables) where
     q = ask-outcome up n a b t w
 
     asked-number : q .reply .number ≡ R
-    unfolding ask-outcome
-    asked-number = number-by (λ (o : Listing Reply (List ℕ)). o .reply .number) R _ _ refl (λ p. refl)
+    asked-number = rw (asking-is up n a b t w) (number-by (λ (o : Listing Reply (List ℕ)). o .reply .number) R _ _ refl (λ p. refl))
 
     asked-is : q .reply .number ≡ 0 → q ≡ listing (reply 0 (step-of up cs) (length cs)) (overwrite cs w)
-    unfolding ask-outcome
-    asked-is z = by-zero {o = q} R _ _ (sym asked-number ∙ z) refl
+    asked-is z = by-zero {o = q} R _ _ (sym asked-number ∙ z) (asking-is up n a b t w)
 
     asking-zero : q .reply .number ≡ 0 → asking ≡ 0
     asking-zero z = let e : R ≡ 0 = sym asked-number ∙ z in sym (link-asking (length w) (link-long (length w) e)) ∙ e
@@ -145,10 +143,10 @@ module _ (up : Bool) (n a b : ℕ) (t : Tables) where
         rw (asked-is z, take-overwrite cs w, c, l) (refl, refl)
 
     pub refused-step : (q .reply .number ≡ 0 → ⊥) → linked-with (q .reply) t (q .lent) ≡ link-outcome up n a b t w
-    unfolding ask-outcome link-outcome sound
+    unfolding link-outcome sound
     refused-step h =
         let k : R ≡ 0 → ⊥ = λ e. h (asked-number ∙ e) in
-        rw (by-other {o = q} R _ _ k refl) (sym (by-other {o = link-outcome up n a b t w} R _ _ k refl))
+        rw (by-other {o = q} R _ _ k (asking-is up n a b t w)) (sym (by-other {o = link-outcome up n a b t w} R _ _ k refl))
 
     -- ---- committing any proposal, where the answer table of asking is long enough
 

@@ -1,7 +1,7 @@
 -- Property 1 by the number that the host sees: an outcome whose number is not 0 has zeros beside it, and everything lent is as it was.
 -- What a batch keeps is in Batches.antt.
 --   ..-keeps          so it is of each call, by `refused-is`
-use Rattle.lists.specs.Kit.{_≡_, refl, Bool, true, false, List, ℕ, ℤ, pos}
+use Rattle.lists.specs.Kit.{_≡_, ap, refl, Bool, true, false, List, ℕ, ℤ, pos}
 use Rattle.mesh.specs.{Tables.{Tables}, declared.Node.{Node}}
 use Rattle.calls.specs.{Outcomes.{Tabled, tabled, Linked, linked-with, Listing, listing}}
 use Rattle.calls.specs.{Outcomes.{reply, value, later, clear-outcome, read-outcome, link-outcome, ask-outcome, commit-outcome}}
@@ -94,7 +94,7 @@ pub ask-keeps :
     (up : Bool) (n a b : ℕ) (t : Tables) (w : List ℕ) → let o = ask-outcome up n a b t w in
     (o .reply .number ≡ 0 → ⊥) → o ≡ listing (reply (o .reply .number) (pos 0) 0) w
 unfolding ask-outcome
-ask-keeps up n a b t w = refused-is (λ (o : Listing Reply (List ℕ)). o .reply .number) (ask-outcome up n a b t w) _ _ _ refl (λ q. refl) refl
+ask-keeps up n a b t w h = ap (λ (o : Linked Reply). listing (o .reply) (o .lent)) (link-keeps up n a b t w h)
 
 pub core-keeps :
     (n v k : ℕ) (t : Tables) (w : List ℕ) → let o = core-outcome n v k t w in (o .reply .number ≡ 0 → ⊥) → o ≡ listing (value (o .reply .number) 0) w

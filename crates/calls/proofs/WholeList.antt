@@ -3,7 +3,7 @@ use Rattle.lists.specs.Kit.{_≡_, refl, ap, sym, subst, _∙_, Bool, true, Lis
 use Rattle.mesh.{specs.Graph.{Link, graph}, specs.Cores.{Core}, specs.Orders.{is-k-order}, specs.Tables.{Tables, tables-of}, specs.Sound.{number-in}}
 use Rattle.mesh.{specs.Levels.{changed}, specs.Image.{image-links}, proofs.Cores.Peeling.{number-core, getD-numbers}}
 use Rattle.calls.specs.{Questions.{lengths-of, answer-length, tables-refusal, read-refusal}, Outcomes.{Tabled, tabled, clear-outcome}}
-use Rattle.calls.specs.{Outcomes.{read-outcome}, Switches.{Switch, switch, pairs-after, tables-after}, Book.{Call, linking, given, Answer, plain}}
+use Rattle.calls.specs.{Outcomes.{read-outcome}, Switches.{Switch, switch, pairs-after, tables-after}, Book.{Call, linking, given, Answer, counted}}
 use Rattle.calls.specs.{Book.{reported, outcome-of, unless-refused, outcome, pairs-of, booked, book-answers, book-after, from-clearing, from-image}}
 use Rattle.calls.specs.{Book.{beginning-pairs, site-size, beginning-tables, fresh, past, history, past-of}, Runs.{Event, event, events, after, givens}}
 use Rattle.calls.specs.{Runs.{answers}, Demand.{Kept, Link-kept, Switching, Start, cleared, read, beginning, Demand-3}}
@@ -60,7 +60,7 @@ link-by-number :
     (R : ℕ) → link-refusal u m a b (lengths-of t) w true (graph m ps) ≡ R →
     Stepped n ps (unless-refused R (outcome-of (reported u (changed u a b (graph m ps)) ∷ []) none (switch u a b ∷ []))) t (h ∷ []) v →
     Link-kept u a b (graph n ps) t h v
-unfolding by-number first-answer plain
+unfolding by-number first-answer counted
 link-by-number n ps u m a b w t v h k z zero e s =
     let y = link-zero u a b (lengths-of t) w true (graph m ps) e in
     let f = same-n n ps t k m (answer-length m w) (y .0 .lent) in

@@ -44,10 +44,6 @@ pub record Answer : Type 0 where
   pub count : ℕ
   pub listed : List ℕ
 
--- a number and zeros
-unfoldable pub plain : (number : ℕ) → Answer
-plain r = record { number = r; step = pos 0; count = 0; listed = [] }
-
 -- an accepted link call
 unfoldable pub reported : (up : Bool) → (changed : List ℕ) → Answer
 reported up cs = record { number = 0; step = step-of up cs; count = length cs; listed = cs }
@@ -56,7 +52,7 @@ reported up cs = record { number = 0; step = step-of up cs; count = length cs; l
 unfoldable pub committed : (up : Bool) → (changed : List ℕ) → Answer
 committed up cs = record { number = 0; step = step-of up cs; count = length cs; listed = [] }
 
--- document 01: calls that report a count, W-205's and W-213's
+-- document 01: a number and zeros, with the count of calls that report one, W-205's and W-213's
 -- a batch: the number of the link refused, or 0, and the count of links done; a hearing: 0, and the count of one-sided pairs
 unfoldable pub counted : (number count : ℕ) → Answer
 counted r k = record { number = r; step = pos 0; count = k; listed = [] }
@@ -93,7 +89,7 @@ outcome-of hs b ss = outcome-with hs b ss no-mark
 
 -- a "no" gives its number and zeros, and the pairs stay
 abbrev pub unless-refused : (refusal : ℕ) → Outcome → Outcome
-unless-refused R o = by-number R o (λ q. outcome-of (plain q ∷ []) none [])
+unless-refused R o = by-number R o (λ q. outcome-of (counted q 0 ∷ []) none [])
 
 -- the image that the store has under the name, if it has one (W-211)
 unfoldable pub image-under : (n : ℕ) → (name store : List ℕ) → Option (List ℕ)
@@ -102,8 +98,8 @@ image-under n x bs = cond (is-marked x bs) (some (mark-image n x bs)) none
 -- document 01, with the calls of W-205, W-210, W-211 and W-213
 -- each call is put its questions: 3 gets yes, 6 and 7 are asked of the pairs; any other call is passed over
 unfoldable pub outcome : Call → Lengths → (pairs : List Link) → Outcome
-outcome (clearing n) l ps = unless-refused (tables-refusal n l) (outcome-of (plain 0 ∷ []) (some (from-clearing n)) [])
-outcome (reading n bs) l ps = unless-refused (read-refusal n l bs) (outcome-of (plain 0 ∷ []) (some (from-image n bs)) [])
+outcome (clearing n) l ps = unless-refused (tables-refusal n l) (outcome-of (counted 0 0 ∷ []) (some (from-clearing n)) [])
+outcome (reading n bs) l ps = unless-refused (read-refusal n l bs) (outcome-of (counted 0 0 ∷ []) (some (from-image n bs)) [])
 outcome (linking up n a b w) l ps =
     unless-refused
     (link-refusal-within max-neighbours up n a b l w true (graph n ps))
@@ -121,11 +117,11 @@ outcome (hearing n hs w) l ps =
     (hear-refusal n l hs w true)
     (outcome-of (counted 0 (one-sided-count n hs) ∷ []) none (heard-switches (graph n ps) hs))
 outcome (setting n x bs) l ps =
-    unless-refused (set-refusal n l true x bs) (outcome-with (plain 0 ∷ []) none [] (sets x (image-under n x bs)))
+    unless-refused (set-refusal n l true x bs) (outcome-with (counted 0 0 ∷ []) none [] (sets x (image-under n x bs)))
 outcome (removing n x bs) l ps =
-    unless-refused (named-refusal n l true x bs) (outcome-with (plain 0 ∷ []) none [] (removes x (mark-image n x bs)))
+    unless-refused (named-refusal n l true x bs) (outcome-with (counted 0 0 ∷ []) none [] (removes x (mark-image n x bs)))
 outcome (returning n x bs) l ps =
-    unless-refused (named-refusal n l true x bs) (outcome-with (plain 0 ∷ []) (some (from-image n (mark-image n x bs))) [] (returns x))
+    unless-refused (named-refusal n l true x bs) (outcome-with (counted 0 0 ∷ []) (some (from-image n (mark-image n x bs))) [] (returns x))
 outcome other l ps = outcome-of [] none []
 
 -- the pairs that a beginning leaves

@@ -77,14 +77,9 @@ link-outcome up n a b t w = link-outcome-within max-neighbours up n a b t w
 
 -- ---- a link call in two steps
 
--- document 02, W-210: the reply, and the changed radios in front of the answer table
+-- document 02, W-210: the link call's reply and answer table
 unfoldable pub ask-outcome : (up : Bool) → (n a b : ℕ) → Tables → (answer : List ℕ) → Listing Reply (List ℕ)
-ask-outcome up n a b t w =
-    let g = graph-in n (t .links) in
-    let cs = changed up a b g in
-    by-number (link-refusal-within max-neighbours up n a b (lengths-of t) (length w) (sound n t) g)
-    (listing (reply 0 (step-of up cs) (length cs)) (overwrite cs w))
-    (λ q. listing (reply q (pos 0) 0) w)
+ask-outcome up n a b t w = let o = link-outcome up n a b t w in listing (o .reply) (o .lent)
 
 -- document 02, W-210: the reply, and the tables with the link switched
 unfoldable pub commit-outcome : (up : Bool) → (n a b : ℕ) → (step : ℤ) → (list : List ℕ) → Tables → Tabled Reply

@@ -13,7 +13,7 @@ use Prim.Native.String.{String}
 use Rattle.mesh.specs.{Limits.{row-bytes, former-neighbours}, Tables.{Tables, tables, graph-in}, Tree.{node}, Image.{block-bytes, long}, declared.Node.{Node}}
 use Rattle.calls.specs.{Questions.{image-length, same-step, ends-refusal}, Switches.{Switch, switch}, Outcomes.{Linked, Listing, clear-outcome}}
 use Rattle.calls.specs.{Outcomes.{read-outcome, link-outcome, check-outcome, core-outcome, backbone-outcome, write-outcome, tree-outcome}}
-use Rattle.calls.specs.{Outcomes.{staircase-outcome}, Script.{script-of}, Book.{Answer, plain, reported}, Runs.{answer-of}, Replay.{lines, bad-line}}
+use Rattle.calls.specs.{Outcomes.{staircase-outcome}, Script.{script-of}, Book.{Answer, counted, reported}, Runs.{answer-of}, Replay.{lines, bad-line}}
 use Rattle.calls.specs.{declared.Reply.{Reply}, declared.Value.{Value}}
 use Rattle.text.specs.Text.{bytes-of}
 
@@ -47,10 +47,10 @@ unfoldable pub fallen : (changed : List ℕ) → Answer
 fallen cs = reported false cs
 
 unfoldable pub unchanged : Answer
-unchanged = plain 0
+unchanged = counted 0 0
 
 unfoldable pub refused : (number : ℕ) → Answer
-refused r = plain r
+refused r = counted r 0
 
 pub record Left : Type 0 where
   pub tables : Tables

@@ -14,8 +14,8 @@ use Rattle.mesh.specs.{Graph.{Link, graph}, Tables.{Tables, tables}, Image.{ima
 use Rattle.calls.{specs.Questions.{Lengths, lengths-of}, specs.Contracts.{Clear-contract, Read-contract}, specs.Outcomes.{tabled, clear-outcome}}
 use Rattle.calls.{specs.Outcomes.{read-outcome, link-outcome, commit-outcome, batch-outcome, hear-outcome}, specs.MarkOutcomes.{set-outcome, remove-outcome}}
 use Rattle.calls.{specs.MarkOutcomes.{return-outcome}, specs.Book.{Call, clearing, reading, linking, committing, batching, hearing, setting, removing}}
-use Rattle.calls.{specs.Book.{returning, other, Given, given, Answer, plain, counted, Outcome, outcome, booked, book-after, pairs-of}, specs.Runs.{Done}}
-use Rattle.calls.{specs.Runs.{answer-of, replied, done, events, after, givens}, specs.Demand.{cleared, read, beginning, Kept, Demand-3}}
+use Rattle.calls.{specs.Book.{returning, other, Given, given, Answer, counted, Outcome, outcome, booked, book-after, pairs-of}, specs.Runs.{Done}}
+use Rattle.calls.{specs.Runs.{answer-of, done, events, after, givens}, specs.Demand.{cleared, read, beginning, Kept, Demand-3}}
 use Rattle.calls.{proofs.Runs.{link-done, hear-done, Does}, proofs.Holds.{Holds}, proofs.Steps.{step}, proofs.WholeList.{start, demand-3}}
 use Rattle.hosts.specs.{Public.{Known, clear, image-read, link, commit, link-batch, hear, mark-set, mark-remove, mark-return, Public, of-book, call}}
 use Rattle.hosts.specs.{Public.{bytes, words, the-tables, number-value}, Hosts.{Site, Lie, Table-cell, of-links, of-numbers, of-order, Untouched}}
@@ -158,20 +158,20 @@ module _ (ρ : Public → Routine) (s : Site) (m : ℕ) (t : Tables) where
   )
 
   clear-shows : On clear
-  unfolding done plain
+  unfolding done counted
   clear-shows σ i ready at lie h =
       let o = clear-outcome (i .0) (the-tables (i .1 .0) (i .1 .1 .0) (i .1 .1 .1 .0)) in
       let w = writer (i .1 .0) (i .1 .1 .0) (i .1 .1 .1 .0) at σ (h .memory) lie (o .tables) (ready .writes-stand) (ready .good .1) (h .stand) (ran-lengths h)
       (ran-held h) in
-      subst (Shows s (step-of (on-site clear) σ i m (ran (of-book clear) σ i h))) (w .0) ((plain (o .reply), refl, refl, tt), w .1)
+      subst (Shows s (step-of (on-site clear) σ i m (ran (of-book clear) σ i h))) (w .0) ((counted (o .reply) 0, refl, refl, tt), w .1)
 
   image-read-shows : On image-read
-  unfolding done plain
+  unfolding done counted
   image-read-shows σ i ready at lie h =
       let o = read-outcome (i .0) (entries (i .1 .1 .1 .1 .0)) (the-tables (i .1 .0) (i .1 .1 .0) (i .1 .1 .1 .0)) in
       let w = writer (i .1 .0) (i .1 .1 .0) (i .1 .1 .1 .0) at σ (h .memory) lie (o .tables) (ready .writes-stand) (ready .good .1) (h .stand) (ran-lengths h)
       (ran-held h) in
-      subst (Shows s (step-of (on-site image-read) σ i m (ran (of-book image-read) σ i h))) (w .0) ((plain (o .reply), refl, refl, tt), w .1)
+      subst (Shows s (step-of (on-site image-read) σ i m (ran (of-book image-read) σ i h))) (w .0) ((counted (o .reply) 0, refl, refl, tt), w .1)
 
   link-shows : (up : Bool) → On (link up)
   unfolding answer-of
@@ -188,13 +188,13 @@ module _ (ρ : Public → Routine) (s : Site) (m : ℕ) (t : Tables) where
       ((answer-of (o .reply) (o .lent), refl, refl, (listed, tt)), w .1))
 
   commit-shows : (up : Bool) → On (commit up)
-  unfolding done replied
+  unfolding done answer-of
   commit-shows up σ i ready at lie h =
       let j = i .1 .1 .1 .1 in
       let o = commit-outcome up (i .0) (i .1 .0) (i .1 .1 .0) (i .1 .1 .1 .0) (entries (j .1 .1 .1 .0)) (the-tables (j .0) (j .1 .0) (j .1 .1 .0)) in
       let w = writer (j .0) (j .1 .0) (j .1 .1 .0) at σ (h .memory) lie (o .tables) (ready .writes-stand) (ready .good .1 .1 .1 .1) (h .stand) (ran-lengths h)
       (ran-held h) in
-      subst (Shows s (step-of (on-site (commit up)) σ i m (ran (of-book (commit up)) σ i h))) (w .0) ((replied (o .reply), refl, refl, tt), w .1)
+      subst (Shows s (step-of (on-site (commit up)) σ i m (ran (of-book (commit up)) σ i h))) (w .0) ((answer-of (o .reply) [], refl, refl, tt), w .1)
 
   batch-shows : On link-batch
   unfolding done counted
@@ -219,13 +219,13 @@ module _ (ρ : Public → Routine) (s : Site) (m : ℕ) (t : Tables) where
       ((counted (o .reply .number) (o .reply .value), refl, refl, tt), w .1))
 
   return-shows : On mark-return
-  unfolding done plain
+  unfolding done counted
   return-shows σ i ready at lie h =
       let j = i .1 in
       let o = return-outcome (i .0) (entries (j .1 .1 .1 .0)) (entries (j .1 .1 .1 .1 .0)) (the-tables (j .0) (j .1 .0) (j .1 .1 .0)) in
       let w = writer (j .0) (j .1 .0) (j .1 .1 .0) at σ (h .memory) lie (o .tables) (ready .writes-stand) (ready .good .1) (h .stand) (ran-lengths h)
       (ran-held h) in
-      subst (Shows s (step-of (on-site mark-return) σ i m (ran (of-book mark-return) σ i h))) (w .0) ((plain (o .reply), refl, refl, tt), w .1)
+      subst (Shows s (step-of (on-site mark-return) σ i m (ran (of-book mark-return) σ i h))) (w .0) ((counted (o .reply) 0, refl, refl, tt), w .1)
 
   -- a call that is lent the tables to be read, and writes none of their cells
   reader :
@@ -250,7 +250,7 @@ module _ (ρ : Public → Routine) (s : Site) (m : ℕ) (t : Tables) where
       )
 
   set-shows : On mark-set
-  unfolding done plain
+  unfolding done counted
   set-shows σ i ready at lie h =
       let j = i .1 in
       let T = the-tables (j .0) (j .1 .0) (j .1 .1 .0) in
@@ -259,12 +259,12 @@ module _ (ρ : Public → Routine) (s : Site) (m : ℕ) (t : Tables) where
       let w = reader (j .0) (j .1 .0) (j .1 .1 .0) at σ (h .memory) lie ws (λ z. stands-still σ (h .memory) ws (h .else-kept) (z .0) (z .1) (z .2))
       (ready .reads-stand) (ready .reads-apart) (ready .good .1) in (
         subst (λ (u : Tables). Answered (step-of (on-site mark-set) σ i m (ran (of-book mark-set) σ i h))
-            (done (call-of (step-of (on-site mark-set) σ i m (ran (of-book mark-set) σ i h))) u .answers)) (w .0) (plain (o .reply), refl, refl, tt),
+            (done (call-of (step-of (on-site mark-set) σ i m (ran (of-book mark-set) σ i h))) u .answers)) (w .0) (counted (o .reply) 0, refl, refl, tt),
         w .1,
       )
 
   remove-shows : On mark-remove
-  unfolding done plain
+  unfolding done counted
   remove-shows σ i ready at lie h =
       let j = i .1 in
       let T = the-tables (j .0) (j .1 .0) (j .1 .1 .0) in
@@ -273,7 +273,7 @@ module _ (ρ : Public → Routine) (s : Site) (m : ℕ) (t : Tables) where
       let w = reader (j .0) (j .1 .0) (j .1 .1 .0) at σ (h .memory) lie ws (λ z. stands-still σ (h .memory) ws (h .else-kept) (z .0) (z .1) (z .2))
       (ready .reads-stand) (ready .reads-apart) (ready .good .1) in (
         subst (λ (u : Tables). Answered (step-of (on-site mark-remove) σ i m (ran (of-book mark-remove) σ i h))
-            (done (call-of (step-of (on-site mark-remove) σ i m (ran (of-book mark-remove) σ i h))) u .answers)) (w .0) (plain (o .reply), refl, refl, tt),
+            (done (call-of (step-of (on-site mark-remove) σ i m (ran (of-book mark-remove) σ i h))) u .answers)) (w .0) (counted (o .reply) 0, refl, refl, tt),
         w .1,
       )
 
@@ -454,13 +454,13 @@ module _ (ρ : Public → Routine) (runs : (x : Public) → Runs (ρ x) (call x)
       ∥∥₁-map (done-one s k (l .0) made (l .1)) (λ d. (l .0, d))
 
   pub hosts-demand : Hosts-demand ρ
-  unfolding Known-call Clear-contract Read-contract done plain beginning first-number
+  unfolding Known-call Clear-contract Read-contract done counted beginning first-number
   hosts-demand s n ps b k ks τ (clears m e z) made r =
       ∥∥₁-elim (began s k made (subst Known-call (sym e) tt)) ∥∥₁-prop (λ d.
       let t = d .0 in
       let o = clear-outcome m t in
       let c = subst (λ (c : Call). Came s k (done c t)) e (d .1) in
-      let zero : o .reply ≡ 0 = elim (said-number (k .turn) (k .inputs) (k .returned) (k .after) (plain (o .reply) ∷ [])
+      let zero : o .reply ≡ 0 = elim (said-number (k .turn) (k .inputs) (k .returned) (k .after) (counted (o .reply) 0 ∷ [])
       (c .0) z) [ inl q ↦ q | inr q ↦ absurd (cons-nil q) ] in
       standing-demand s m [] (o .tables) (cleared m t (o .tables) (subst (λ (q : ℕ). tabled q (o .tables) ≡ o) zero refl)) (k .after) τ ks (c .1) r)
   hosts-demand s n ps b k ks τ (reads m image e z) made r =
@@ -468,7 +468,7 @@ module _ (ρ : Public → Routine) (runs : (x : Public) → Runs (ρ x) (call x)
       let t = d .0 in
       let o = read-outcome m image t in
       let c = subst (λ (c : Call). Came s k (done c t)) e (d .1) in
-      let zero : o .reply ≡ 0 = elim (said-number (k .turn) (k .inputs) (k .returned) (k .after) (plain (o .reply) ∷ [])
+      let zero : o .reply ≡ 0 = elim (said-number (k .turn) (k .inputs) (k .returned) (k .after) (counted (o .reply) 0 ∷ [])
       (c .0) z) [ inl q ↦ q | inr q ↦ absurd (cons-nil q) ] in
       standing-demand s m (image-links m image) (o .tables) (read m image t (o .tables) (subst (λ (q : ℕ). tabled q (o .tables) ≡ o) zero refl))
       (k .after) τ ks (c .1) r)

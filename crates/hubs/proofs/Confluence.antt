@@ -8,7 +8,7 @@ use Rattle.mesh.{specs.Limits.{max-neighbours}, specs.Graph.{Link, graph, new-l
 use Rattle.mesh.{specs.Tables.{tables-of}, specs.Sound.{sound}, specs.Image.{image-of, image-order}, proofs.Images.Sites.{length-order, read-written-order}}
 use Rattle.calls.{specs.Questions.{Lengths, lengths-of, answer-length, site-refusal}}
 use Rattle.calls.{specs.Switches.{Switch, switch, pairs-after, All-allowed}}
-use Rattle.calls.{specs.Outcomes.{backbone-outcome, tree-outcome, staircase-outcome}, specs.Book.{linking, other, Answer, plain, reported, outcome-of}}
+use Rattle.calls.{specs.Outcomes.{backbone-outcome, tree-outcome, staircase-outcome}, specs.Book.{linking, other, Answer, counted, reported, outcome-of}}
 use Rattle.calls.{specs.Book.{unless-refused, outcome, first-pairs, pairs-of}, specs.Runs.{Event, after}, proofs.Runs.{Run, next, run}, specs.Demand.{cleared}}
 use Rattle.calls.{proofs.ChainLaws.{link-zero}, proofs.Holds.{Holds, read-back, site-asked}, proofs.Steps.{Stepped, step}, proofs.WholeList.{start}}
 use Rattle.hubs.specs.Hubs.{Cleared, Singles, no-more, single, only-reads, Two-hubs, Equal-sites, Equal-answers}
@@ -30,7 +30,7 @@ one-taken :
     (R : ℕ) → link-refusal u n a b (lengths-of t) w true (graph n ps) ≡ R →
     Stepped n ps (unless-refused R (outcome-of (reported u (changed u a b (graph n ps)) ∷ []) none (switch u a b ∷ []))) t (h ∷ []) v →
     Holds n (new-links u a b ps) v × Allowed max-neighbours u a b (graph n ps)
-unfolding by-number pairs-of first-pairs pairs-after plain first-number
+unfolding by-number pairs-of first-pairs pairs-after counted first-number
 one-taken n ps t k u a b w h v z zero e s = (s .holds, link-zero u a b (lengths-of t) w true (graph n ps) e .1)
 one-taken n ps t k u a b w h v z (suc q) e s = absurd (omega (arith, ap first-number (s .kept .answered), z))
 

@@ -7,7 +7,7 @@ use mir.{Syntax.{w8}, Val.{SFits, toZ, ofZ}, Facts.{toZ-ofZ}}
 use Rattle.mesh.specs.{Limits.{max-radios}, Graph.{Graph}, Levels.{changed, step-of}, Tables.{Tables, graph-in}, Sound.{sound}}
 use Rattle.calls.{specs.Questions.{ask, lengths-of, same-step, is-proposal, commit-refusal}, specs.Outcomes.{Linked, tabled, ask-outcome}}
 use Rattle.calls.{specs.Outcomes.{commit-outcome}, specs.Contracts.{Ask-contract, Commit-contract}, specs.declared.Reply.{Reply}, proofs.QuestionLaws.{ask-yes}}
-use Rattle.calls.{proofs.QuestionLaws.{ask-no}, proofs.ContractLaws.{by-accepted, by-refused}, proofs.Proposals.{commit-numbered, proposal-iff, same-step-eq}}
+use Rattle.calls.{proofs.QuestionLaws.{ask-no}, proofs.ContractLaws.{asking-is, by-accepted, by-refused}, proofs.Proposals.{commit-numbered, proposal-iff, same-step-eq}}
 use Rattle.calls.{proofs.Proposals.{same-step-refl}}
 use Rattle.tables.specs.Steps.{all-stepped}
 use Rattle.plan.{specs.Planned.{changed-part}, specs.Asked.{Plan-contract}, proofs.Asking.{asked-applicable}}
@@ -42,16 +42,16 @@ module _ (up : Bool) (n a b : ℕ) (t : Tables) (w lent : List ℕ) (q start siz
   -- ---- asking
 
   pub ask-refused : (q ≡ 0 → ⊥) → (r : Reply) → r .number ≡ q → r .step ≡ pos 0 → r .count ≡ 0 → Ask-contract up n a b t w r w
-  unfolding Ask-contract ask-outcome
-  ask-refused h r e s c = by-refused R _ _ (λ z. h (number-is ∙ z)) (rw (e ∙ number-is, s, c))
+  unfolding Ask-contract
+  ask-refused h r e s c = by-refused R _ _ (λ z. h (number-is ∙ z)) (rw (e ∙ number-is, s, c)) ∙ sym (asking-is up n a b t w)
 
   pub ask-accepted : q ≡ 0 → (r : Reply) (x : List ℕ) → Reported up size taken stretch w r x → Ask-contract up n a b t w r x
-  unfolding Ask-contract ask-outcome
+  unfolding Ask-contract
   ask-accepted z r x d =
       let many : r .count ≡ length cs = d .count ∙ ap length (listed-is z) in
       let way : r .step ≡ step-of up cs = d .step ∙ ap (counted-step up) many ∙ counted-step-length up cs in
       let listed : x ≡ overwrite cs w = d .answer-is ∙ ap (λ (ys : List ℕ). overwrite ys w) (ap (take (length w)) (listed-is z) ∙ listed-fits z) in
-      by-accepted R _ (sym number-is ∙ z) (rw (d .number, way, many, listed))
+      by-accepted R _ (sym number-is ∙ z) (rw (d .number, way, many, listed)) ∙ sym (asking-is up n a b t w)
 
 -- ---- a proposal held against a plan: steps are compared as eight bits
 
