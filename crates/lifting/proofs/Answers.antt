@@ -76,7 +76,7 @@ module _ (n v : ℕ) (t : Tables) where
 
     pub lift-accepted :
         (w : List ℕ) → n ≤ length w → let o = link-outcome true n (given .low) (given .high) t w in
-        (o .reply .number ≡ 0) × In v (take (o .reply .count) (o .answer))
+        (o .reply .number ≡ 0) × In v (take (o .reply .count) (o .lent))
     unfolding link-outcome sound graph-in
     lift-accepted w long = rw (by-zero {o = link-outcome true n a b t w} _ _ _ zero-refusal refl) (refl, rw (take-overwrite (changed true a b g) w) moved)
       where
