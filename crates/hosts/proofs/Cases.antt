@@ -5,7 +5,7 @@ use Rattle.lists.specs.{Kit.{_≡_, refl, sym, _∙_, subst, ∥∥₁-prop, �
 use Rattle.lists.specs.{Kit.{negsuc, length, replicate, lit<}, Lists.{overwrite}}
 use mir.{Mem.{byte}, Syntax.{w8, w16, w32, tyInt}, Val.{Val, vint, vstruct, vcons, vnil}}
 use prog.{Memory.{Memory}, Machine.{done}, Routine.{Routine}}
-use Rattle.machine.{specs.Cells.{Form, Inputs, Stands, All-held, Sized, Good-list, Ready, Runs, span, pointer, passed, writes}, specs.Made.{Fitting, blocks}}
+use Rattle.machine.{specs.Cells.{Form, Inputs, Stands, All, Sized, Good-list, Ready, Runs, span, pointer, passed, writes}, specs.Made.{Fitting, blocks}}
 use Rattle.machine.{proofs.Left.{ran-lengths, ran-held}, proofs.Made.{made-ready}, proofs.Again.{stands-still}}
 use Rattle.mesh.specs.Tables.{Tables, tables, graph-in, row-links, put-link, put-bit, put-digit}
 use Rattle.calls.{specs.Questions.{site-refusal, answer-length}, specs.Outcomes.{Tabled, tabled, Linked, linked-with, reply, clear-outcome, link-outcome}}
@@ -25,7 +25,7 @@ link-inputs up t w = (2, (0, (1, (((0, 0), t .links), (((1, 0), t .numbers), (((
 -- a list stands in a block of its own
 record In-block (σ : Memory) (F : Form) (b k : ℕ) (xs : List (F .Value)) : Type 0 where
   stands : Stands σ (span F (b, 0) xs)
-  held : All-held F xs
+  held : All (F .Holds) xs
   room : Room-at σ (F .ty) (b, 0)
   long : length xs ≡ k
 
@@ -213,7 +213,7 @@ at-first = link-inputs true anything (8 ∷ 8 ∷ [])
 abbrev pub memory : Memory
 memory = blocks (call (of-book (link true)) .params) at-first
 
-sevens-held : (n : ℕ) → All-held bytes (replicate n 7)
+sevens-held : (n : ℕ) → All (bytes .Holds) (replicate n 7)
 sevens-held zero = tt
 sevens-held (suc n) = (lit< tt, sevens-held n)
 

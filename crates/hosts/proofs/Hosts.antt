@@ -7,7 +7,7 @@
 use Rattle.lists.specs.Kit.{_≡_, refl, sym, _∙_, ap, subst, _⊎_, inl, inr, ∥∥₁-prop, ∥∥₁-elim, ∥∥₁-map, Bool, List, [], _∷_, map, some, ℕ, _*_, arith, length}
 use mir.{Mem.{Cell}, Syntax.{w8, w16}, Val.{Val, Vals, vunit, vbool, vint, vfloat, vptr, vstruct, vnil, vcons}}
 use prog.{Memory.{Memory}, Routine.{Routine}}
-use Rattle.machine.{specs.Cells.{Place, Lent, place, entries, Inputs, Span, Stands, Apart, All, All-held, Good-list, Ready, Ran, Runs, span, cells-of, cell-at}}
+use Rattle.machine.{specs.Cells.{Place, Lent, place, entries, Inputs, Span, Stands, Apart, All, Good-list, Ready, Ran, Runs, span, cells-of, cell-at}}
 use Rattle.machine.{specs.Cells.{writes, outcome-of}, proofs.Chain.{list-one, cells-count, carried, first-entries}, proofs.Again.{stands-still}}
 use Rattle.machine.{proofs.Left.{ran-lengths, ran-held}, proofs.Made.{ran-one}}
 use Rattle.mesh.specs.{Graph.{Link, graph}, Tables.{Tables, tables}, Image.{image-links}}
@@ -74,9 +74,9 @@ record Three (σ : Memory) (p q r : Place) (t : Tables) : Type 0 where
   links : Stands σ (span bytes p (t .links))
   numbers : Stands σ (span bytes q (t .numbers))
   order : Stands σ (span words r (t .order))
-  links-held : All-held bytes (t .links)
-  numbers-held : All-held bytes (t .numbers)
-  order-held : All-held words (t .order)
+  links-held : All (bytes .Holds) (t .links)
+  numbers-held : All (bytes .Holds) (t .numbers)
+  order-held : All (words .Holds) (t .order)
 
 lent-lie :
     (s : Site) (ls ns os : Lent ℕ) → site-at ls ns os ≡ s → (τ : Memory) (v : Tables) → lengths-of v ≡ lengths-of (the-tables ls ns os) →
@@ -100,7 +100,7 @@ Goods σ ls ns os G =
 three :
     {X Y : Type 0} (τ : Memory) (p q r : Place) (v : Tables) →
     Stands τ (span bytes p (v .links)) × (Stands τ (span bytes q (v .numbers)) × (Stands τ (span words r (v .order)) × X)) →
-    All-held bytes (v .links) × (All-held bytes (v .numbers) × (All-held words (v .order) × Y)) → Three τ p q r v
+    All (bytes .Holds) (v .links) × (All (bytes .Holds) (v .numbers) × (All (words .Holds) (v .order) × Y)) → Three τ p q r v
 three τ p q r v w h = record {
   links = w .0;
   numbers = w .1 .0;
@@ -149,7 +149,7 @@ module _ (ρ : Public → Routine) (s : Site) (m : ℕ) (t : Tables) where
       Goods σ ls ns os G →
       Stands τ (span bytes (place ls) (v .links)) × (Stands τ (span bytes (place ns) (v .numbers)) × (Stands τ (span words (place os) (v .order)) × Y)) →
       (length (v .links) ≡ length (entries ls)) × ((length (v .numbers) ≡ length (entries ns)) × ((length (v .order) ≡ length (entries os)) × L)) →
-      All-held bytes (v .links) × (All-held bytes (v .numbers) × (All-held words (v .order) × Z)) →
+      All (bytes .Holds) (v .links) × (All (bytes .Holds) (v .numbers) × (All (words .Holds) (v .order) × Z)) →
       (the-tables ls ns os ≡ t) × Lie s τ v
   unfolding lengths-of
   writer ls ns os at σ τ lie v w g u l h = (

@@ -21,7 +21,7 @@
 use Rattle.lists.specs.Kit.{_≡_, List, [], _∷_, map, ℕ, _+_, _*_, _<_, _≤_, length}
 use mir.Val.{Val}
 use prog.{Memory.{Memory}, Machine.{done as returned}, Routine.{Routine}}
-use Rattle.machine.specs.Cells.{Place, Lent, place, entries, Inputs, of-inputs, Of-inputs, Span, Stands, Has, All, All-held, span, cell-at, Ready, passed}
+use Rattle.machine.specs.Cells.{Place, Lent, place, entries, Inputs, of-inputs, Of-inputs, Span, Stands, Has, All, span, cell-at, Ready, passed}
 use Rattle.machine.specs.Cells.{writes, to-write}
 use Rattle.mesh.specs.{Graph.{Link, graph}, Tables.{Tables}, Image.{image-links}}
 use Rattle.calls.specs.{Questions.{Lengths, lengths-of}, Outcomes.{reply, value}, Book.{Call, clearing, reading, linking, committing, batching, hearing}}
@@ -48,9 +48,9 @@ pub record Lie (s : Site) (σ : Memory) (t : Tables) : Type 0 where
   pub links : Stands σ (span bytes (s .links) (t .links))
   pub numbers : Stands σ (span bytes (s .numbers) (t .numbers))
   pub order : Stands σ (span words (s .order) (t .order))
-  pub links-held : All-held bytes (t .links)
-  pub numbers-held : All-held bytes (t .numbers)
-  pub order-held : All-held words (t .order)
+  pub links-held : All (bytes .Holds) (t .links)
+  pub numbers-held : All (bytes .Holds) (t .numbers)
+  pub order-held : All (words .Holds) (t .order)
 
 -- cell i of block b is one of k cells from there on
 abbrev pub Within : Place → (k b i : ℕ) → Type 0

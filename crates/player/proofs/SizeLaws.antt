@@ -46,7 +46,7 @@ unfolding graph-in
 radios-most up n a b l k s links z = link-zero up a b l k s (graph-in n links) z .0 .lent .most
 
 -- the line of a reply, and of the radios in front of the answer table
-abbrev reply-line : Linked → List ℕ
+abbrev reply-line : Linked Reply → List ℕ
 reply-line o = link-line (o .reply .number) (o .reply .step) (take (o .reply .count) (o .lent))
 
 outcome-length : (up : Bool) (n a b : ℕ) (t : Tables) (w : List ℕ) (R : ℕ) →
