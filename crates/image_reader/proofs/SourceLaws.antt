@@ -14,8 +14,7 @@ use Rattle.calls.{specs.Contracts.{Read-contract}, proofs.QuestionLaws.{ask-zer
 use Rattle.calls.{proofs.ChainLaws.{Blocks-good, blocks-zero, blocks-yes}}
 use Rattle.image.specs.Header.{Header-of}
 use Rattle.image_reader.specs.Reading.{header-refusal, Opened-as, Image-decided, Source-decided}
-use Rattle.calls.specs.Chains.{block-refusal}
-use Rattle.calls.specs.Chains.{source-refusal}
+use Rattle.calls.specs.{Chains.{block-refusal, source-refusal}}
 
 -- ---- by the header's n
 

@@ -9,9 +9,8 @@
 -- Definitions only.
 use Rattle.lists.specs.Kit.{_≡_, Bool, true, List, ℕ, _≤_, _<_, getD}
 use Rattle.mesh.specs.{Limits.{max-radios, size-good}, Cores.{number}, Image.{word-at, image-order, image-graph, checks-good, is-image}}
-use Rattle.calls.specs.Questions.{ask, blocks-refusal, image-refusal}
+use Rattle.calls.specs.{Questions.{ask, blocks-refusal, image-refusal}, Chains.{source-refusal}}
 use Rattle.image.specs.Header.{Header-of}
-use Rattle.calls.specs.Chains.{source-refusal}
 
 -- an image alone, with no tables to read it into: 1, 9, 10, 15, 11
 unfoldable pub alone-refusal : (n : ℕ) → (image : List ℕ) → ℕ

@@ -11,8 +11,7 @@ use Rattle.soundness.proofs.SoundSite.{Sound-site, sound-site}
 use Rattle.rows.{specs.Links.{links-from, Rows-listed}, proofs.GraphLinks.{rows-listed-few, links-graph-in}}
 use Rattle.image_writer.specs.Blocks.{marked-graph, Links-fit, All-links-filled, front-block}
 use Rattle.image_writer.proofs.BlockFilling.{image-filled}
-use Rattle.calls.specs.Chains.{write-refusal}
-use Rattle.calls.specs.Chains.{holds-image}
+use Rattle.calls.specs.{Chains.{write-refusal, holds-image}}
 
 -- ---- the outcomes
 

@@ -21,9 +21,7 @@ use Rattle.player.{specs.Play.{site-of, radios-of, lines-of, front, rest, clear
 use Rattle.player.{proofs.PlayLaws.{site-of-radios}}
 use Rattle.playback.specs.{Plays.{calls-of, calls-in}, Back.{Rebuilds, Plays-back}}
 use Rattle.playback.proofs.LineLaws.{ended-radios, front-ended, rest-ended, lines-of-ups}
-use Rattle.calls.specs.Chains.{script-refusal}
-use Rattle.calls.specs.Questions.{by-number}
-use Rattle.calls.specs.Chains.{link-refusal}
+use Rattle.calls.specs.{Chains.{script-refusal, link-refusal}, Questions.{by-number}}
 
 -- ---- lines
 

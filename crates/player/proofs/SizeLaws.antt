@@ -10,9 +10,7 @@ use Rattle.calls.{specs.Contracts.{Link-contract}, proofs.ChainLaws.{link-zero}
 use Rattle.script.{specs.Lines.{line-of}, specs.declared.lines.Line.{Line}, specs.declared.lines.Line.the-variants.{Radios, Up, Down, Bad}}
 use Rattle.script.{proofs.LengthLaws.{length-line-le, length-link-line-le}}
 use Rattle.player.specs.{Lines.{Called, Played}, Machine.{Spot, Line-ends, Step, Takes, Takes-all, longest, closing-longest, closing}}
-use Rattle.calls.specs.Questions.{by-number}
-use Rattle.calls.specs.declared.Reply.{Reply}
-use Rattle.calls.specs.Chains.{link-refusal}
+use Rattle.calls.specs.{Questions.{by-number}, declared.Reply.{Reply}, Chains.{link-refusal}}
 
 -- ---- the reply of a call
 

@@ -16,12 +16,12 @@ use Rattle.mesh.specs.{Limits.{max-radios}, Graph.{Link, link-of, Graph, graph}
 use Rattle.mesh.specs.{Image.{whole-blocks, checks-good, Other-size, Image-of-none}, Marks.{store-bytes, is-store, Store-rules}, Sound.{sound}}
 use Rattle.mesh.specs.{declared.Node.{Node}}
 use Rattle.calls.specs.{Questions.{lengths-of, size-good, site-lengths, image-refusal, radio-refusal}, Batches.{batch-refusal, batch-switches}}
-use Rattle.calls.specs.{Heard.{hear-refusal, heard-switches}, Marks.{mark-image}, Lift.{lifts}, Outcomes.{reply, value, later, tabled, linked-with, listing}}
+use Rattle.calls.specs.{Heard.{hear-refusal, heard-switches}, Marks.{mark-image}, Lift.{lifts}, Outcomes.{reply, value, later}}
 use Rattle.calls.specs.{Outcomes.{tabled, linked-with, listing, clear-outcome, read-outcome, link-outcome, ask-outcome, commit-outcome}}
 use Rattle.calls.specs.{Outcomes.{batch-outcome, hear-outcome, check-outcome, number-outcome, later-outcome, core-outcome, value-outcome, listing-outcome}}
 use Rattle.calls.specs.{Outcomes.{backbone-outcome, staircase-outcome, write-outcome, sheet-outcome, script-length-outcome, script-outcome, tree-outcome}}
 use Rattle.calls.specs.{Outcomes.{no-block, block-outcome}, MarkOutcomes.{store-outcome, set-outcome, remove-outcome, return-outcome}}
-use Rattle.calls.specs.{LiftOutcome.{pair, lift-outcome}, Results.{Batch-stopped, Batch-single, Site-right, Link-right, Later-right, Radios-listed}}
+use Rattle.calls.specs.{LiftOutcome.{pair, lift-outcome}, Results.{Batch-stopped, Batch-single, Site-right, Link-right, Later-right}}
 use Rattle.calls.specs.{Results.{Radios-listed, Tree-listed, Written-right, Read-right, Block-part, Block-end, Script-right, Script-beforehand, Hear-right}}
 use Rattle.calls.specs.{Results.{Image-answered, Sheet-right, Staircase-listed, Ask-right, Commit-right, Batch-right}, MarkResults.{Set-right, Removed-right}}
 use Rattle.calls.specs.{MarkResults.{Same-mark}, Older.{Older}, Book.{Call, linking, setting, returning, book-after, past-of, history, all-leave}}

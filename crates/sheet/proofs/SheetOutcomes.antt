@@ -6,8 +6,7 @@ use Rattle.calls.{specs.Sheet.{line-bytes, sheet, sheet-lines, sheet-length}, s
 use Rattle.calls.{specs.Contracts.{Sheet-contract}, proofs.QuestionLaws.{ask-no}, specs.Outcomes.{sheet-outcome}}
 use Rattle.calls.{proofs.ContractLaws.{listing-refused, listing-answered}, proofs.ChainLaws.{Site-good, site-zero, site-yes, sheet-yes, site-stops}}
 use Rattle.calls.{proofs.SheetLaws.{length-sheet, sheet-fits}}
-use Rattle.calls.specs.Chains.{sheet-refusal}
-use Rattle.calls.specs.Chains.{holds-sheet}
+use Rattle.calls.specs.{Chains.{sheet-refusal, holds-sheet}}
 
 module _ (n : ℕ) (t : Tables) (w : List ℕ) where
   abbrev questions : ℕ

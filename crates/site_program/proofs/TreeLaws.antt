@@ -7,9 +7,7 @@ use Rattle.calls.{specs.Questions.{lengths-of, answer-length}, specs.declared.V
 use Rattle.calls.{proofs.ChainLaws.{site-zero}}
 use Rattle.tree.specs.Trees.{Lists, with-front, places, Filled, tables-outcome, Tables-contract}
 use Rattle.site_program.specs.{declared.verbs.Text.{Text}, Texts.{radios-line, node-lines, tree-text, Text-by}, Said.{Tree-said}}
-use Rattle.calls.specs.Chains.{tree-refusal}
-use Rattle.calls.specs.Questions.{by-number}
-use Rattle.calls.specs.Chains.{nodes-length}
+use Rattle.calls.specs.{Chains.{tree-refusal, nodes-length}, Questions.{by-number}}
 
 -- what tables and radios' names print
 abbrev told : (k many : ℕ) → Lists → List ℕ

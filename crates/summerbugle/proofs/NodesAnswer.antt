@@ -15,9 +15,7 @@ use Rattle.calls.{proofs.QuestionLaws.{ask-later, size-good-true, nodes-length-
 use Rattle.summerbugle.specs.Nodes.{nodes-in}
 use Rattle.tree.{specs.Trees.{Lists, lists, with-front, places, Filled, filled, tables-outcome, Tables-contract}, proofs.NodeLists.{nodes-before-tree}}
 use Rattle.tree.{proofs.NodeLists.{length-nodes-before}}
-use Rattle.calls.specs.Chains.{tree-refusal}
-use Rattle.calls.specs.Questions.{by-number}
-use Rattle.calls.specs.Chains.{nodes-length}
+use Rattle.calls.specs.{Chains.{tree-refusal, nodes-length}, Questions.{by-number}}
 
 -- ---- nodes in front of three tables
 

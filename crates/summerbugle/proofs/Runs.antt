@@ -7,12 +7,12 @@ use contract.{Running.{Running, real}, BorrowModel.{ghost₀}}
 use prog.Routine.{Routine}
 use Rattle.machine.{specs.Cells.{entries, Runs}, proofs.Whole.{𝓥}, proofs.Rows.{Row}, proofs.Lending.{Lending, by-value, to-read, to-write}}
 use Rattle.machine.{proofs.Law.{Answer, Promised, in-cells}, proofs.Numbers.{number-row, signed-row, number-answer, declared-answer}}
-use Rattle.mesh.specs.Tables.{Tables, tables}
+use Rattle.mesh.specs.{Tables.{Tables, tables}, declared.Node.{Node}}
 use Rattle.calls.specs.{declared.Later.{Later}, declared.Pair.{Pair}, declared.Block.{Block}, Contracts.{Clear-contract, Read-contract, Return-contract}}
 use Rattle.calls.specs.{Contracts.{Link-contract, Ask-contract, Commit-contract, Batch-contract, Hear-contract, Check-contract, Number-contract}}
 use Rattle.calls.specs.{Contracts.{Neighbours-contract, Linked-contract, First-contract, Later-contract, Lift-contract, Core-contract, Backbone-contract}}
 use Rattle.calls.specs.{Contracts.{Staircase-contract, Write-contract, Sheet-contract, Script-length-contract, Script-contract, Tree-contract, Set-contract}}
-use Rattle.calls.specs.{Contracts.{Remove-contract, Block-contract}, Outcomes.{Listing}, declared.Reply.{Reply}, declared.Value.{Value}}
+use Rattle.calls.specs.{Contracts.{Remove-contract, Block-contract}, Outcomes.{Listing}, declared.Value.{Value}}
 use Rattle.hosts.specs.{Public.{Public, of-book, this-version, call, the-tables, with-tables, with-both, with-list}, Public.Known.{clear, image-read, link, commit, link-batch, hear}}
 use Rattle.hosts.specs.{Public.Known.{mark-set, mark-remove, mark-return}, Public.Public.{ask, check, number, neighbours, linked, first, later-of, lift, core}}
 use Rattle.hosts.specs.{Public.Public.{backbone, tree, staircase, image-write, sheet, script-length, script-write, image-block, reader-open, reader-step}}
@@ -93,7 +93,6 @@ use Rattle.summerbugle.proofs.sb_image_block.Met as image-block-proof
 use Rattle.block_reader.proofs.blocks.open.Symbol as open-symbol
 use Rattle.block_reader.proofs.blocks.step.Symbol as step-symbol
 use Rattle.block_reader.proofs.blocks.moved.Symbol as moved-symbol
-use Rattle.mesh.specs.declared.Node.{Node}
 
 abbrev pub routines : Public → Routine
 routines (of-book clear) = clear-symbol.routine

@@ -7,8 +7,7 @@ use Rattle.calls.{proofs.ContractLaws.{by-accepted, by-refused}, proofs.ChainLa
 use Rattle.calls.{proofs.QuestionLaws.{answer-length-true}}
 use Rattle.soundness.{specs.Checks.{fits-sound}, proofs.SoundSite.{site-good-fits}}
 use Rattle.tree.specs.Trees.{Lists, Room, Tree-written, places, tables-outcome, Tables-contract}
-use Rattle.calls.specs.Chains.{tree-refusal}
-use Rattle.calls.specs.Chains.{nodes-length}
+use Rattle.calls.specs.{Chains.{tree-refusal, nodes-length}}
 
 -- ---- room
 

@@ -26,8 +26,7 @@ use Rattle.calls.specs.{Questions.{lengths-of}, Outcomes.{value}, declared.Valu
 use Rattle.rows.specs.Sets.{in-set}
 use Rattle.soundness.specs.Checks.{fits-sound}
 use Rattle.floods.specs.Floods.{Level-set, Flood-done}
-use Rattle.calls.specs.Chains.{tree-refusal}
-use Rattle.calls.specs.Questions.{by-number}
+use Rattle.calls.specs.{Chains.{tree-refusal}, Questions.{by-number}}
 
 pub record Lists : Type 0 where
   pub names : List ℕ
