@@ -10,8 +10,8 @@
 --   asking-is                 asking by the number that its questions give
 use Rattle.lists.specs.{Kit.{_≡_, refl, sym, ap, _∙_, _⊎_, inl, inr, Bool, List, ℕ, zero, suc, pos, length, arith}, Lists.{overwrite}}
 use Rattle.mesh.specs.{Levels.{changed, step-of}, Tables.{Tables, graph-in}, Sound.{sound}}
-use Rattle.calls.specs.{Questions.{by-number, lengths-of}, Chains.{link-refusal}, Switches.{switch, switched}}
-use Rattle.calls.specs.Outcomes.{reply, value, linked-with, listing, value-outcome, listing-outcome, link-outcome, ask-outcome}
+use Rattle.calls.specs.{Questions.{by-number, lengths-of}, Chains.{link-refusal}, declared.Reply.{Reply}}
+use Rattle.calls.specs.Outcomes.{reply, value, Linked, listing, value-outcome, listing-outcome, link-outcome, ask-outcome}
 
 -- ---- by the number
 
@@ -92,12 +92,9 @@ pub asking-is :
     ≡ by-number (link-refusal up n a b (lengths-of t) (length w) (sound n t) g)
     (listing (reply 0 (step-of up cs) (length cs)) (overwrite cs w)) (λ q. listing (reply q (pos 0) 0) w)
 unfolding ask-outcome link-outcome sound by-number
-asking-is up n a b t w = go (link-refusal up n a b (lengths-of t) (length w) (sound n t) (graph-in n (t .links)))
+asking-is up n a b t w = go (link-refusal up n a b (lengths-of t) (length w) (sound n t) (graph-in n (t .links))) _ _
   where
-    go : (R : ℕ) →
-        let cs = changed up a b (graph-in n (t .links)) in
-        let o = by-number R (linked-with (reply 0 (step-of up cs) (length cs)) (switched n (switch up a b) t) (overwrite cs w))
-        (λ q. linked-with (reply q (pos 0) 0) t w) in
-        listing (o .reply) (o .lent) ≡ by-number R (listing (reply 0 (step-of up cs) (length cs)) (overwrite cs w)) (λ q. listing (reply q (pos 0) 0) w)
-    go zero = refl
-    go (suc q) = refl
+    go : (R : ℕ) (x : Linked Reply) (y : ℕ → Linked Reply) → let o = by-number R x y in
+        listing (o .reply) (o .lent) ≡ by-number R (listing (x .reply) (x .lent)) (λ q. listing (y q .reply) (y q .lent))
+    go zero x y = refl
+    go (suc q) x y = refl

@@ -38,7 +38,7 @@ pub called-is : (up : Bool) (n a b : ℕ) (t v : Tables) (r : Reply) (w x : List
     → lined-with (r .number) v ≡ called up n a b t
 unfolding Link-contract called
 called-is up n a b t v r w x e h =
-    let same : record { reply = r; tables = v; answer = x } ≡ link-outcome up n a b t (replicate max-radios 0) = h ∙ ap (link-outcome up n a b t) e in
+    let same : record { reply = r; tables = v; lent = x } ≡ link-outcome up n a b t (replicate max-radios 0) = h ∙ ap (link-outcome up n a b t) e in
     ap (λ (o : Linked Reply). lined-with (o .reply .number) (o .tables)) same
 
 -- the line l, as the parser tells it
