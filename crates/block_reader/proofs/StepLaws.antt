@@ -10,9 +10,10 @@ use denote.Ref.{now}
 use lib.{Dec.{ltb}, ListN.{length, take, drop}}
 use borrow.Author.Tests.{ltb-true, lt-ltb, le-ltb}
 use Rattle.mesh.specs.Image.{block-bytes, payload-bytes, payload-at}
-use Rattle.calls.{specs.Questions.{block-refusal}, specs.Outcomes.{by-number, no-block, block-or-end, block-outcome}, specs.Contracts.{Block-contract}}
+use Rattle.calls.{specs.Outcomes.{no-block, block-or-end, block-outcome}, specs.Contracts.{Block-contract}}
 use Rattle.calls.{specs.declared.Block.{Block}, proofs.ContractLaws.{by-zero, by-other}}
 use Rattle.block_reader.specs.{Reader.{Part-there, part-start, Stepped}, declared.blocks.BlockReader.{BlockReader}, declared.blocks.BlockStep.{BlockStep}}
+use Rattle.calls.specs.{Chains.{block-refusal}, Questions.{by-number}}
 
 -- ---- the part of a step
 

@@ -44,12 +44,12 @@ pub exactly-listed :
     let o = link-outcome up m a b (after cs s) w in o .reply .number ≡ 0 → (x j k : ℕ) → x < n →
     Core (graph n (book-after (givens (events cs s)) ps)) x j →
     Core (graph n (book-after (givens (events (cs ++ (linking up m a b (length w) ∷ [])) s)) ps)) x k →
-    (member x (take (o .reply .count) (o .answer)) ≡ true) ↔ (j ≡ k → ⊥)
+    (member x (take (o .reply .count) (o .lent)) ≡ true) ↔ (j ≡ k → ⊥)
 unfolding Does answer-of events
 exactly-listed n ps s start cs up m a b w z x j k l p q =
     let t = after cs s in
     let o = link-outcome up m a b t w in
-    let h = answer-of (o .reply) (o .answer) in
+    let h = answer-of (o .reply) (o .lent) in
     let d = link-done up m a b t w in
     exactly-changed n ps s t (o .tables) (events cs s) up m a b (length w) h start (run cs s) d z x j k l p
     (subst (λ (es : List Event). Core (graph n (book-after (givens es) ps)) x k) (events-append cs (linking up m a b (length w) ∷ []) s ∙ last t (linking up m a b (length w)) (o .tables) h d) q)

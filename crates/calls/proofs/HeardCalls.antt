@@ -116,7 +116,7 @@ module _ (n : ℕ) (hs : List ℕ) (t : Tables) (w : ℕ) (q : Heard-good n hs w
 
 pub hear-right :
     (n : ℕ) (hs : List ℕ) (t : Tables) (w : List ℕ) → hear-refusal n (lengths-of t) hs (length w) (sound n t) ≡ 0 →
-    let o = hear-outcome n hs t w in Hear-right n hs t (o .tables) (o .reply) (o .one-sided)
+    let o = hear-outcome n hs t w in Hear-right n hs t (o .tables) (o .reply) (o .lent)
 unfolding hear-outcome
 hear-right n hs t w z = rw (by-zero {o = hear-outcome n hs t w} _ _ _ z refl) (accepted-right n hs t (length w) (hear-zero n hs (length w) t z))
 

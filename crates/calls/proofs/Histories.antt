@@ -10,7 +10,7 @@ use Rattle.mesh.{specs.Graph.{Link, Graph, graph}, specs.Tables.{Tables, tables
 use Rattle.mesh.{proofs.Images.Sites.{read-written-graph, read-written-order}}
 use Rattle.calls.specs.{Questions.{lengths-of}, Switches.{Switch, pairs-after, tables-after}, Book.{Beginning, Marking, no-mark, sets, removes, returns}}
 use Rattle.calls.specs.{Book.{Outcome, Answer, outcome, booked, first-pairs, pairs-of, book-after, beginning-pairs, beginning-tables, History}}
-use Rattle.calls.specs.{Book.{history-by, image-at, Marked, Past, is-mark, struck, replacing, recalled, marked-by, past-by, past-after}, Runs.{Event}}
+use Rattle.calls.specs.{Book.{history-by, image-at, Marked, Past, matches, struck, replacing, recalled, marked-by, past-by, past-after}, Runs.{Event}}
 use Rattle.calls.specs.{Runs.{givens}, Demand.{By-history, Call-kept}}
 use Rattle.calls.proofs.{Runs.{Run, ended, next}, Holds.{Holds, read-back, pairs-after-append, tables-after-append}, Steps.{Stepped, step}}
 
@@ -73,7 +73,7 @@ Marks-hold n (m ∷ ms) = Marked-holds n m × Marks-hold n ms
 struck-hold : (n : ℕ) (x i : List ℕ) (ms : List Marked) → Marks-hold n ms → Marks-hold n (struck x i ms)
 unfolding struck
 struck-hold n x i [] k = tt
-struck-hold n x i (m ∷ ms) k = go (is-mark x i m) (struck-hold n x i ms (k .1))
+struck-hold n x i (m ∷ ms) k = go (matches x i m) (struck-hold n x i ms (k .1))
   where
     go : (b : Bool) → Marks-hold n (struck x i ms) → Marks-hold n (cond b ms (m ∷ struck x i ms))
     go true r = k .1
@@ -87,10 +87,10 @@ replacing-hold n x (some i) ms k = struck-hold n x i ms k
 -- the history recalled makes what the mark's image does
 recalled-traced :
     (n : ℕ) (x : List ℕ) (h : History) (ps : List Link) (t : Tables) (ms : List Marked) → Traced n h ps t → Marks-hold n ms → Traced n (recalled x h ms) ps t
-unfolding recalled is-mark
+unfolding recalled matches
 recalled-traced n x h ps t [] k l = k
 recalled-traced n x h ps t (m ∷ ms) k l =
-    go (is-mark x (image-at h) m) refl (recalled-traced n x h ps t ms k (l .1))
+    go (matches x (image-at h) m) refl (recalled-traced n x h ps t ms k (l .1))
   where
     go : (b : Bool) → same (m .name) x && same (image-at (m .history)) (image-at h) ≡ b → Traced n (recalled x h ms) ps t →
         Traced n (cond b (m .history) (recalled x h ms)) ps t

@@ -10,7 +10,7 @@ use Rattle.mesh.{proofs.Cores.Peeling.{length-numbers}, proofs.Tables.Laws.{lin
 use Rattle.mesh.{proofs.Tables.Soundness.{valid-sound}, proofs.Tables.Sites.{valid-cleared, numbers-cleared, image-valid}, proofs.Links.Laws.{link-valid}}
 use Rattle.mesh.{proofs.Links.Laws.{link-table}, specs.Valid.{Valid}}
 use Rattle.calls.specs.{Questions.{lengths-of, site-refusal, tables-refusal, read-refusal}, Switches.{Switch, pairs-after, switched, tables-after}}
-use Rattle.calls.specs.{Switches.{All-allowed}, Outcomes.{numbered, clear-outcome, read-outcome}, Book.{reported, from-clearing, from-image}}
+use Rattle.calls.specs.{Switches.{All-allowed}, Outcomes.{tabled, clear-outcome, read-outcome}, Book.{reported, from-clearing, from-image}}
 use Rattle.calls.specs.{Book.{beginning-tables}, Demand.{Link-kept, Switching, ended, next}}
 use Rattle.calls.proofs.{ChainLaws.{Lent-good, lent-zero, lent-later, read-zero}, ContractLaws.{by-zero}, RecordLaws.{tables-ext}, LinkKept.{link-kept}}
 
@@ -23,12 +23,12 @@ pub record Holds (n : ℕ) (ps : List Link) (t : Tables) : Type 0 where
 -- ---- after an accepted clearing or reading
 
 -- the tables that it leaves
-pub clear-is : (m : ℕ) (t : Tables) → tables-refusal m (lengths-of t) ≡ 0 → clear-outcome m t ≡ numbered 0 (beginning-tables (from-clearing m))
+pub clear-is : (m : ℕ) (t : Tables) → tables-refusal m (lengths-of t) ≡ 0 → clear-outcome m t ≡ tabled 0 (beginning-tables (from-clearing m))
 unfolding clear-outcome beginning-tables tables-of
 clear-is m t p = by-zero _ _ _ p refl ∙ rw (links-table-cleared m, numbers-cleared m)
 
 pub read-is :
-    (m : ℕ) (bs : List ℕ) (t : Tables) → read-refusal m (lengths-of t) bs ≡ 0 → read-outcome m bs t ≡ numbered 0 (beginning-tables (from-image m bs))
+    (m : ℕ) (bs : List ℕ) (t : Tables) → read-refusal m (lengths-of t) bs ≡ 0 → read-outcome m bs t ≡ tabled 0 (beginning-tables (from-image m bs))
 unfolding read-outcome beginning-tables
 read-is m bs t p = by-zero _ _ _ p refl
 

@@ -16,12 +16,15 @@ use Rattle.mesh.{proofs.Images.Tables.{tables-read-written}, proofs.Marks.Lists
 use Rattle.mesh.{proofs.Marks.Lists.{has-mark-with-other, length-with, rising-without, has-mark-without-same, found-without-other, has-mark-without-other}}
 use Rattle.mesh.{proofs.Marks.Lists.{length-without, found-mark}, proofs.Marks.Rules.{store-good-iff}, proofs.Marks.Laws.{Marks, marks-store-of}}
 use Rattle.mesh.{proofs.Marks.Laws.{length-store-of, is-store-of, Store-marks, store-marks, Place-mark, place-mark, mark-place}}
-use Rattle.calls.specs.{Questions.{ask, Lengths, lengths-of, read-refusal}, Outcomes.{by-number, Numbered, read-outcome}, MarkOutcomes.{Stored, stored}}
+use Rattle.calls.specs.{Questions.{ask, Lengths, lengths-of, read-refusal}, Outcomes.{Tabled, read-outcome}}
 use Rattle.calls.specs.{MarkOutcomes.{store-outcome, set-outcome, remove-outcome, return-outcome}, Results.{Read-right}, MarkResults.{Store-right}}
 use Rattle.calls.specs.{MarkResults.{Set-right, Removed-right, Same-mark}, Marks.{store-length, marks-good, is-marked, has-place, mark-refusal}}
-use Rattle.calls.specs.{Marks.{set-refusal, named-refusal, set-store, removed-store, mark-image}}
+use Rattle.calls.specs.{Marks.{set-refusal, named-refusal, mark-image}}
 use Rattle.calls.proofs.{QuestionLaws.{ask-zero}, ChainLaws.{Site-good, site-zero, Blocks-good, read-yes}, ContractLaws.{accepted-is, by-zero}}
 use Rattle.calls.proofs.{Accepted.{read-right}}
+use Rattle.calls.specs.Questions.{by-number}
+use Rattle.calls.specs.Outcomes.{Listing, listing}
+use Rattle.calls.specs.Chains.{set-store, removed-store}
 
 -- ---- questions
 
@@ -52,9 +55,9 @@ unfolding named-refusal
 named-zero n l sound x bs p = let q = mark-zero n l sound x bs _ p in (q .0, ask-zero 17 (is-marked x bs) 0 (q .1) .0)
 
 -- the number 0 is no refusal
-store-is : (R : ℕ) (new old : List ℕ) → store-outcome R new old .reply ≡ 0 → (R ≡ 0) × (store-outcome R new old ≡ stored 0 new)
+store-is : (R : ℕ) (new old : List ℕ) → store-outcome R new old .reply ≡ 0 → (R ≡ 0) × (store-outcome R new old ≡ listing 0 new)
 unfolding store-outcome
-store-is R new old z = accepted-is (λ (o : Stored). o .reply) (store-outcome R new old) R _ _ (λ q. refl) refl z
+store-is R new old z = accepted-is (λ (o : Listing ℕ (List ℕ)). o .reply) (store-outcome R new old) R _ _ (λ q. refl) refl z
 
 -- ---- setting
 
@@ -87,8 +90,8 @@ set-marks n x image ps m k name room =
     go (inl h) l f = omega (arith, rw h at l)
     go (inr h) l f = omega (arith, ltb-true (length ps) places h)
 
-pub set-right : (n : ℕ) (x : List ℕ) (t : Tables) (bs : List ℕ) → let o = set-outcome n x t bs in o .reply ≡ 0 → Set-right n x t bs (o .store)
-unfolding set-outcome set-store has-place is-marked mark-image
+pub set-right : (n : ℕ) (x : List ℕ) (t : Tables) (bs : List ℕ) → let o = set-outcome n x t bs in o .reply ≡ 0 → Set-right n x t bs (o .lent)
+unfolding set-outcome has-place is-marked mark-image
 set-right n x t bs z =
     let a = store-is (set-refusal n (lengths-of t) (sound n t) x bs) (set-store n x t bs) bs z in
     let q = set-zero n (lengths-of t) (sound n t) x bs (a .0) in
@@ -109,8 +112,8 @@ set-right n x t bs z =
 
 -- ---- removing
 
-pub removed-right : (n : ℕ) (x : List ℕ) (t : Tables) (bs : List ℕ) → let o = remove-outcome n x t bs in o .reply ≡ 0 → Removed-right n x bs (o .store)
-unfolding remove-outcome removed-store is-marked
+pub removed-right : (n : ℕ) (x : List ℕ) (t : Tables) (bs : List ℕ) → let o = remove-outcome n x t bs in o .reply ≡ 0 → Removed-right n x bs (o .lent)
+unfolding remove-outcome is-marked
 removed-right n x t bs z =
     let a = store-is (named-refusal n (lengths-of t) (sound n t) x bs) (removed-store x bs) bs z in
     let q = named-zero n (lengths-of t) (sound n t) x bs (a .0) in
@@ -132,11 +135,11 @@ removed-right n x t bs z =
 same-mark : (y bs : List ℕ) → Same-mark y bs bs
 same-mark y bs = record { there = refl; place = refl }
 
-set-others : (n : ℕ) (x : List ℕ) (t : Tables) (bs y : List ℕ) → same x y ≡ false → Same-mark y bs (set-outcome n x t bs .store)
-unfolding set-outcome store-outcome by-number set-store is-marked has-place
+set-others : (n : ℕ) (x : List ℕ) (t : Tables) (bs y : List ℕ) → same x y ≡ false → Same-mark y bs (set-outcome n x t bs .lent)
+unfolding set-outcome store-outcome by-number is-marked has-place
 set-others n x t bs y h = go (set-refusal n (lengths-of t) (sound n t) x bs) refl
   where
-    go : (R : ℕ) → set-refusal n (lengths-of t) (sound n t) x bs ≡ R → Same-mark y bs (store-outcome R (set-store n x t bs) bs .store)
+    go : (R : ℕ) → set-refusal n (lengths-of t) (sound n t) x bs ≡ R → Same-mark y bs (store-outcome R (set-store n x t bs) bs .lent)
     go zero e =
         let q = set-zero n (lengths-of t) (sound n t) x bs e in
         let image = image-of (graph-in n (t .links)) (t .order) in
@@ -149,11 +152,11 @@ set-others n x t bs y h = go (set-refusal n (lengths-of t) (sound n t) x bs) ref
         record { there = ap (has-mark y) f ∙ has-mark-with-other y p (marks-in bs) o; place = ap (found y) f ∙ found-with-other y p (marks-in bs) o }
     go (suc z) e = same-mark y bs
 
-removed-others : (n : ℕ) (x : List ℕ) (t : Tables) (bs y : List ℕ) → same x y ≡ false → Same-mark y bs (remove-outcome n x t bs .store)
-unfolding remove-outcome store-outcome by-number removed-store is-marked
+removed-others : (n : ℕ) (x : List ℕ) (t : Tables) (bs y : List ℕ) → same x y ≡ false → Same-mark y bs (remove-outcome n x t bs .lent)
+unfolding remove-outcome store-outcome by-number is-marked
 removed-others n x t bs y h = go (named-refusal n (lengths-of t) (sound n t) x bs) refl
   where
-    go : (R : ℕ) → named-refusal n (lengths-of t) (sound n t) x bs ≡ R → Same-mark y bs (store-outcome R (removed-store x bs) bs .store)
+    go : (R : ℕ) → named-refusal n (lengths-of t) (sound n t) x bs ≡ R → Same-mark y bs (store-outcome R (removed-store x bs) bs .lent)
     go zero e =
         let m = named-zero n (lengths-of t) (sound n t) x bs e .0 .store .marks in
         let few = m .few in
@@ -166,7 +169,7 @@ removed-others n x t bs y h = go (named-refusal n (lengths-of t) (sound n t) x b
 -- setting or removing another name
 pub other-marks :
     (n : ℕ) (x : List ℕ) (t : Tables) (bs y : List ℕ) → same x y ≡ false →
-    Same-mark y bs (set-outcome n x t bs .store) × Same-mark y bs (remove-outcome n x t bs .store)
+    Same-mark y bs (set-outcome n x t bs .lent) × Same-mark y bs (remove-outcome n x t bs .lent)
 other-marks n x t bs y h = (set-others n x t bs y h, removed-others n x t bs y h)
 
 -- ---- coming back
@@ -202,17 +205,17 @@ pub return-right :
 unfolding return-outcome read-outcome
 return-right n x bs t z =
     let image = mark-image n x bs in
-    let a = accepted-is (λ (o : Numbered). o .reply) (return-outcome n x bs t) _ _ _ (λ q. refl) refl z in
+    let a = accepted-is (λ (o : Tabled ℕ). o .reply) (return-outcome n x bs t) _ _ _ (λ q. refl) refl z in
     let q = named-zero n (lengths-of t) (sound n t) x bs (a .0) in
     let same : return-outcome n x bs t ≡ read-outcome n image t =
     a .1 ∙ sym (by-zero _ _ _ (mark-read n (lengths-of t) (sound n t) x bs (q .0) (q .1)) refl) in
-    (same, rw same (read-right n image t (ap (λ (o : Numbered). o .reply) (sym same) ∙ z)))
+    (same, rw same (read-right n image t (ap (λ (o : Tabled ℕ). o .reply) (sym same) ∙ z)))
 
 -- set with the tables t, later the store has the same place under that name: coming back restores t. That their links are bytes is all that
 -- is asked of them
 pub return-restores :
     (n : ℕ) (x : List ℕ) (t u : Tables) (bs ds : List ℕ) → Entries-below 256 (t .links) → let o = set-outcome n x t bs in o .reply ≡ 0 →
-    Same-mark x (o .store) ds → return-outcome n x ds u .reply ≡ 0 → return-outcome n x ds u .tables ≡ t
+    Same-mark x (o .lent) ds → return-outcome n x ds u .reply ≡ 0 → return-outcome n x ds u .tables ≡ t
 unfolding mark-image return-outcome set-outcome lengths-of
 return-restores n x t u bs ds bytes z s y =
     let k = set-right n x t bs z in
@@ -221,7 +224,7 @@ return-restores n x t u bs ds bytes z s y =
     let l = site .lent .lengths in
     let size : Tables-of-size n t = record { links-length = l .links; numbers-length = l .numbers; order-length = l .order; links-bytes = bytes } in
     let e : mark-image n x ds ≡ image-of (graph-in n (t .links)) (t .order) = ap (image-in n) (s .place) ∙ k .image in
-    let r = accepted-is (λ (o : Numbered). o .reply) (return-outcome n x ds u) _ _ _ (λ q. refl) refl y in
-    ap (λ (o : Numbered). o .tables) (r .1)
+    let r = accepted-is (λ (o : Tabled ℕ). o .reply) (return-outcome n x ds u) _ _ _ (λ q. refl) refl y in
+    ap (λ (o : Tabled ℕ). o .tables) (r .1)
     ∙ ap (λ (o : List ℕ). tables-of (image-graph n o) (image-order n o)) e
     ∙ tables-read-written n t (site .lent .most) size (site .is-sound)

@@ -8,8 +8,8 @@ use Rattle.lists.{proofs.Range.{length-range}, proofs.All.{same-refl, same-eq},
 use Rattle.mesh.{specs.Limits.{max-neighbours, row-bytes}, specs.Graph.{Link, Graph, graph, radios}, specs.Staircase.{staircase, link-entries}}
 use Rattle.mesh.{specs.Levels.{changed}, specs.Tables.{Tables, graph-in, tables-of}, specs.Sound.{sound}, specs.Connected.{core-of, backbone}}
 use Rattle.mesh.{specs.Tree.{node, node-name, tree, node-names}, specs.Image.{long, image-of}, specs.declared.Node.{Node}, proofs.Images.Of.{length-image-of}}
-use Rattle.calls.specs.{Questions.{link-refusal, lengths-of, size-good, level-refusal, image-length, tables-refusal, ends-refusal, read-refusal}}
-use Rattle.calls.specs.{Switches.{Switch, switched}, Outcomes.{link-outcome, by-number, Numbered, Listing, reply, value, listing-outcome, clear-outcome}}
+use Rattle.calls.specs.{Questions.{lengths-of, size-good, image-length, tables-refusal, ends-refusal, read-refusal}}
+use Rattle.calls.specs.{Switches.{Switch, switched}, Outcomes.{link-outcome, Tabled, Listing, reply, value, listing-outcome, clear-outcome}}
 use Rattle.calls.specs.{Outcomes.{read-outcome, write-outcome, tree-outcome}, Book.{beginning-tables}, Worked.{entries, lent-tables, lent-nodes, Left}}
 use Rattle.calls.specs.{Worked.{left, left-by, played, after, Want, last-answers, all-numbers, whole-order, shell-tree, connected-core, backbone-radios}}
 use Rattle.calls.specs.{Worked.{image-checks, printed, soundness, staircase-list, formerly, script, bad-text, image-reading, same-nodes, block-checks}}
@@ -18,6 +18,10 @@ use Rattle.calls.proofs.{ContractLaws.{number-by}, QuestionLaws.{size-g
 use Rattle.calls.proofs.{Holds.{read-back, switched-holds}, Steps.{answer-accepted, answer-refused}, ByPairs.{link-asked, core-by-pairs}}
 use Rattle.calls.proofs.{ByPairs.{backbone-by-pairs, write-by-pairs, tree-by-pairs, staircase-by-pairs}, WorkedState.{State, state, carried-out}}
 use Rattle.calls.proofs.{WorkedState.{state-played, state-after, right-lengths, state-meets, state-meets-all, state-right, all-state-right}}
+use Rattle.calls.specs.Chains.{level-refusal}
+use Rattle.calls.specs.Questions.{by-number}
+use Rattle.calls.specs.declared.Value.{Value}
+use Rattle.calls.specs.Chains.{link-refusal}
 
 -- ---- what is lent
 
@@ -98,7 +102,7 @@ kept-right (suc y) r ks old xs p =
 
 number-read : (n : ℕ) (bs : List ℕ) (t : Tables) → read-outcome n bs t .reply ≡ read-refusal n (lengths-of t) bs
 unfolding read-outcome
-number-read n bs t = number-by (λ (o : Numbered). o .reply) (read-refusal n (lengths-of t) bs) _ _ refl (λ q. refl)
+number-read n bs t = number-by (λ (o : Tabled ℕ). o .reply) (read-refusal n (lengths-of t) bs) _ _ refl (λ q. refl)
 
 -- ---- a state
 
@@ -145,7 +149,7 @@ module _ (f : ℕ → ℕ) (n : ℕ) (size : size-good n ≡ true) where
     asked = link-asked n (q .pairs) (s .tables) (k .holds) least (c .up) (c .a) (c .b) (length (entries f n)) enough-entries
 
     alike-by : (R : ℕ) → ends-refusal max-neighbours (c .up) n (c .a) (c .b) g ≡ R → Alike n (carried-out R n c q) (played f n c s)
-    unfolding carried-out played left-by link-outcome link-refusal sound by-number switched
+    unfolding carried-out played left-by link-outcome sound by-number switched
     alike-by zero e =
         let same : graph-in n (s .tables .links) ≡ g = read-back n (q .pairs) (s .tables) (k .holds) in
         rw (asked ∙ e)
@@ -184,8 +188,8 @@ module _ (f : ℕ → ℕ) (n : ℕ) (size : size-good n ≡ true) where
     unfolding image-length
     image-taken w l =
         let e = write-by-pairs n (q .pairs) (s .tables) (k .holds) least w l in (
-          ap (λ (o : Listing). o .reply) e,
-          ap (λ (o : Listing). take (image-length site) (o .lent)) e
+          ap (λ (o : Listing Value (List ℕ)). o .reply) e,
+          ap (λ (o : Listing Value (List ℕ)). take (image-length site) (o .lent)) e
               ∙ rw (k .order, ← length-image-of site (q .order), take-overwrite (image-of site (q .order)) w),
         )
 
@@ -212,7 +216,7 @@ module _ (f : ℕ → ℕ) (n : ℕ) (size : size-good n ≡ true) where
     tree-right :
         (ns : List Node) (vs : List ℕ) → same-nodes (tree site) ns ≡ true → same (node-names site) vs ≡ true →
         let o = tree-outcome n (s .tables) (lent-nodes f n) (entries f n) in
-        (is-value (o .reply) 0 (length ns) && (same-nodes (take (length ns) (o .nodes)) ns && same (take n (o .answer)) vs)) ≡ true
+        (is-value (o .reply) 0 (length ns) && (same-nodes (take (length ns) (o .lent .0)) ns && same (take n (o .lent .1)) vs)) ≡ true
     tree-right ns vs p r =
         let e = tree-by-pairs n (q .pairs) (s .tables) (k .holds) least (lent-nodes f n) (entries f n) (omega (arith, length-lent-nodes f n)) enough-entries in
         rw (

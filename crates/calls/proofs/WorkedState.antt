@@ -17,13 +17,16 @@ use Rattle.mesh.specs.{Staircase.{link-entries, weighs, least, goes-before}, Im
 use Rattle.mesh.specs.{Image.{block-count, link-bytes, order-payload, links-payload, block-at, image-of, word-at, entry-at, image-order, image-link}}
 use Rattle.mesh.specs.{Image.{image-links, image-graph, whole-blocks, block-check, checks-good, is-image-within, is-image, other-size}}
 use Rattle.calls.specs.{Questions.{ask, Lengths, lengths-of, size-good, site-lengths, is-radio, are-radios, ends-differ, can-switch, has-room, has-level}}
-use Rattle.calls.specs.{Questions.{same-step, level-refusal, image-length, lent-refusal, tables-refusal, ends-refusal, blocks-refusal, image-refusal}}
-use Rattle.calls.specs.{Questions.{read-refusal, site-refusal, staircase-length}, Script.{up-line, script-of}, Switches.{Switch}, Outcomes.{by-number}}
-use Rattle.calls.specs.{Outcomes.{value-outcome, check-outcome}, Book.{Answer, plain, reported}, Replay.{step-text, link-line, numbers-line, order-line}}
+use Rattle.calls.specs.{Questions.{same-step, image-length, lent-refusal, tables-refusal, ends-refusal, blocks-refusal, image-refusal}}
+use Rattle.calls.specs.{Questions.{read-refusal, site-refusal}, Script.{up-line, script-of}, Switches.{Switch}}
+use Rattle.calls.specs.{Outcomes.{value-outcome, check-outcome}, Book.{Answer, counted, reported}, Replay.{step-text, link-line, numbers-line, order-line}}
 use Rattle.calls.specs.{Replay.{closing-lines, bad-line, answer-line, lines}, Worked.{risen, fallen, unchanged, refused, Want, last-answers, all-numbers}}
 use Rattle.calls.specs.{Worked.{whole-order, shell-tree, connected-core, backbone-radios, image-checks, printed, soundness, staircase-list, formerly}}
 use Rattle.calls.specs.{Worked.{script, bad-text, image-reading, same-answers, same-nodes, block-checks, put-in, is-value, Row}}
 use Rattle.text.specs.Text.{bytes-of, digit-byte, digits-in, decimal, further-fields, printed-line}
+use Rattle.calls.specs.Chains.{level-refusal}
+use Rattle.calls.specs.Questions.{by-number}
+use Rattle.calls.specs.Chains.{staircase-length}
 
 pub record State : Type 0 where
   pub pairs : List Link
@@ -41,7 +44,7 @@ carried-out zero n c q =
     (new-links (c .up) (c .a) (c .b) (q .pairs))
     (new-order (c .up) (c .a) (c .b) g (q .order))
     (q .answers ++ (reported (c .up) (changed (c .up) (c .a) (c .b) g) ∷ []))
-carried-out (suc x) n c q = state (q .pairs) (q .order) (q .answers ++ (plain (suc x) ∷ []))
+carried-out (suc x) n c q = state (q .pairs) (q .order) (q .answers ++ (counted (suc x) 0 ∷ []))
 
 unfoldable pub state-played : (n : ℕ) → Switch → State → State
 state-played n c q =
@@ -94,5 +97,5 @@ all-state-right (r ∷ rs) = state-right r && all-state-right rs
 
 -- everything that rows compute with
 unfoldable pub compute : Unit {0}
-unfolding range count filter member all same head-or radios other-ends linked neighbours-among degree link link-before same-link with-link without-link new-links relinked survivors peeled cores-from cores depth number numbers changed step-of lower-level stretch-start stretch-length first-fitting without laid-out stretch-up stretch-down new-stretch with-stretch new-order at-least reached core-of greatest backbone shell node-name parent-name nodes-at tree node-names word long weighted-sum check-sum block blocks-for order-blocks block-count link-bytes order-payload links-payload block-at image-of word-at entry-at image-order image-link image-links image-graph whole-blocks block-check checks-good is-image-within is-image other-size weight filter-links falling joined keep staircase link-entries weighs least goes-before site-refusal staircase-length up-line script-of bad-line proper ascending each-once rising few-later digit byte-at marked from-digits bit-row bit-table links-table tables-of symmetric irreflexive within row-degree few rows-proper enough sound-within sound ask is-radio are-radios ends-differ can-switch has-room has-level image-length ends-refusal image-refusal digit-byte digits-in decimal step-text further-fields printed-line link-line numbers-line order-line closing-lines risen fallen unchanged refused same-step same-answers same-nodes level-refusal block-checks put-in answer-line flatMap plain reported blocks-refusal is-value lines by-number value-outcome check-outcome tables-refusal lent-refusal size-good site-lengths lengths-of read-refusal carried-out state-played state-after state-meets state-meets-all state-right all-state-right
+unfolding range count filter member all same head-or radios other-ends linked neighbours-among degree link link-before same-link with-link without-link new-links relinked survivors peeled cores-from cores depth number numbers changed step-of lower-level stretch-start stretch-length first-fitting without laid-out stretch-up stretch-down new-stretch with-stretch new-order at-least reached core-of greatest backbone shell node-name parent-name nodes-at tree node-names word long weighted-sum check-sum block blocks-for order-blocks block-count link-bytes order-payload links-payload block-at image-of word-at entry-at image-order image-link image-links image-graph whole-blocks block-check checks-good is-image-within is-image other-size weight filter-links falling joined keep staircase link-entries weighs least goes-before site-refusal up-line script-of bad-line proper ascending each-once rising few-later digit byte-at marked from-digits bit-row bit-table links-table tables-of symmetric irreflexive within row-degree few rows-proper enough sound-within sound ask is-radio are-radios ends-differ can-switch has-room has-level image-length ends-refusal image-refusal digit-byte digits-in decimal step-text further-fields printed-line link-line numbers-line order-line closing-lines risen fallen unchanged refused same-step same-answers same-nodes block-checks put-in answer-line flatMap counted reported blocks-refusal is-value lines by-number value-outcome check-outcome tables-refusal lent-refusal size-good site-lengths lengths-of read-refusal carried-out state-played state-after state-meets state-meets-all state-right all-state-right
 compute = tt

@@ -10,8 +10,8 @@ use Rattle.lists.specs.{Kit.{_≡_, _⊎_, Bool, true, false, List, [], _∷_, 
 use Rattle.mesh.specs.{Graph.{Link, Graph, graph, relinked, new-links}, Cores.{Core, number, numbers}, Orders.{is-k-order}, Levels.{changed, lower-level}}
 use Rattle.mesh.specs.{Levels.{stretch-start, stretch-length, new-stretch}, Tables.{Tables, put-link, links-table, graph-in}, Sound.{sound, number-in}}
 use Rattle.mesh.specs.{Connected.{Reachable}, Image.{image-links}}
-use Rattle.calls.specs.{Outcomes.{numbered, clear-outcome, read-outcome}, Switches.{Switch, pairs-after, tables-after}, Book.{Call, linking, Answer}}
-use Rattle.calls.specs.{Book.{reported, Outcome, given, booked, book-answers, book-after, Beginning, from-clearing, from-image, beginning-pairs, radios}}
+use Rattle.calls.specs.{Outcomes.{tabled, clear-outcome, read-outcome}, Switches.{Switch, pairs-after, tables-after}, Book.{Call, linking, Answer}}
+use Rattle.calls.specs.{Book.{reported, Outcome, given, booked, book-answers, book-after, Beginning, from-clearing, from-image, beginning-pairs, site-size}}
 use Rattle.calls.specs.{Book.{beginning-tables, History, history}, Questions.{lengths-of}, Runs.{Event, event, events, after, givens, answers}}
 
 -- ---- an accepted link call
@@ -71,8 +71,8 @@ pub data Switching (n : ℕ) : List Link → List Switch → Tables → Tables �
 
 -- left by an accepted clearing: no pairs; left by an accepted reading: the pairs that the image lists
 pub data Start : (n : ℕ) → (pairs : List Link) → Tables → Type 0 where
-  cleared : (n : ℕ) (t v : Tables) → numbered 0 v ≡ clear-outcome n t → Start n [] v
-  read : (n : ℕ) (image : List ℕ) (t v : Tables) → numbered 0 v ≡ read-outcome n image t → Start n (image-links n image) v
+  cleared : (n : ℕ) (t v : Tables) → tabled 0 v ≡ clear-outcome n t → Start n [] v
+  read : (n : ℕ) (image : List ℕ) (t v : Tables) → tabled 0 v ≡ read-outcome n image t → Start n (image-links n image) v
 
 -- what a list that starts there began from
 unfoldable pub beginning : {n : ℕ} {ps : List Link} {t : Tables} → Start n ps t → Beginning
@@ -81,7 +81,7 @@ beginning (read n bs t v d) = from-image n bs
 
 -- links, numbers and order are what the link history makes of the tables that the clearing or reading left from which it began
 pub record By-history (n : ℕ) (h : History) (v : Tables) : Type 0 where
-  pub size : radios (h .began) ≡ n
+  pub size : site-size (h .began) ≡ n
   pub start : Start n (beginning-pairs (h .began)) (beginning-tables (h .began))
   pub tables : v ≡ tables-after n (h .calls) (beginning-tables (h .began))
 

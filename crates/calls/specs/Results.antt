@@ -9,7 +9,7 @@
 --   Hear-right        after a hearing: the links are exactly the agreed ones, and the one-sided pairs are marked and counted
 --   Listed            a list of radios in front of a lent list
 --   Later-right       the later neighbours of a radio: how many, and the first of them
---   Core-listed, Backbone-listed   the radios listed
+--   Radios-listed     the radios listed: those of a connected core, of the backbone
 --   Tree-listed       the nodes listed, and each radio's node name
 --   Sheet-right       the site sheet, column by column
 --   Script-right      the script that rebuilds the site
@@ -22,8 +22,8 @@
 use Rattle.lists.specs.{Kit.{_≡_, _↔_, Bool, true, _&&_, not, cond, List, eqb, ℕ, _+_, _*_, _/_, _≤_, _<_, length, getD, take, drop}, Lists.{range, total}}
 use Rattle.lists.specs.{Lists.{member, Ascending}}
 use Rattle.mesh.specs.{Limits.{max-radios, max-neighbours}, Graph.{Graph, graph, linked, relinked}, Cores.{Core, number}, Orders.{is-k-order, later-in, nobody}}
-use Rattle.mesh.specs.{Orders.{First-later}, Tables.{Tables, marked, graph-in}, Sound.{row-degree, rows-proper, number-in, sound}, Connected.{In-core}}
-use Rattle.mesh.specs.{Connected.{In-backbone}, Tree.{Is-tree, Node-name}, Staircase.{staircase, link-entries, Staircase-tree}, Image.{block-bytes}}
+use Rattle.mesh.specs.{Orders.{First-later}, Tables.{Tables, marked, graph-in}, Sound.{row-degree, rows-proper, number-in, sound}, Tree.{Is-tree, Node-name}}
+use Rattle.mesh.specs.{Staircase.{staircase, link-entries, Staircase-tree}, Image.{block-bytes}}
 use Rattle.mesh.specs.{Image.{payload-bytes, payload-at, image-of, image-graph, Tables-image, Other-size, Image-of-none}, declared.Node.{Node}}
 use Rattle.calls.specs.{Sheet.{line-bytes, sheet, sheet-lines, Columns}, Script.{script-of}, Outcomes.{no-block}, Switches.{pairs-after, tables-after}}
 use Rattle.calls.specs.{Switches.{All-allowed}, Questions.{ends-refusal}, Batches.{ups}, Heard.{heard-switches}, declared.Reply.{Reply}}
@@ -107,12 +107,9 @@ pub record Later-right (g : Graph) (v : ℕ) (xs : List ℕ) (count first : ℕ)
 
 -- ---- connected cores, backbone, shell tree
 
-pub record Core-listed (g : Graph) (v k count : ℕ) (w x : List ℕ) : Type 0 where
-  pub exactly : (y : ℕ) → (member y (take count x) ≡ true) ↔ In-core g v k y
-  pub listed : Listed count w x
-
-pub record Backbone-listed (g : Graph) (count : ℕ) (w x : List ℕ) : Type 0 where
-  pub exactly : (y : ℕ) → (member y (take count x) ≡ true) ↔ In-backbone g y
+-- exactly the radios of which P holds are listed
+pub record Radios-listed (P : ℕ → Type 0) (count : ℕ) (w x : List ℕ) : Type 0 where
+  pub exactly : (y : ℕ) → (member y (take count x) ≡ true) ↔ P y
   pub listed : Listed count w x
 
 -- m and w are the list of nodes and the answer table before the call, p and x the same after it

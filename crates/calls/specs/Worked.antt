@@ -13,8 +13,8 @@ use Prim.Native.String.{String}
 use Rattle.mesh.specs.{Limits.{row-bytes, former-neighbours}, Tables.{Tables, tables, graph-in}, Tree.{node}, Image.{block-bytes, long}, declared.Node.{Node}}
 use Rattle.calls.specs.{Questions.{image-length, same-step, ends-refusal}, Switches.{Switch, switch}, Outcomes.{Linked, Listing, clear-outcome}}
 use Rattle.calls.specs.{Outcomes.{read-outcome, link-outcome, check-outcome, core-outcome, backbone-outcome, write-outcome, tree-outcome}}
-use Rattle.calls.specs.{Outcomes.{staircase-outcome}, Script.{script-of}, Book.{Answer, plain, reported}, Runs.{answer-of}, Replay.{lines, bad-line}}
-use Rattle.calls.specs.{declared.Value.{Value}}
+use Rattle.calls.specs.{Outcomes.{staircase-outcome}, Script.{script-of}, Book.{Answer, counted, reported}, Runs.{answer-of}, Replay.{lines, bad-line}}
+use Rattle.calls.specs.{declared.Reply.{Reply}, declared.Value.{Value}}
 use Rattle.text.specs.Text.{bytes-of}
 
 -- ---- what is lent
@@ -47,10 +47,10 @@ unfoldable pub fallen : (changed : List ℕ) → Answer
 fallen cs = reported false cs
 
 unfoldable pub unchanged : Answer
-unchanged = plain 0
+unchanged = counted 0 0
 
 unfoldable pub refused : (number : ℕ) → Answer
-refused r = plain r
+refused r = counted r 0
 
 pub record Left : Type 0 where
   pub tables : Tables
@@ -60,8 +60,8 @@ abbrev pub left : Tables → List Answer → Left
 left t hs = record { tables = t; answers = hs }
 
 -- one outcome more
-unfoldable pub left-by : Left → Linked → Left
-left-by s o = left (o .tables) (s .answers ++ (answer-of (o .reply) (o .answer) ∷ []))
+unfoldable pub left-by : Left → Linked Reply → Left
+left-by s o = left (o .tables) (s .answers ++ (answer-of (o .reply) (o .lent) ∷ []))
 
 -- a link call, lent an answer table of n entries
 unfoldable pub played : (ℕ → ℕ) → (n : ℕ) → Switch → Left → Left
@@ -138,7 +138,7 @@ unfoldable pub is-value : Value → (number value : ℕ) → Bool
 is-value r q x = eqb (r .number) q && eqb (r .value) x
 
 -- the number, the count of xs, and xs in front of the lent list
-unfoldable pub is-listing : Listing → (number : ℕ) → (xs : List ℕ) → Bool
+unfoldable pub is-listing : Listing Value (List ℕ) → (number : ℕ) → (xs : List ℕ) → Bool
 is-listing o q xs = is-value (o .reply) q (length xs) && same (take (length xs) (o .lent)) xs
 
 -- the image, written into a buffer that just holds it
@@ -152,7 +152,7 @@ meets f n s (all-numbers ns) = same (s .tables .numbers) ns
 meets f n s (whole-order xs) = same (s .tables .order) xs
 meets f n s (shell-tree ns vs) =
     let o = tree-outcome n (s .tables) (lent-nodes f n) (entries f n) in
-    is-value (o .reply) 0 (length ns) && (same-nodes (take (length ns) (o .nodes)) ns && same (take n (o .answer)) vs)
+    is-value (o .reply) 0 (length ns) && (same-nodes (take (length ns) (o .lent .0)) ns && same (take n (o .lent .1)) vs)
 meets f n s (connected-core v k r xs) = is-listing (core-outcome n v k (s .tables) (entries f n)) r xs
 meets f n s (backbone-radios xs) = is-listing (backbone-outcome n (s .tables) (entries f n)) 0 xs
 meets f n s (image-checks m cs) =

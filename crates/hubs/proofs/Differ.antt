@@ -5,7 +5,7 @@
 use Rattle.lists.{specs.Kit.{_≡_, sym, ap, subst, _∙_, true, _&&_, List, [], _∷_, ℕ, arith, length, eqb, eqb-true}, specs.Lists.{same}, proofs.Tests.{and-left}}
 use Rattle.lists.{proofs.Tests.{and-right}, proofs.All.{same-eq}}
 use Rattle.mesh.specs.{Image.{image-of}, Tables.{Tables, graph-in}}
-use Rattle.calls.{specs.Switches.{Switch}, specs.Outcomes.{Numbered, numbered, clear-outcome, link-outcome}, specs.Book.{Answer, linking, reported}}
+use Rattle.calls.{specs.Switches.{Switch}, specs.Outcomes.{Tabled, tabled, clear-outcome, link-outcome}, specs.Book.{Answer, linking, reported}}
 use Rattle.calls.{specs.Runs.{answer-of, Event, event}, proofs.Runs.{Does, Run, ended, next, called, run-is, link-done}, specs.Questions.{same-step}}
 use Rattle.calls.{specs.Worked.{entries, lent-tables, Left, left, left-by, played, after, up, risen, Want, last-answers, all-numbers, whole-order, row}}
 use Rattle.calls.{specs.Worked.{same-answers, meets, meets-all, right}, specs.Cases.{one-hub, other-hub}, proofs.Cases.{one-hub-right, other-hub-right}}
@@ -22,7 +22,7 @@ zeros i = 0
 abbrev made : (n : ℕ) → Switch → Left → Event
 made n c s =
     let o = link-outcome (c .up) n (c .a) (c .b) (s .tables) (entries zeros n) in
-    event (linking (c .up) n (c .a) (c .b) (length (entries zeros n))) (s .tables) (answer-of (o .reply) (o .answer) ∷ []) (o .tables)
+    event (linking (c .up) n (c .a) (c .b) (length (entries zeros n))) (s .tables) (answer-of (o .reply) (o .lent) ∷ []) (o .tables)
 
 events : (n : ℕ) → List Switch → Left → List Event
 events n [] s = []
@@ -67,7 +67,7 @@ first-same x y xs ys p =
     let f = same-answers xs ys in
     (eqb-true (x .number) (y .number) (and-left a b (and-left (a && b) (e && f) p)), and-right e f (and-right (a && b) (e && f) p))
 
-zero-first : (o : Numbered) → o .reply ≡ 0 → numbered 0 (o .tables) ≡ o
+zero-first : (o : Tabled ℕ) → o .reply ≡ 0 → tabled 0 (o .tables) ≡ o
 zero-first o e = rw e
 
 by-row :

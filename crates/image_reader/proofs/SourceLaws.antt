@@ -9,11 +9,12 @@ use Rattle.lists.{specs.Kit.{_≡_, refl, sym, ap, subst, _∙_, _⊎_, inl, in
 use Rattle.lists.{specs.Kit.{eq-eqb, ne-eqb, eqb-true}, proofs.Tests.{bool-cases, never, and-right, and-both}}
 use Rattle.mesh.{specs.Limits.{size-good}, specs.Tables.{Tables, tables-of}, specs.Image.{block-bytes, word-at, image-graph, image-order, whole-blocks}}
 use Rattle.mesh.{specs.Image.{checks-good, is-image, other-size}, proofs.Sizes.{size-good-true}, proofs.Images.Sites.{is-image-radios}}
-use Rattle.calls.{specs.Questions.{ask, lengths-of, blocks-refusal, block-refusal, source-refusal, image-refusal, read-refusal}, specs.Outcomes.{read-outcome}}
+use Rattle.calls.{specs.Questions.{ask, lengths-of, blocks-refusal, image-refusal, read-refusal}, specs.Outcomes.{read-outcome}}
 use Rattle.calls.{specs.Contracts.{Read-contract}, proofs.QuestionLaws.{ask-zero}, proofs.ContractLaws.{by-accepted, by-refused}}
 use Rattle.calls.{proofs.ChainLaws.{Blocks-good, blocks-zero, blocks-yes}}
 use Rattle.image.specs.Header.{Header-of}
 use Rattle.image_reader.specs.Reading.{header-refusal, Opened-as, Image-decided, Source-decided}
+use Rattle.calls.specs.{Chains.{block-refusal, source-refusal}}
 
 -- ---- by the header's n
 
@@ -65,7 +66,7 @@ header-passes bs e =
 
 module _ (bs : List ℕ) (p : ℕ) (p-is : p ≡ block-refusal bs) where
   pub opened-blocks : (p ≡ 0 → ⊥) → (q x y : ℕ) → q ≡ p → Opened-as bs q x y
-  unfolding header-refusal block-refusal blocks-refusal ask
+  unfolding header-refusal blocks-refusal ask
   opened-blocks h q x y e = record {
     asked = e ∙ p-is ∙ go (whole-blocks bs) (checks-good bs) (ask 11 (size-good (word-at bs 4)) 0) (λ z. h (p-is ∙ z));
     said = λ z. absurd (h (sym e ∙ z));
@@ -78,7 +79,6 @@ module _ (bs : List ℕ) (p : ℕ) (p-is : p ≡ block-refusal bs) where
 
   module _ (z : p ≡ 0) where
     good : Blocks-good bs
-    unfolding block-refusal
     good = blocks-zero bs 0 (sym p-is ∙ z) .0
 
     -- block 0 is there

@@ -9,7 +9,7 @@
 -- Definitions only.
 use Rattle.lists.specs.Kit.{_≡_, Bool, true, List, ℕ, _≤_, _<_, getD}
 use Rattle.mesh.specs.{Limits.{max-radios, size-good}, Cores.{number}, Image.{word-at, image-order, image-graph, checks-good, is-image}}
-use Rattle.calls.specs.Questions.{ask, blocks-refusal, source-refusal, image-refusal}
+use Rattle.calls.specs.{Questions.{ask, blocks-refusal, image-refusal}, Chains.{source-refusal}}
 use Rattle.image.specs.Header.{Header-of}
 
 -- an image alone, with no tables to read it into: 1, 9, 10, 15, 11

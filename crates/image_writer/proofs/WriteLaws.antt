@@ -4,13 +4,14 @@ use Rattle.lists.specs.{Kit.{_≡_, sym, ap, ap₂, _∙_, true, List, _++_, fl
 use Rattle.mesh.{specs.Limits.{max-radios, max-neighbours, row-bytes}, specs.Graph.{Link, Graph, graph}, specs.Tables.{Tables, graph-in}, specs.Sound.{within}}
 use Rattle.mesh.{specs.Sound.{few, sound}, specs.Image.{block-bytes, blocks-for, order-blocks, block-count, block-at, image-of}}
 use Rattle.mesh.{proofs.Images.Of.{length-image-of}, proofs.Images.Tables.{valid-graph-in}, proofs.Tables.DegreeSum.{links-few}}
-use Rattle.calls.{specs.Questions.{ask, lengths-of, site-refusal, write-refusal, image-length, holds-image}, specs.Contracts.{Write-contract}}
+use Rattle.calls.{specs.Questions.{ask, lengths-of, site-refusal, image-length}, specs.Contracts.{Write-contract}}
 use Rattle.calls.{specs.Outcomes.{write-outcome}, proofs.ContractLaws.{listing-refused, listing-answered}, proofs.QuestionLaws.{ask-no}}
 use Rattle.calls.{proofs.ChainLaws.{Site-good, site-zero, site-yes, write-yes, site-stops}}
 use Rattle.soundness.proofs.SoundSite.{Sound-site, sound-site}
 use Rattle.rows.{specs.Links.{links-from, Rows-listed}, proofs.GraphLinks.{rows-listed-few, links-graph-in}}
 use Rattle.image_writer.specs.Blocks.{marked-graph, Links-fit, All-links-filled, front-block}
 use Rattle.image_writer.proofs.BlockFilling.{image-filled}
+use Rattle.calls.specs.{Chains.{write-refusal, holds-image}}
 
 -- ---- the outcomes
 
@@ -25,7 +26,7 @@ module _ (n : ℕ) (t : Tables) (w : List ℕ) where
   refusal = write-refusal n (lengths-of t) (length w) (sound n t) g
 
   pub write-refused : (q : ℕ) → q ≡ questions → (q ≡ 0 → ⊥) → Write-contract n t w (record { number = q; value = 0 }) w
-  unfolding Write-contract write-outcome sound write-refusal
+  unfolding Write-contract write-outcome sound
   write-refused q e h =
       let same : refusal ≡ q = site-stops n (lengths-of t) true (sound n t) (ask 9 (holds-image g (length w)) 0) (λ z. h (e ∙ z)) ∙ sym e in
       listing-refused refusal _ _ w q (sym same) h
@@ -78,7 +79,7 @@ module _ (n : ℕ) (t : Tables) (w : List ℕ) where
       length-is = ap (λ (k : ℕ). block-bytes * k) (sym blocks-are ∙ sym counted)
 
       pub write-no-room : length w < block-bytes * blocks → Write-contract n t w (record { number = 9; value = 0 }) w
-      unfolding Write-contract write-outcome sound write-refusal holds-image
+      unfolding Write-contract write-outcome sound
       write-no-room h =
           let nine : refusal ≡ 9 =
           site-yes n (lengths-of t) true (sound n t) (ask 9 (holds-image g (length w)) 0) passed

@@ -43,4 +43,4 @@ pub record Lift-right (n v : ℕ) (t : Tables) (l : Link) : Type 0 where
   -- a link call that takes it up is accepted and lists v; w is the answer table before, long enough
   pub listed :
       (w : List ℕ) → n ≤ length w → let o = link-outcome true n (l .low) (l .high) t w in
-      (o .reply .number ≡ 0) × In v (take (o .reply .count) (o .answer))
+      (o .reply .number ≡ 0) × In v (take (o .reply .count) (o .lent))

@@ -3,7 +3,7 @@ use Rattle.lists.specs.Kit.{_≡_, refl, sym, ap, subst, _∙_, true, List, _�
 use Rattle.lists.specs.Kit.{drop-cons, eqb-true}
 use mir.{Syntax.{w32, w64}, Val.{Fits}}
 use Rattle.mesh.specs.{Limits.{max-radios}, Tables.{Tables}, Sound.{sound}}
-use Rattle.calls.{specs.Questions.{lengths-of}, specs.Batches.{list-length, batch-refusal}, specs.Outcomes.{batched, value, links-taken}}
+use Rattle.calls.{specs.Questions.{lengths-of}, specs.Batches.{list-length, batch-refusal}, specs.Outcomes.{tabled, value, links-taken}}
 use Rattle.calls.{specs.Outcomes.{batch-outcome}, specs.Contracts.{Batch-contract}, specs.declared.Value.{Value}, proofs.ChainLaws.{site-zero}}
 use Rattle.calls.{proofs.ContractLaws.{by-accepted, by-refused}, proofs.Batches.{Batch-left, batch-first, batch-next, batch-ended, batch-halted, batch-few}}
 use Rattle.soundness.specs.Checks.{Asked}
@@ -52,7 +52,7 @@ module _ {n : ℕ} {xs : List ℕ} {t u : Tables} {places not-lower : List ℕ} 
   pub batching-place : Fits w64 (at + 2)
   batching-place = record { fits = omega (arith, b .place, batch-few (drop at xs) (b .left) (fits-good n u (b .prepared .good))) }
 
-  pub batching-end : length xs ≤ at → batched (value 0 done) u ≡ links-taken n xs t
+  pub batching-end : length xs ≤ at → tabled (value 0 done) u ≡ links-taken n xs t
   batching-end l = batch-ended (subst (λ (ys : List ℕ). Batch-left n xs t done ys u) (drop-of-length-le xs l) (b .left))
 
   module _ (even : list-length (length xs) ≡ true) (l : at < length xs) where
@@ -80,9 +80,9 @@ module _ {n : ℕ} {xs : List ℕ} {t u : Tables} {places not-lower : List ℕ} 
         inside = omega (arith, batching-pair);
       }
 
-      pub batching-halt : (r ≡ 0 → ⊥) → batched (value r done) v ≡ links-taken n xs t
+      pub batching-halt : (r ≡ 0 → ⊥) → tabled (value r done) v ≡ links-taken n xs t
       batching-halt h =
-          subst (λ (o : Tables). batched (value r done) o ≡ links-taken n xs t) (sym (d .refused h))
+          subst (λ (o : Tables). tabled (value r done) o ≡ links-taken n xs t) (sym (d .refused h))
           (batch-halted (getD xs at 0) (getD xs (at + 1) 0) r (drop (at + 2) xs) next (d .number) h)
 
 -- ---- the call: q is the number of questions 1 to 3
@@ -106,6 +106,6 @@ module _ (n : ℕ) (xs : List ℕ) (t : Tables) (ps hs : List ℕ) (q : ℕ) (as
       site-zero n (lengths-of t) (list-length (length xs)) (sound n t) 0 (sym (asked .number) ∙ zero) .0 .lent .further,
     )
 
-    pub batch-carried : (r : Value) (v : Tables) → batched r v ≡ links-taken n xs t → Batch-contract n xs t r v
+    pub batch-carried : (r : Value) (v : Tables) → tabled r v ≡ links-taken n xs t → Batch-contract n xs t r v
     unfolding Batch-contract batch-outcome
     batch-carried r v c = by-accepted R _ (sym number-is ∙ zero) c

@@ -5,11 +5,12 @@ use Rattle.lists.{specs.Kit.{length-replicate, length-take-le, take-all}, specs
 use Rattle.lists.{proofs.Overwrite.{take-overwrite}}
 use mir.{Syntax.{w8}, Val.{SFits, toZ, ofZ}, Facts.{toZ-ofZ}}
 use Rattle.mesh.specs.{Limits.{max-radios}, Graph.{Graph}, Levels.{changed, step-of}, Tables.{Tables, graph-in}, Sound.{sound}}
-use Rattle.calls.{specs.Questions.{ask, lengths-of, same-step, is-proposal, link-refusal, commit-refusal}, specs.Outcomes.{Linked, committed-with, ask-outcome}}
+use Rattle.calls.{specs.Questions.{ask, lengths-of, same-step, is-proposal, commit-refusal}, specs.Outcomes.{Linked, tabled, ask-outcome}}
 use Rattle.calls.{specs.Outcomes.{commit-outcome}, specs.Contracts.{Ask-contract, Commit-contract}, specs.declared.Reply.{Reply}, proofs.QuestionLaws.{ask-yes}}
-use Rattle.calls.{proofs.QuestionLaws.{ask-no}, proofs.ContractLaws.{by-accepted, by-refused}, proofs.Proposals.{commit-numbered, proposal-iff, same-step-eq}}
+use Rattle.calls.{proofs.QuestionLaws.{ask-no}, proofs.ContractLaws.{asking-is, by-accepted, by-refused}, proofs.Proposals.{commit-numbered, proposal-iff, same-step-eq}}
 use Rattle.calls.{proofs.Proposals.{same-step-refl}}
 use Rattle.tables.specs.Steps.{all-stepped}
+use Rattle.calls.specs.Chains.{link-refusal}
 use Rattle.plan.{specs.Planned.{changed-part}, specs.Asked.{Plan-contract}, proofs.Asking.{asked-applicable}}
 use Rattle.links.specs.{Changes.{in-order, counted-step, Plan-fits, Reported, Plan-put, Applied}, Proposed.{plan-proposes}}
 use Rattle.links.proofs.{ChangeLaws.{counted-step-length, counted-step-held, length-in-order}, Applied.{in-order-planned, fits-answer}}
@@ -38,16 +39,16 @@ module _ (up : Bool) (n a b : ℕ) (t : Tables) (w before : List ℕ) (q start s
   -- ---- asking
 
   pub ask-refused : (q ≡ 0 → ⊥) → (r : Reply) → r .number ≡ q → r .step ≡ pos 0 → r .count ≡ 0 → Ask-contract up n a b t w r w
-  unfolding Ask-contract ask-outcome
-  ask-refused h r e s c = by-refused R _ _ (λ z. h (decided .number ∙ z)) (rw (e ∙ decided .number, s, c))
+  unfolding Ask-contract
+  ask-refused h r e s c = by-refused R _ _ (λ z. h (decided .number ∙ z)) (rw (e ∙ decided .number, s, c)) ∙ sym (asking-is up n a b t w)
 
   pub ask-accepted : q ≡ 0 → (r : Reply) (x : List ℕ) → Reported up size taken stretch w r x → Ask-contract up n a b t w r x
-  unfolding Ask-contract ask-outcome
+  unfolding Ask-contract
   ask-accepted z r x d =
       let many : r .count ≡ length cs = d .count ∙ ap length (listed-is z) in
       let way : r .step ≡ step-of up cs = d .step ∙ ap (counted-step up) many ∙ counted-step-length up cs in
       let listed : x ≡ overwrite cs w = d .answer-is ∙ ap (λ (ys : List ℕ). overwrite ys w) (ap (take (length w)) (listed-is z) ∙ listed-fits z) in
-      by-accepted R _ (sym (decided .number) ∙ z) (rw (d .number, way, many, listed))
+      by-accepted R _ (sym (decided .number) ∙ z) (rw (d .number, way, many, listed)) ∙ sym (asking-is up n a b t w)
 
 -- ---- a proposal held against a plan: steps are compared as eight bits
 
@@ -183,4 +184,4 @@ module _ (up : Bool) (n a b : ℕ) (t : Tables) (k : ℕ) (is : k ≡ max-radios
         unfolding Commit-contract commit-outcome
         commit-accepted v d =
             let l = link-applied up n a b t scratch before q start size taken stretch decided zero _ v _ (applied v d) in
-            by-accepted C _ (asked ∙ ask-yes 16 _ 0 (sym told-is ∙ j)) (ap (λ (o : Linked). committed-with (o .reply) (o .tables)) l)
+            by-accepted C _ (asked ∙ ask-yes 16 _ 0 (sym told-is ∙ j)) (ap (λ (o : Linked Reply). tabled (o .reply) (o .tables)) l)

@@ -111,11 +111,11 @@ module _ {up : Bool} {n a b : ℕ} {t : Tables} {places not-lower : List ℕ} (k
       let ok = applicable answer room in
       let l = applied-accepted up n a b t answer ok start size taken stretch plan r v x d in
       record {
-        tables = ap (λ (o : Linked). o .tables) l;
-        counted = ap (λ (o : Linked). o .reply .count) l;
-        listed = ap (λ (o : Linked). take (o .reply .count) (o .answer)) l ∙ take-overwrite (changed up a b g) answer;
+        tables = ap (λ (o : Linked Reply). o .tables) l;
+        counted = ap (λ (o : Linked Reply). o .reply .count) l;
+        listed = ap (λ (o : Linked Reply). take (o .reply .count) (o .lent)) l ∙ take-overwrite (changed up a b g) answer;
         part-fits = plan .fits;
-        unmoved = λ p o. ap (λ (xs : List ℕ). getD xs p 0) (ap (λ (o : Linked). o .tables .order) l ∙ sym (plan .laid))
+        unmoved = λ p o. ap (λ (xs : List ℕ). getD xs p 0) (ap (λ (o : Linked Reply). o .tables .order) l ∙ sym (plan .laid))
             ∙ getD-paste-outside (t .order) start stretch size p (omega (arith, plan .fits, good .lent .lengths .order)) (plan .long) o;
       }
 

@@ -2,7 +2,7 @@
 ghost use Rattle.lists.specs.Kit.{_≡_, true, length};
 ghost use Rattle.mesh.specs.Lent.{lent};
 ghost use Rattle.calls.specs.Batches.{list-length};
-ghost use Rattle.calls.specs.Outcomes.{batched, links-taken};
+ghost use Rattle.calls.specs.Outcomes.{tabled, links-taken};
 ghost use Rattle.calls.specs.Contracts.{Batch-contract};
 ghost use Rattle.links.specs.Steps.{Prepared};
 use super::step;
@@ -21,7 +21,7 @@ fn take_links(
     not_lower: &mut [u8; Site::RADIOS as usize],
 ) -> Value
     requires { ⌜ Prepared n (lent links numbers order) (now places) (now «not_lower») × (list-length (length (now list)) ≡ true) ⌝ }
-    ensures { λ r. ⌜ batched r (lent (links .exit) (numbers .exit) (order .exit))
+    ensures { λ r. ⌜ tabled r (lent (links .exit) (numbers .exit) (order .exit))
         ≡ links-taken n (now (list .entry)) (lent (links .entry) (numbers .entry) (order .entry)) ⌝ }
 {
     let mut done: u32 = 0;

@@ -7,7 +7,7 @@ use lib.{ListN.{length, take, drop, getElem?, length-append}, Dec.{T}}
 use mir.{Mem.{Cell}, Syntax.{Width}, Val.{bytes}}
 use prog.Memory.{Memory, Block, entryAt, bind, aligned, le, unLe}
 use store.Enc.{length-le, unLe-le, two-256}
-use Rattle.machine.specs.Cells.{Place, Span, unsigned, cell-at, cells-of, Run-at, Stands, Apart, All, All-held}
+use Rattle.machine.specs.Cells.{Place, Span, unsigned, cell-at, cells-of, Run-at, Stands, Apart, All}
 use Rattle.machine.proofs.Made.{From, shift, from-all, Above}
 
 -- ---- parts of what stands
@@ -65,7 +65,7 @@ run-one σ b o (c ∷ cs) (d ∷ ds) l h k =
     let es : cs ≡ ds = run-one σ b (suc o) cs ds (omega (arith, l)) (h .1) (k .1) in
     λ j. e j ∷ es j
 
-pub list-one : (w : Width) (σ : Memory) (b o : ℕ) (xs ys : List ℕ) → length xs ≡ length ys → All-held (unsigned w) xs → All-held (unsigned w) ys
+pub list-one : (w : Width) (σ : Memory) (b o : ℕ) (xs ys : List ℕ) → length xs ≡ length ys → All (unsigned w .Holds) xs → All (unsigned w .Holds) ys
     → Run-at σ b o (cells-of (unsigned w) xs) → Run-at σ b o (cells-of (unsigned w) ys) → xs ≡ ys
 list-one w σ b o [] [] l p q h k = refl
 list-one w σ b o [] (y ∷ ys) l p q h k = absurd (suc-ne-zero (length ys) (sym l))

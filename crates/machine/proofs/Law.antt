@@ -13,7 +13,7 @@ use types.Kit.{‵, raw, _⊛_, some, later, _$_, _∵_, !, qed, move, keep, use
 use types.Kit.{done as finished}
 use denote.{RattleType.{RattleType, Denots, owns}, Signature.{Signature, plain, typesAt}, Exit.{yes}, Triple.End.{all, Fins, Outs, outs, lastsOf}}
 use denote.{Triple.Spec.{Spec, Meets, tripleOf, exits}, Triple.Adequate.{adequate}, Steps.{only}}
-use Rattle.machine.specs.Cells.{Inputs, Outputs, Of-inputs, of-inputs, outcome-of, Ready, Call, Ran, Runs, Stands, Span, All, All-held, All-good, left}
+use Rattle.machine.specs.Cells.{Inputs, Outputs, Of-inputs, of-inputs, outcome-of, Ready, Call, Ran, Runs, Stands, Span, All, All-good, left}
 use Rattle.machine.specs.Cells.{writes, passed}
 use Rattle.machine.proofs.{Whole.{𝓥, own-all, whole, run-of, else-of, blocks-of}, Heap.{owned, shared, lie, parts-of, rest}, Rows.{form, A₀, W₀, ⟦_⟧}}
 use Rattle.machine.proofs.{Rows.{both-facts, row-cells, cells-out, cells-held}, Lending.{Lending, by-value, to-read, to-write, to-read-with, params}}
@@ -67,10 +67,10 @@ stoods-held (by-value R ∷ ps) i o = stoods-held ps (i .1) o
 stoods-held (to-read j ok R ∷ ps) i o = stoods-held ps (i .1) o
 stoods-held (to-read-with j ok R S T ∷ ps) i o = stoods-held ps (i .1) o
 stoods-held (to-write j ok R ∷ ps) i o =
-    via 𝓥 (sep 𝓥 (fact 𝓥 (All-held (form R) (o .0))) (fact 𝓥 (Left-held (params ps) (o .1))))
+    via 𝓥 (sep 𝓥 (fact 𝓥 (All (form R .Holds) (o .0))) (fact 𝓥 (Left-held (params ps) (o .1))))
     (mono∗ 𝓥 (via 𝓥 (row-cells R (o .0) (i .0 .0)) (snd∗ 𝓥 (fact 𝓥 (length (o .0) ≡ length (i .0 .1))) (row-cells R (o .0) (i .0 .0)))
     (cells-held R (o .0) (i .0 .0))) (stoods-held ps (i .1) (o .1)))
-    (both-facts (All-held (form R) (o .0)) (Left-held (params ps) (o .1)))
+    (both-facts (All (form R .Holds) (o .0)) (Left-held (params ps) (o .1)))
 
 all-stand : (σ : Memory) (ss : List Span) (P : SProp 𝓥) → ent 𝓥 P (lie 𝓥 Closed.ι ss) → Satisfies 𝓥 Closed.H Closed.model σ P → All (Stands σ) ss
 all-stand σ [] P h s = tt

@@ -8,7 +8,7 @@ use native.Mathlib.Nat.{suc-ne-zero}
 use lib.{ListN.{length}, Dec.{T}}
 use mir.{Syntax.{Ty}, Val.{Val, Vals, vunit, vbool, vint, vfloat, vptr, vstruct, vnil, vcons}}
 use prog.{Memory.{Memory, align, aligned}, Routine.{Routine}}
-use Rattle.machine.specs.Cells.{Param, by-value, lent, lent-with, to-read, to-write, Place, Inputs, Outputs, left, pointer, passes, passed, All-held}
+use Rattle.machine.specs.Cells.{Param, by-value, lent, lent-with, to-read, to-write, Place, Inputs, Outputs, left, pointer, passes, passed, All}
 use Rattle.machine.specs.Cells.{Aligned, Sized, All-good, Block-kept, Call, Ran, outcome-of}
 
 -- as many entries as were lent
@@ -23,7 +23,7 @@ abbrev pub Left-held : (ps : List Param) → Outputs ps → Type 0
 Left-held [] o = Unit {0}
 Left-held (by-value F ∷ ps) o = Left-held ps o
 Left-held (lent to-read F ∷ ps) o = Left-held ps o
-Left-held (lent to-write F ∷ ps) o = All-held F (o .0) × Left-held ps (o .1)
+Left-held (lent to-write F ∷ ps) o = All (F .Holds) (o .0) × Left-held ps (o .1)
 Left-held (lent-with F G ∷ ps) o = Left-held ps o
 
 -- ---- lengths

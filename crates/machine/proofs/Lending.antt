@@ -13,7 +13,7 @@ use types.{Kit.{fsplit, fjoin, feqI, frame, done}, Tokens.{lft-new, lft-end}, Sh
 use denote.{RattleType.{RattleType, Denots, Valss, owns, flat}, Signature.{Slot, plain, mutSliceOf, shrSliceOf, namedLft, typesAt}, Exit.{yes, Last, left}}
 use denote.{Memory.{mem, shares}, Ref.{RefT, NamedLft, ptr, name, now}, Slice.{sliceVal, slice-vals, ShrSlice, Room, finally}, Lend.{Held, lends-slice}}
 use denote.{Lend.{slice-back, lends-shr-slice}, Triple.End.{all, Fins, Outs, outs, lastsOf}}
-use Rattle.machine.specs.Cells.{Param, Input, Inputs, Outputs, Good, All-good, All-held, Aligned, Sized, reads, writes, cells-of, passes, passed, Span}
+use Rattle.machine.specs.Cells.{Param, Input, Inputs, Outputs, Good, All-good, Aligned, Sized, reads, writes, cells-of, passes, passed, Span}
 use Rattle.machine.specs.Cells.{span, Stands, All, Apart}
 use Rattle.machine.proofs.{Whole.{𝓥}, Heap.{shared, lie}, Rows.{Row, form, A₀, W₀, ⟦_⟧, nothing, row-parts, row-cells, row-share, lent-cells}}
 use Rattle.machine.proofs.{Rows.{lent-share}}
@@ -316,7 +316,7 @@ module _ (n : ℕ) (αs : Nums n) where
 -- ---- cells
 
 -- a list that is lent to be read, beside the rest
-read-in : (A : List ℕ) (σ : Memory) → Kept A σ → (ss : List Span) (R : Row) (x : machine.Lent (R .row .Denot)) → All-held (form R) (x .1)
+read-in : (A : List ℕ) (σ : Memory) → Kept A σ → (ss : List Span) (R : Row) (x : machine.Lent (R .row .Denot)) → All (form R .Holds) (x .1)
     → Aligned σ (R .ty) (x .0) (x .1) → Stands σ (span (form R) (x .0) (x .1)) → All (Apart (span (form R) (x .0) (x .1))) ss → (C L : SProp 𝓥)
     → ent 𝓥 (sep 𝓥 C (shared 𝓥 Closed.ι A σ ss)) (sep 𝓥 L (shared 𝓥 Closed.ι A σ ss))
     → ent 𝓥 (sep 𝓥 C (shared 𝓥 Closed.ι A σ ss)) (sep 𝓥 (sep 𝓥 (row-share R (x .1) (x .0)) L) (shared 𝓥 Closed.ι A σ ss))

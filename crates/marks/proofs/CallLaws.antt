@@ -13,12 +13,13 @@ use Rattle.mesh.{specs.MarkPlaces.{rank, heads, moved-up, moved-down}, proofs.I
 use Rattle.mesh.{proofs.Marks.Laws.{Sized, rising-sized, Place-mark, place-mark, image-fits, length-is-image}, proofs.Marks.Ranks.{rank-most, ranked, found-at}}
 use Rattle.mesh.{proofs.Marks.Ranks.{with-at, with-new, without-at}, proofs.Marks.Rules.{mark-at}, proofs.Marks.Bytes.{replaced, inserted, taken-out}}
 use Rattle.calls.{specs.Questions.{ask, Lengths, lengths-of, site-lengths, site-refusal, lent-refusal, image-length}, specs.Outcomes.{read-outcome}}
-use Rattle.calls.{specs.MarkOutcomes.{stored, store-outcome, set-outcome, remove-outcome, return-outcome}, specs.Marks.{store-length, marks-good, is-marked}}
-use Rattle.calls.{specs.Marks.{has-place, mark-refusal, set-refusal, named-refusal, set-store, removed-store, mark-image}, specs.Contracts.{Read-contract}}
+use Rattle.calls.{specs.MarkOutcomes.{store-outcome, set-outcome, remove-outcome, return-outcome}, specs.Marks.{store-length, marks-good, is-marked}}
+use Rattle.calls.{specs.Marks.{has-place, mark-refusal, set-refusal, named-refusal, mark-image}, specs.Contracts.{Read-contract}}
 use Rattle.calls.{specs.Contracts.{Set-contract, Remove-contract, Return-contract}, proofs.QuestionLaws.{ask-yes, ask-no, ask-zero}}
 use Rattle.calls.{proofs.ChainLaws.{site-zero, site-yes, write-yes}, proofs.ContractLaws.{by-accepted, by-refused, by-zero}, proofs.MarkCalls.{Mark-asked}}
 use Rattle.calls.{proofs.MarkCalls.{mark-zero, mark-is-image, mark-read}}
 use Rattle.marks.specs.{Store.{Located}, Placing.{Markable, mark-place, put-place}}
+use Rattle.calls.specs.{Outcomes.{listing}, Chains.{set-store, removed-store}}
 
 -- ---- 1, 2, 3 or 17 got no
 
@@ -151,7 +152,7 @@ module _ (n : ℕ) (x : List ℕ) (t : Tables) (bs : List ℕ) (q : ℕ) (e : q 
     set-by h cs f = by-accepted _ _ (further (ask 19 (has-place x bs) 0) ∙ ask-yes 19 (has-place x bs) 0 h) (rw f)
 
     pub set-again : there ≡ true → (cs : List ℕ) → cs ≡ put-place bs first (mark-place n t x) → Set-contract n x t bs 0 cs
-    unfolding put-place mark-place set-store has-place is-marked
+    unfolding put-place mark-place has-place is-marked
     set-again h cs f =
         let p = place-of x image in
         let there′ : has-mark x marks ≡ true = sym there-is ∙ h in
@@ -177,7 +178,7 @@ module _ (n : ℕ) (x : List ℕ) (t : Tables) (bs : List ℕ) (q : ℕ) (e : q 
 
     pub set-new : there ≡ false → (used ≡ places → ⊥) → (cs : List ℕ) →
         cs ≡ put-place (moved-up bs (place-bytes * first) (place-bytes * used)) first (mark-place n t x) → Set-contract n x t bs 0 cs
-    unfolding put-place mark-place set-store has-place is-marked
+    unfolding put-place mark-place has-place is-marked
     set-new h m cs f =
         let p = place-of x image in
         let none : has-mark x marks ≡ false = sym there-is ∙ h in
@@ -216,12 +217,12 @@ module _ (n : ℕ) (x : List ℕ) (t : Tables) (bs : List ℕ) (q : ℕ) (e : q 
 
     pub removed : there ≡ true → (w : ℕ) (cs : List ℕ) → w ≡ place-bytes →
         cs ≡ put-place (moved-down bs (place-bytes * (first + 1)) (place-bytes * used)) (used - 1) (replicate w 0) → Remove-contract n x t bs 0 cs
-    unfolding Remove-contract remove-outcome store-outcome removed-store put-place
+    unfolding Remove-contract remove-outcome store-outcome put-place
     removed h w cs g f =
         let l : rank x marks < length marks = omega (arith, below h, spot .counted, spot .ranked) in
         let k : length marks ≡ suc (used - 1) = omega (arith, below h, spot .counted) in
         let i : first + 1 ≡ suc (rank x marks) = omega (arith, spot .ranked) in
-        by-accepted _ _ (a-mark h) (ap (stored 0)
+        by-accepted _ _ (a-mark h) (ap (listing 0)
         (f
         ∙ ap₂ {C = List ℕ} (λ j u. take (place-bytes * (used - 1)) (moved-down bs (place-bytes * j) (place-bytes * u))
         ++ (replicate w 0 ++ drop (place-bytes * (used - 1) + place-bytes) (moved-down bs (place-bytes * j) (place-bytes * u)))) i (spot .counted)

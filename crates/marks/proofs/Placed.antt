@@ -7,9 +7,10 @@ use Rattle.lists.{proofs.Parts.{drop-replicate}}
 use borrow.Rule.Slice.PartMut.{putMid}
 use Rattle.mesh.{specs.Tables.{Tables, graph-in}, specs.Sound.{sound}, specs.Image.{image-of}, specs.Marks.{name-bytes, place-bytes, place-of}}
 use Rattle.mesh.{proofs.Marks.Laws.{length-name}}
-use Rattle.calls.{specs.Questions.{lengths-of, write-refusal}, specs.Outcomes.{Listing, listing-outcome, write-outcome}, specs.Contracts.{Write-contract}}
+use Rattle.calls.{specs.Questions.{lengths-of}, specs.Outcomes.{Listing, listing-outcome, write-outcome}, specs.Contracts.{Write-contract}}
 use Rattle.calls.{specs.declared.Value.{Value}, proofs.ContractLaws.{by-zero}}
 use Rattle.marks.specs.Placing.{Markable, mark-place, put-place}
+use Rattle.calls.specs.Chains.{write-refusal}
 
 module _ (n : ℕ) (t : Tables) (x : List ℕ) (k : Markable n t x) (len : ℕ) (long : len ≡ place-bytes) (z y : List ℕ) (zeros : z ≡ replicate len 0)
     (named : y ≡ overwrite (take (length z) x) z) where
@@ -41,7 +42,7 @@ module _ (n : ℕ) (t : Tables) (x : List ℕ) (k : Markable n t x) (len : ℕ) 
         ap (λ (j : ℕ). write-refusal n (lengths-of t) j (sound n t) (graph-in n (t .links))) e ∙ k .writable in
         let a = by-zero _ _ _ z written in
         let f : len - name-bytes - length image ≡ place-bytes - (name-bytes + length image) = omega arith in
-        ap (λ (o : Listing). o .lent) a ∙ ap (λ (zs : List ℕ). image ++ drop (length image) zs) rest-zeros
+        ap (λ (o : Listing Value (List ℕ)). o .lent) a ∙ ap (λ (zs : List ℕ). image ++ drop (length image) zs) rest-zeros
         ∙ ap (λ (zs : List ℕ). image ++ zs) (drop-replicate (length image) (len - name-bytes) 0 ∙ ap (λ (j : ℕ). replicate j 0) f)
 
     pub placed : putMid name-bytes (length y - name-bytes) y w ≡ mark-place n t x

@@ -5,7 +5,7 @@
 -- Definitions only.
 use Rattle.lists.specs.Kit.{_≡_, true, List, _++_, ℕ, _+_, _*_, _-_, take, drop}
 use Rattle.mesh.specs.{Tables.{Tables, graph-in}, Sound.{sound}, Image.{image-of}, Marks.{name-bytes, place-bytes, is-name, place-of}}
-use Rattle.calls.specs.Questions.{lengths-of, write-refusal}
+use Rattle.calls.specs.{Questions.{lengths-of}, Chains.{write-refusal}}
 
 pub record Markable (n : ℕ) (t : Tables) (x : List ℕ) : Type 0 where
   pub writable : write-refusal n (lengths-of t) (place-bytes - name-bytes) (sound n t) (graph-in n (t .links)) ≡ 0

@@ -5,12 +5,13 @@ use Rattle.lists.{proofs.Range.{range-in}, proofs.Filter.{length-filter, filter
 use Rattle.mesh.{specs.Limits.{max-radios, max-neighbours, row-bytes}, specs.Graph.{Graph, radios, linked, neighbours-in}, specs.Cores.{number, numbers}}
 use Rattle.mesh.{specs.Tables.{Tables, graph-in}, specs.Sound.{number-in, rows-proper, sound}, proofs.Cores.Peeling.{getD-numbers}, proofs.Tables.Rows.{few-of}}
 use Rattle.mesh.{proofs.Tables.ReadBack.{proper-graph-in, ascending-graph-in, degree-graph-in}, proofs.Tables.Soundness.{Right, sound-right}}
-use Rattle.calls.{specs.Questions.{lengths-of, answer-length, ends-refusal, link-refusal}, proofs.QuestionLaws.{answer-length-true}}
+use Rattle.calls.{specs.Questions.{lengths-of, answer-length, ends-refusal}, proofs.QuestionLaws.{answer-length-true}}
 use Rattle.calls.{proofs.ChainLaws.{Site-good, site-zero, ends-zero, link-zero}}
 use Rattle.conditions.specs.Conditions.{Placed, Not-lower}
 use Rattle.soundness.{specs.Checks.{Asked}, proofs.HighCounts.{counts-neighbours-in}, proofs.RadioLaws.{site-later-no, site-later-yes}}
 use Rattle.plan.specs.Plans.{Ready, Applicable}
 use Rattle.plan.proofs.EndsLaws.{proper-rows}
+use Rattle.calls.specs.Chains.{link-refusal}
 
 -- ---- sound tables
 
@@ -65,7 +66,6 @@ module _ (up : Bool) (n a b : ℕ) (t : Tables) (w : ℕ) (ps hs : List ℕ) (q 
   R = link-refusal up n a b (lengths-of t) w (sound n t) g
 
   pub asked-no : (q ≡ 0 → ⊥) → q ≡ R
-  unfolding link-refusal
   asked-no h = site-later-no n (lengths-of t) (answer-length n w) (sound n t) q (asked .number) _ h
 
   module _ (zero : q ≡ 0) where
@@ -81,7 +81,6 @@ module _ (up : Bool) (n a b : ℕ) (t : Tables) (w : ℕ) (ps hs : List ℕ) (q 
     ends-room = (good .lent .most, good .lent .lengths .links, right .rows)
 
     pub asked-ends : ends-refusal max-neighbours up n a b g ≡ R
-    unfolding link-refusal
     asked-ends = sym (site-later-yes n (lengths-of t) (answer-length n w) (sound n t) q (asked .number) _ zero)
 
     pub asked-ready : max-radios ≤ length ps → max-radios ≤ length hs → ends-refusal max-neighbours up n a b g ≡ 0 → Ready up n a b t ps hs

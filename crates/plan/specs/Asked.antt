@@ -1,7 +1,8 @@
 -- What a link call is decided to be: the refusal number of questions 1 to 7, and where it is 0 the plan. Definitions only.
 use Rattle.lists.specs.Kit.{_≡_, Bool, List, ℕ}
 use Rattle.mesh.specs.{Tables.{Tables, graph-in}, Sound.{sound}}
-use Rattle.calls.specs.Questions.{lengths-of, link-refusal}
+use Rattle.calls.specs.Questions.{lengths-of}
+use Rattle.calls.specs.Chains.{link-refusal}
 use Rattle.plan.specs.Plans.{Planned, plan-of}
 
 -- `answer` is the length of the answer table, `before` and `stretch` are the lent stretch before and after; past the plan's entries it

@@ -10,8 +10,8 @@ use Rattle.mesh.{specs.Limits.{max-radios, max-neighbours}, specs.Graph.{Link, 
 use Rattle.mesh.{specs.Tables.{Tables, graph-in, tables-of, Tables-of-size}, specs.Sound.{sound}, specs.Valid.{Valid}, proofs.GraphLaws.{proper-of}}
 use Rattle.mesh.{proofs.Tables.AscendingLinks.{in-links-proper}, proofs.Tables.Laws.{links-table-cleared}, proofs.Tables.Sites.{valid-cleared, numbers-cleared}}
 use Rattle.mesh.{proofs.Images.Tables.{valid-graph-in, tables-of-graph-in}}
-use Rattle.calls.{specs.Script.{radios-text, up-line, script-of}, specs.Questions.{link-refusal, lengths-of, script-refusal}, specs.Switches.{switch, switched}}
-use Rattle.calls.{specs.Switches.{tables-after, All-allowed}, specs.Outcomes.{by-number, linked-with, reply, link-outcome, script-outcome}, specs.Book.{Answer}}
+use Rattle.calls.{specs.Script.{radios-text, up-line, script-of}, specs.Questions.{lengths-of}, specs.Switches.{switch, switched}}
+use Rattle.calls.{specs.Switches.{tables-after, All-allowed}, specs.Outcomes.{linked-with, reply, link-outcome, script-outcome}, specs.Book.{Answer}}
 use Rattle.calls.{specs.Book.{Call, linking, reported}, specs.Runs.{Done, did, answer-of, done, events, answers, after}, specs.Replay.{answer-line, lines}}
 use Rattle.calls.{specs.Replay.{closing-lines}, proofs.ChainLaws.{ends-yes}, proofs.RecordLaws.{tables-ext}, proofs.Accepted.{listing-is}, proofs.Holds.{Holds}}
 use Rattle.calls.{proofs.Holds.{read-back, switched-holds, all-holds}, proofs.ByPairs.{link-asked}, proofs.ScriptLaws.{script-zero, script-right}}
@@ -21,6 +21,7 @@ use Rattle.player.{specs.Play.{site-of, radios-of, lines-of, front, rest, clear
 use Rattle.player.{proofs.PlayLaws.{site-of-radios}}
 use Rattle.playback.specs.{Plays.{calls-of, calls-in}, Back.{Rebuilds, Plays-back}}
 use Rattle.playback.proofs.LineLaws.{ended-radios, front-ended, rest-ended, lines-of-ups}
+use Rattle.calls.specs.{Chains.{script-refusal, link-refusal}, Questions.{by-number}}
 
 -- ---- lines
 
@@ -44,7 +45,7 @@ module _ (n : ℕ) (least : 1 ≤ n) (ps : List Link) (u : Tables) (k : Holds n 
 
   outcome-up : (w : List ℕ) → n ≤ length w →
       link-outcome true n (l .low) (l .high) u w ≡ linked-with (reply 0 (step-of true cs) (length cs)) left (overwrite cs w)
-  unfolding link-outcome link-refusal sound by-number
+  unfolding link-outcome sound by-number
   outcome-up w room =
       rw (
         link-asked n ps u k least true (l .low) (l .high) (length w) room ∙ ends-yes max-neighbours true (l .low) (l .high) (graph n ps) ok,

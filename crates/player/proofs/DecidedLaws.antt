@@ -4,6 +4,7 @@ use Rattle.mesh.specs.Tables.{Tables}
 use Rattle.calls.specs.{Replay.{link-line}, Outcomes.{Linked}, Contracts.{Link-contract}}
 use Rattle.script.specs.{Lines.{line-of}, declared.lines.Line.{Line}, declared.lines.Line.the-variants.{Radios, Up, Down, Bad}}
 use Rattle.player.specs.{Lines.{is-call, Called, Played}, Play.{radios-of, lines-of, front, rest}, Whole.{Line-by, Lines-print, Run-from, Run-prints}}
+use Rattle.calls.specs.declared.Reply.{Reply}
 
 -- two outcomes of a line are the same
 pub record Same-line (text said : List ℕ) (v u : Tables) (x y : List ℕ) : Type 0 where
@@ -17,9 +18,9 @@ unfolding Link-contract
 called-decided up n a b t v u w x y text said h k =
     let same = h .does ∙ sym (k .does) in
     record {
-      text-same = h .says ∙ ap (λ (z : Linked). link-line (z .reply .number) (z .reply .step) (take (z .reply .count) (z .answer))) same ∙ sym (k .says);
-      tables = ap (λ (z : Linked). z .tables) same;
-      answer = ap (λ (z : Linked). z .answer) same;
+      text-same = h .says ∙ ap (λ (z : Linked Reply). link-line (z .reply .number) (z .reply .step) (take (z .reply .count) (z .lent))) same ∙ sym (k .says);
+      tables = ap (λ (z : Linked Reply). z .tables) same;
+      answer = ap (λ (z : Linked Reply). z .lent) same;
     }
 
 played-decided : (n : ℕ) (l : Line) (t v u : Tables) (w x y text said : List ℕ) → Played n l t w text v x → Played n l t w said u y

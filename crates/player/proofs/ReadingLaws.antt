@@ -7,7 +7,7 @@ use Rattle.lists.{specs.Kit.{ℕ, zero, suc, _+_, _-_, _*_, _≤_, _<_, arith, 
 use Rattle.lists.{specs.Kit.{length-replicate, length-take, take-suc, take-at, take-all, length-take-le, ltb-true, lt-ltb, le-ltb, ne-eqb}}
 use Rattle.lists.{proofs.Tests.{bool-cases, cond-false}, specs.Lists.{In}, proofs.Range.{length-range}}
 use Rattle.mesh.specs.{Limits.{max-radios, row-bytes}, Tables.{Tables, tables}}
-use Rattle.calls.{specs.Questions.{lengths-of, lent-refusal, tables-refusal}, specs.Outcomes.{Numbered, clear-outcome}, specs.Contracts.{Clear-contract}}
+use Rattle.calls.{specs.Questions.{lengths-of, lent-refusal, tables-refusal}, specs.Outcomes.{Tabled, clear-outcome}, specs.Contracts.{Clear-contract}}
 use Rattle.calls.{proofs.ChainLaws.{lent-yes}, proofs.ContractLaws.{by-zero}}
 use Rattle.text.{specs.Print.{Buffer, buffer-at, put, Puts, max-place}, proofs.PrintLaws.{put-fits}}
 use Rattle.player.specs.{Reads.{goes-on, at-end, Found, Read, input-of, Going, Unbroken, To-end}, Lines.{Prints}, Machine.{Spot, spot, Marked, Takes}}
@@ -307,7 +307,7 @@ site-cleared n r t v w site h =
     record {
       some = site .some;
       few = site .few;
-      is-cleared = ap (λ (o : Numbered). o .tables) (by-zero _ _ _ yes h);
+      is-cleared = ap (λ (o : Tabled ℕ). o .tables) (by-zero _ _ _ yes h);
       answer-zero = site .answer-zero;
     }
 

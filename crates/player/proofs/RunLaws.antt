@@ -19,15 +19,15 @@ module _ (R : Tables → List ℕ → List ℕ → Type 0) (later : Tables → L
   unfolding call-text answer-line answer-of Link-contract
   called up x n a b l t w e plays =
       let o = link-outcome up n a b t w in
-      let says = answer-line (answer-of (o .reply) (o .answer)) in
+      let says = answer-line (answer-of (o .reply) (o .lent)) in
       record {
         after = o .tables;
-        answer = o .answer;
+        answer = o .lent;
         first = says;
-        more = later (o .tables) (o .answer);
-        played = subst (λ (z : Line). Played n z t w says (o .tables) (o .answer)) (sym e)
-            (plays says (o .tables) (o .answer) (record { reply = o .reply; does = refl; says = refl }));
-        later = follows (o .tables) (o .answer);
+        more = later (o .tables) (o .lent);
+        played = subst (λ (z : Line). Played n z t w says (o .tables) (o .lent)) (sym e)
+            (plays says (o .tables) (o .lent) (record { reply = o .reply; does = refl; says = refl }));
+        later = follows (o .tables) (o .lent);
         whole = refl;
       }
 

@@ -7,7 +7,7 @@ use Rattle.hosts.{specs.Public.{call}, proofs.Hosts.{hosts-demand, standing-dem
 use Rattle.mesh.{specs.Limits.{max-neighbours}, specs.Tables.{Tables, graph-in}, specs.Sound.{sound}, specs.Image.{block-bytes, image-of}}
 use Rattle.mesh.{proofs.Tables.DegreeSum.{block-count-most}, proofs.Images.Tables.{valid-graph-in}, proofs.Cores.Peeling.{number-core, number-unique}}
 use Rattle.mesh.{proofs.Trees.Listed.{backbone-one-part}, proofs.Images.OtherSize.{other-size-iff}, proofs.Marks.Rules.{store-good-iff}}
-use Rattle.calls.{specs.Questions.{lengths-of, image-length, write-refusal}, specs.Outcomes.{write-outcome}, proofs.ChainLaws.{write-zero}}
+use Rattle.calls.{specs.Questions.{lengths-of, image-length}, specs.Outcomes.{write-outcome}, proofs.ChainLaws.{write-zero}}
 use Rattle.calls.{proofs.Refusals.{value-keeps, listing-keeps, store-keeps, clear-keeps, read-keeps, return-keeps, link-keeps, commit-keeps, hear-keeps}}
 use Rattle.calls.{proofs.Refusals.{later-keeps, lift-keeps, ask-keeps, tree-keeps, block-keeps}, proofs.Accepted.{check-right, link-right, number-right}}
 use Rattle.calls.{proofs.Accepted.{later-right, core-right, backbone-right, tree-right-listed, write-right, listing-is, ask-right, commit-right}}
@@ -25,6 +25,7 @@ use Rattle.block_reader.proofs.Runs.{part-stands}
 use Rattle.summerbugle.proofs.Runs.{routines, runs}
 use Rattle.promises.specs.Statement.{Refusals, Property-1, Property-2, Property-3, Statement}
 use Rattle.promises.specs.Statement as statement
+use Rattle.calls.specs.Chains.{write-refusal}
 
 -- W-208: every image of sound tables has at most 86 blocks
 blocks-most :

@@ -6,11 +6,12 @@ use Rattle.lists.{proofs.Range.{length-range}}
 use Rattle.mesh.{specs.Limits.{max-radios}, specs.Graph.{Graph, radios}, specs.Cores.{number}, specs.Tables.{Tables, graph-in}, specs.Sound.{sound}}
 use Rattle.mesh.{specs.Connected.{at-least, In-core, core-of}, proofs.Trees.Reach.{core-of-iff, core-of-ascending}, proofs.Trees.CoreLevels.{in-core-below}}
 use Rattle.mesh.{proofs.Trees.CoreLevels.{in-core-level}}
-use Rattle.calls.{specs.Questions.{lengths-of, core-refusal}, specs.Contracts.{Core-contract}, proofs.ChainLaws.{core-zero}}
+use Rattle.calls.{specs.Questions.{lengths-of}, specs.Contracts.{Core-contract}, proofs.ChainLaws.{core-zero}}
 use Rattle.calls.{proofs.QuestionLaws.{answer-length-true}, specs.Outcomes.{value, core-outcome}, proofs.ContractLaws.{listing-refused, listing-answered}}
 use Rattle.rows.specs.Sets.{in-set, Set-taken, members, Listed}
 use Rattle.floods.{specs.Floods.{Level-set, Flood-done}, proofs.FloodCore.{level-radios, left-flood}}
 use Rattle.soundness.proofs.SoundSite.{Sound-site, number-entry, site-good-sound}
+use Rattle.calls.specs.Chains.{core-refusal}
 
 module _ (n : ℕ) (t : Tables) (s : Sound-site n t) (k v : ℕ) (radio : v < n) (level : k ≤ number (graph-in n (t .links)) v) where
   abbrev g : Graph

@@ -3,7 +3,7 @@ use Rattle.lists.specs.Kit.{_≡_, refl, sym, ap, subst, _∙_, Bool, true, fal
 use Rattle.lists.specs.Kit.{eqb, length, take, drop, set, getD, replicate, length-take, length-drop, drop-of-length-le, take-suc-set, drop-cons, take-all}
 use Rattle.lists.specs.Kit.{eq-eqb, ne-eqb, le-leb, lt-leb, lt-ltb, le-ltb}
 use Rattle.mesh.specs.{Limits.{max-radios}, Tables.{Tables}}
-use Rattle.calls.specs.{Outcomes.{Numbered, Linked, link-outcome}, Contracts.{Link-contract, Clear-contract}, declared.Reply.{Reply}}
+use Rattle.calls.specs.{Outcomes.{Tabled, Linked, link-outcome}, Contracts.{Link-contract, Clear-contract}, declared.Reply.{Reply}}
 use Rattle.text.specs.{Text.{line-feed}, Print.{max-place, next-place}}
 use Rattle.script.specs.{Lines.{line-of}, declared.lines.Line.{Line}, declared.lines.Line.the-variants.{Radios, Up, Down, Bad}}
 use Rattle.player.{specs.Reads.{goes-on, at-end, unread, Read, Found, input-of, Going, To-end}, proofs.ReadLaws.{none-found, take-none}}
@@ -38,8 +38,8 @@ pub called-is : (up : Bool) (n a b : ℕ) (t v : Tables) (r : Reply) (w x : List
     → lined-with (r .number) v ≡ called up n a b t
 unfolding Link-contract called
 called-is up n a b t v r w x e h =
-    let same : record { reply = r; tables = v; answer = x } ≡ link-outcome up n a b t (replicate max-radios 0) = h ∙ ap (link-outcome up n a b t) e in
-    ap (λ (o : Linked). lined-with (o .reply .number) (o .tables)) same
+    let same : record { reply = r; tables = v; lent = x } ≡ link-outcome up n a b t (replicate max-radios 0) = h ∙ ap (link-outcome up n a b t) e in
+    ap (λ (o : Linked Reply). lined-with (o .reply .number) (o .tables)) same
 
 -- the line l, as the parser tells it
 pub lined-by : (n : ℕ) (s : List ℕ) (l m : Line) (t : Tables) (o : Lined) → l ≡ line-of s → l ≡ m → o ≡ lined n s m t → o ≡ lined n s (line-of s) t
@@ -230,7 +230,7 @@ pub plays : (n from state k m : ℕ) (front chunk room spare : List ℕ) (t v af
 unfolding Clear-contract spot begin
 plays n from state k m front chunk room spare t v after p c last r begins long kept clear part first rest is =
     let start = spot v room (record { line = 2; held = 0; number = k }) in
-    let begun : start ≡ begin n t = ap (λ (x : Numbered). record { tables = x .tables; line = 2; held = []; number = x .reply }) clear in
+    let begun : start ≡ begin n t = ap (λ (x : Tabled ℕ). record { tables = x .tables; line = 2; held = []; number = x .reply }) clear in
     let reads = input-of (rest .reads) in
     let after-first = drop (first-end first-room front) front in
     let bytes : chunk ≡ after-first = part ∙ ap (λ (j : ℕ). drop j front) begins in

@@ -9,12 +9,13 @@ use Rattle.lists.{specs.Kit.{take-length, leb-true, leb-false, le-leb, lt-leb},
 use Rattle.lists.{proofs.Map.{length-map}}
 use Rattle.mesh.{specs.Limits.{max-radios}, specs.Graph.{Graph}, specs.Tables.{Tables, graph-in}, specs.Sound.{sound}, specs.Tree.{node, tree, node-names}}
 use Rattle.mesh.{specs.declared.Node.{Node}, proofs.Trees.Laws.{number-le-n}}
-use Rattle.calls.{specs.Questions.{ask, Lengths, lengths-of, size-good, site-lengths, nodes-length, answer-length, lent-refusal, site-refusal, tree-refusal}}
-use Rattle.calls.{specs.Outcomes.{by-number, value, Treed, treed, tree-outcome}, specs.Contracts.{Tree-contract}, specs.declared.Value.{Value}}
+use Rattle.calls.{specs.Questions.{ask, Lengths, lengths-of, size-good, site-lengths, answer-length, lent-refusal, site-refusal}}
+use Rattle.calls.{specs.Outcomes.{value, Listing, listing, tree-outcome}, specs.Contracts.{Tree-contract}, specs.declared.Value.{Value}}
 use Rattle.calls.{proofs.QuestionLaws.{ask-later, size-good-true, nodes-length-true}, proofs.ChainLaws.{site-zero}}
 use Rattle.summerbugle.specs.Nodes.{nodes-in}
 use Rattle.tree.{specs.Trees.{Lists, lists, with-front, places, Filled, filled, tables-outcome, Tables-contract}, proofs.NodeLists.{nodes-before-tree}}
 use Rattle.tree.{proofs.NodeLists.{length-nodes-before}}
+use Rattle.calls.specs.{Chains.{tree-refusal, nodes-length}, Questions.{by-number}}
 
 -- ---- nodes in front of three tables
 
@@ -54,7 +55,6 @@ length-tree g = omega (arith, ap length (nodes-before-tree g (g .n) (omega arith
 -- ---- the questions: tables of k places are long enough for any site
 
 nodes-length-min : (n m k : ℕ) → n + 1 ≤ k → nodes-length n (min m k) ≡ nodes-length n m
-unfolding nodes-length
 nodes-length-min n m k h = by (bool-cases (leb (n + 1) m))
   where
     by : (leb (n + 1) m ≡ true) ⊎ (leb (n + 1) m ≡ false) → leb (n + 1) (min m k) ≡ leb (n + 1) m
@@ -62,7 +62,7 @@ nodes-length-min n m k h = by (bool-cases (leb (n + 1) m))
     by (inr e) = lt-leb (n + 1) (min m k) (omega (arith, leb-false (n + 1) m e)) ∙ sym e
 
 tree-refusal-min : (n m w k : ℕ) (l : Lengths) (s : Bool) → max-radios + 1 ≤ k → tree-refusal n l (min m k) w s ≡ tree-refusal n l m w s
-unfolding tree-refusal site-refusal lent-refusal
+unfolding site-refusal lent-refusal
 tree-refusal-min n m w k l s h =
     ask-later 1 (size-good n) _ _ (λ p. ap (λ (b : Bool). ask 2 (site-lengths n l && (b && answer-length n w)) (ask 3 s 0))
     (nodes-length-min n m k (omega (arith, size-good-true n p .1))))
@@ -89,7 +89,7 @@ module _ (n k : ℕ) (enough : max-radios + 1 ≤ k) (t : Tables) (ys : List Nod
 
   -- the nodes fit where the call is accepted
   tree-fits : refusal ≡ 0 → (length (tree g) ≤ length ys) × (length (tree g) ≤ k)
-  unfolding tree-refusal graph-in
+  unfolding graph-in
   tree-fits e =
       let good = site-zero n (lengths-of t) (nodes-length n (length ys) && answer-length n (length w)) (sound n t) 0 e .0 in
       let long = nodes-length-true n (length ys) (and-left (nodes-length n (length ys)) (answer-length n (length w)) (good .lent .further)) in
@@ -104,15 +104,15 @@ module _ (n k : ℕ) (enough : max-radios + 1 ≤ k) (t : Tables) (ys : List Nod
   count-fits (suc q) e = rw (refusal-same ∙ e) (omega arith, omega arith)
 
   -- what the lent list is filled with
-  abbrev pub lent-from : Filled → Treed
+  abbrev pub lent-from : Filled → Listing Value (List Node × List ℕ)
   lent-from o =
-      treed (o .reply) (overwrite (nodes-in (o .lists .names) (o .lists .levels) (o .lists .parents) (o .reply .value)) ys) (o .lists .answer)
+      listing (o .reply) (overwrite (nodes-in (o .lists .names) (o .lists .levels) (o .lists .parents) (o .reply .value)) ys, o .lists .answer)
 
   same-tree : (R : ℕ) → refusal ≡ R → lent-from of-tables ≡ tree-outcome n t ys w
   unfolding tables-outcome tree-outcome by-number sound with-front nodes-in overwrite
   same-tree zero e =
       rw (refusal-same ∙ e, e)
-      (ap (λ (xs : List Node). treed (value 0 (length (tree g))) (overwrite xs ys) (overwrite (node-names g) w))
+      (ap (λ (xs : List Node). listing (value 0 (length (tree g))) (overwrite xs ys, overwrite (node-names g) w))
       (nodes-overwritten (tree g) (replicate k 0) (replicate k 0) (replicate k 0)))
   same-tree (suc q) e = rw (refusal-same ∙ e, e)
 
@@ -121,6 +121,6 @@ module _ (n k : ℕ) (enough : max-radios + 1 ≤ k) (t : Tables) (ys : List Nod
     unfolding Tables-contract
     lent-count = subst (λ (o : Filled). (o .reply .value ≤ length ys) × (o .reply .value ≤ k)) (sym h) (count-fits refusal refl)
 
-    pub lent-tree : let o = lent-from (filled r u) in Tree-contract n t ys w (o .reply) (o .nodes) (o .answer)
+    pub lent-tree : let o = lent-from (filled r u) in Tree-contract n t ys w (o .reply) (o .lent .0) (o .lent .1)
     unfolding Tables-contract Tree-contract
     lent-tree = ap lent-from h ∙ same-tree refusal refl

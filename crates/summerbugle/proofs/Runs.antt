@@ -7,14 +7,13 @@ use contract.{Running.{Running, real}, BorrowModel.{ghost₀}}
 use prog.Routine.{Routine}
 use Rattle.machine.{specs.Cells.{entries, Runs}, proofs.Whole.{𝓥}, proofs.Rows.{Row}, proofs.Lending.{Lending, by-value, to-read, to-write}}
 use Rattle.machine.{proofs.Law.{Answer, Promised, in-cells}, proofs.Numbers.{number-row, signed-row, number-answer, declared-answer}}
-use Rattle.mesh.specs.Tables.{Tables, tables}
-use Rattle.calls.specs.{Outcomes.{Numbered, Linked, Asked, Committed, Batched, Heard, Listing, Treed}, MarkOutcomes.{Stored}, declared.Value.{Value}}
+use Rattle.mesh.specs.{Tables.{Tables, tables}, declared.Node.{Node}}
 use Rattle.calls.specs.{declared.Later.{Later}, declared.Pair.{Pair}, declared.Block.{Block}, Contracts.{Clear-contract, Read-contract, Return-contract}}
 use Rattle.calls.specs.{Contracts.{Link-contract, Ask-contract, Commit-contract, Batch-contract, Hear-contract, Check-contract, Number-contract}}
 use Rattle.calls.specs.{Contracts.{Neighbours-contract, Linked-contract, First-contract, Later-contract, Lift-contract, Core-contract, Backbone-contract}}
 use Rattle.calls.specs.{Contracts.{Staircase-contract, Write-contract, Sheet-contract, Script-length-contract, Script-contract, Tree-contract, Set-contract}}
-use Rattle.calls.specs.{Contracts.{Remove-contract, Block-contract}}
-use Rattle.hosts.specs.{Public.{Public, of-book, this-version, call, the-tables, tables-then}, Public.Known.{clear, image-read, link, commit, link-batch, hear}}
+use Rattle.calls.specs.{Contracts.{Remove-contract, Block-contract}, Outcomes.{Listing}, declared.Value.{Value}}
+use Rattle.hosts.specs.{Public.{Public, of-book, this-version, call, the-tables, with-tables, with-both, with-list}, Public.Known.{clear, image-read, link, commit, link-batch, hear}}
 use Rattle.hosts.specs.{Public.Known.{mark-set, mark-remove, mark-return}, Public.Public.{ask, check, number, neighbours, linked, first, later-of, lift, core}}
 use Rattle.hosts.specs.{Public.Public.{backbone, tree, staircase, image-write, sheet, script-length, script-write, image-block, reader-open, reader-step}}
 use Rattle.hosts.specs.{Public.Public.{reader-moved, version}}
@@ -174,7 +173,7 @@ unfolding Clear-contract
 clear-runs =
     in-cells 3 (n32 ∷ to-write 0 tt u8 ∷ to-write 1 tt u8 ∷ to-write 2 tt u16 ∷ []) a-number _
     (λ i r o. Clear-contract (i .0) (the-tables (i .1 .0) (i .1 .1 .0) (i .1 .1 .1 .0)) r (left o)) _
-    (λ i r o e. ap (λ (y : Numbered). (y .reply, tables-then (y .tables) tt)) e)
+    (λ i r o e. ap with-tables e)
     (clear-proof.met 𝓥 Closed.H Closed.model ghost₀ 𝓡)
 
 image-read-runs : Runs (routines (of-book image-read)) (call (of-book image-read))
@@ -182,7 +181,7 @@ unfolding Read-contract
 image-read-runs =
     in-cells 4 (n32 ∷ to-write 0 tt u8 ∷ to-write 1 tt u8 ∷ to-write 2 tt u16 ∷ to-read 3 tt u8 ∷ []) a-number _
     (λ i r o. Read-contract (i .0) (entries (i .1 .1 .1 .1 .0)) (the-tables (i .1 .0) (i .1 .1 .0) (i .1 .1 .1 .0)) r (left o)) _
-    (λ i r o e. ap (λ (y : Numbered). (y .reply, tables-then (y .tables) tt)) e)
+    (λ i r o e. ap with-tables e)
     (image-read-proof.met 𝓥 Closed.H Closed.model ghost₀ 𝓡)
 
 abbrev link-runs-params : List (Lending 4)
@@ -193,7 +192,7 @@ link-runs : (up : Bool) (ρ : Routine) →
     (the-tables (i .1 .1 .1 .0) (i .1 .1 .1 .1 .0) (i .1 .1 .1 .1 .1 .0)) (entries (i .1 .1 .1 .1 .1 .1 .0)) r (left o) (o .1 .1 .1 .0)) →
     Runs ρ (call (of-book (link up)))
 unfolding Link-contract
-link-runs up ρ met = in-cells 4 link-runs-params a-reply ρ _ _ (λ i r o e. ap (λ (y : Linked). (y .reply, tables-then (y .tables) (y .answer, tt))) e) met
+link-runs up ρ met = in-cells 4 link-runs-params a-reply ρ _ _ (λ i r o e. ap with-both e) met
 
 abbrev commit-runs-params : List (Lending 4)
 commit-runs-params = n32 ∷ n32 ∷ n32 ∷ by-value (signed-row w8) ∷ to-write 0 tt u8 ∷ to-write 1 tt u8 ∷ to-write 2 tt u16 ∷ to-read 3 tt u16 ∷ []
@@ -203,14 +202,14 @@ commit-runs : (up : Bool) (ρ : Routine) →
     (the-tables (i .1 .1 .1 .1 .0) (i .1 .1 .1 .1 .1 .0) (i .1 .1 .1 .1 .1 .1 .0)) r (left o)) →
     Runs ρ (call (of-book (commit up)))
 unfolding Commit-contract
-commit-runs up ρ met = in-cells 4 commit-runs-params a-reply ρ _ _ (λ i r o e. ap (λ (y : Committed). (y .reply, tables-then (y .tables) tt)) e) met
+commit-runs up ρ met = in-cells 4 commit-runs-params a-reply ρ _ _ (λ i r o e. ap with-tables e) met
 
 batch-runs : Runs (routines (of-book link-batch)) (call (of-book link-batch))
 unfolding Batch-contract
 batch-runs =
     in-cells 4 (n32 ∷ to-write 0 tt u8 ∷ to-write 1 tt u8 ∷ to-write 2 tt u16 ∷ to-read 3 tt u16 ∷ []) a-value _
     (λ i r o. Batch-contract (i .0) (entries (i .1 .1 .1 .1 .0)) (the-tables (i .1 .0) (i .1 .1 .0) (i .1 .1 .1 .0)) r (left o)) _
-    (λ i r o e. ap (λ (y : Batched). (y .reply, tables-then (y .tables) tt)) e)
+    (λ i r o e. ap with-tables e)
     (link-batch-proof.met 𝓥 Closed.H Closed.model ghost₀ 𝓡)
 
 hear-runs : Runs (routines (of-book hear)) (call (of-book hear))
@@ -219,7 +218,7 @@ hear-runs =
     in-cells 5 (n32 ∷ to-write 0 tt u8 ∷ to-write 1 tt u8 ∷ to-write 2 tt u16 ∷ to-read 3 tt u8 ∷ to-write 4 tt u8 ∷ []) a-value _
     (λ i r o. Hear-contract (i .0) (entries (i .1 .1 .1 .1 .0)) (the-tables (i .1 .0) (i .1 .1 .0) (i .1 .1 .1 .0)) (entries (i .1 .1 .1 .1 .1 .0)) r
     (left o) (o .1 .1 .1 .0)) _
-    (λ i r o e. ap (λ (y : Heard). (y .reply, tables-then (y .tables) (y .one-sided, tt))) e)
+    (λ i r o e. ap with-both e)
     (hear-proof.met 𝓥 Closed.H Closed.model ghost₀ 𝓡)
 
 set-runs : Runs (routines (of-book mark-set)) (call (of-book mark-set))
@@ -228,7 +227,7 @@ set-runs =
     in-cells 5 (n32 ∷ to-read 0 tt u8 ∷ to-read 1 tt u8 ∷ to-read 2 tt u16 ∷ to-read 3 tt u8 ∷ to-write 4 tt u8 ∷ []) a-number _
     (λ i r o. Set-contract (i .0) (entries (i .1 .1 .1 .1 .0)) (the-tables (i .1 .0) (i .1 .1 .0) (i .1 .1 .1 .0)) (entries (i .1 .1 .1 .1 .1 .0)) r
     (o .0)) _
-    (λ i r o e. ap (λ (y : Stored). (y .reply, (y .store, tt))) e)
+    (λ i r o e. ap with-list e)
     (mark-set-proof.met 𝓥 Closed.H Closed.model ghost₀ 𝓡)
 
 remove-runs : Runs (routines (of-book mark-remove)) (call (of-book mark-remove))
@@ -237,7 +236,7 @@ remove-runs =
     in-cells 5 (n32 ∷ to-read 0 tt u8 ∷ to-read 1 tt u8 ∷ to-read 2 tt u16 ∷ to-read 3 tt u8 ∷ to-write 4 tt u8 ∷ []) a-number _
     (λ i r o. Remove-contract (i .0) (entries (i .1 .1 .1 .1 .0)) (the-tables (i .1 .0) (i .1 .1 .0) (i .1 .1 .1 .0)) (entries (i .1 .1 .1 .1 .1 .0)) r
     (o .0)) _
-    (λ i r o e. ap (λ (y : Stored). (y .reply, (y .store, tt))) e)
+    (λ i r o e. ap with-list e)
     (mark-remove-proof.met 𝓥 Closed.H Closed.model ghost₀ 𝓡)
 
 return-runs : Runs (routines (of-book mark-return)) (call (of-book mark-return))
@@ -246,7 +245,7 @@ return-runs =
     in-cells 5 (n32 ∷ to-write 0 tt u8 ∷ to-write 1 tt u8 ∷ to-write 2 tt u16 ∷ to-read 3 tt u8 ∷ to-read 4 tt u8 ∷ []) a-number _
     (λ i r o. Return-contract (i .0) (entries (i .1 .1 .1 .1 .0)) (entries (i .1 .1 .1 .1 .1 .0)) (the-tables (i .1 .0) (i .1 .1 .0) (i .1 .1 .1 .0)) r
     (left o)) _
-    (λ i r o e. ap (λ (y : Numbered). (y .reply, tables-then (y .tables) tt)) e)
+    (λ i r o e. ap with-tables e)
     (mark-return-proof.met 𝓥 Closed.H Closed.model ghost₀ 𝓡)
 
 -- ---- calls that only read them
@@ -259,7 +258,7 @@ ask-runs : (up : Bool) (ρ : Routine) →
     (the-tables (i .1 .1 .1 .0) (i .1 .1 .1 .1 .0) (i .1 .1 .1 .1 .1 .0)) (entries (i .1 .1 .1 .1 .1 .1 .0)) r (o .0)) →
     Runs ρ (call (ask up))
 unfolding Ask-contract
-ask-runs up ρ met = in-cells 2 ask-runs-params a-reply ρ _ _ (λ i r o e. ap (λ (y : Asked). (y .reply, (y .answer, tt))) e) met
+ask-runs up ρ met = in-cells 2 ask-runs-params a-reply ρ _ _ (λ i r o e. ap with-list e) met
 
 check-runs : Runs (routines check) (call check)
 unfolding Check-contract
@@ -331,7 +330,7 @@ core-runs =
     in-cells 2 (n32 ∷ n32 ∷ n32 ∷ to-read 0 tt u8 ∷ to-read 0 tt u8 ∷ to-read 0 tt u16 ∷ to-write 1 tt u16 ∷ []) a-value _
     (λ i r o. Core-contract (i .0) (i .1 .0) (i .1 .1 .0) (the-tables (i .1 .1 .1 .0) (i .1 .1 .1 .1 .0) (i .1 .1 .1 .1 .1 .0))
     (entries (i .1 .1 .1 .1 .1 .1 .0)) r (o .0)) _
-    (λ i r o e. ap (λ (y : Listing). (y .reply, (y .lent, tt))) e)
+    (λ i r o e. ap with-list e)
     (core-proof.met 𝓥 Closed.H Closed.model ghost₀ 𝓡)
 
 backbone-runs : Runs (routines backbone) (call backbone)
@@ -339,7 +338,7 @@ unfolding Backbone-contract
 backbone-runs =
     in-cells 2 (n32 ∷ to-read 0 tt u8 ∷ to-read 0 tt u8 ∷ to-read 0 tt u16 ∷ to-write 1 tt u16 ∷ []) a-value _
     (λ i r o. Backbone-contract (i .0) (the-tables (i .1 .0) (i .1 .1 .0) (i .1 .1 .1 .0)) (entries (i .1 .1 .1 .1 .0)) r (o .0)) _
-    (λ i r o e. ap (λ (y : Listing). (y .reply, (y .lent, tt))) e)
+    (λ i r o e. ap with-list e)
     (backbone-proof.met 𝓥 Closed.H Closed.model ghost₀ 𝓡)
 
 staircase-runs : Runs (routines staircase) (call staircase)
@@ -347,7 +346,7 @@ unfolding Staircase-contract
 staircase-runs =
     in-cells 2 (n32 ∷ to-read 0 tt u8 ∷ to-read 0 tt u8 ∷ to-read 0 tt u16 ∷ to-write 1 tt u16 ∷ []) a-value _
     (λ i r o. Staircase-contract (i .0) (the-tables (i .1 .0) (i .1 .1 .0) (i .1 .1 .1 .0)) (entries (i .1 .1 .1 .1 .0)) r (o .0)) _
-    (λ i r o e. ap (λ (y : Listing). (y .reply, (y .lent, tt))) e)
+    (λ i r o e. ap with-list e)
     (staircase-proof.met 𝓥 Closed.H Closed.model ghost₀ 𝓡)
 
 write-runs : Runs (routines image-write) (call image-write)
@@ -355,7 +354,7 @@ unfolding Write-contract
 write-runs =
     in-cells 4 (n32 ∷ to-read 0 tt u8 ∷ to-read 1 tt u8 ∷ to-read 2 tt u16 ∷ to-write 3 tt u8 ∷ []) a-value _
     (λ i r o. Write-contract (i .0) (the-tables (i .1 .0) (i .1 .1 .0) (i .1 .1 .1 .0)) (entries (i .1 .1 .1 .1 .0)) r (o .0)) _
-    (λ i r o e. ap (λ (y : Listing). (y .reply, (y .lent, tt))) e)
+    (λ i r o e. ap with-list e)
     (image-write-proof.met 𝓥 Closed.H Closed.model ghost₀ 𝓡)
 
 sheet-runs : Runs (routines sheet) (call sheet)
@@ -363,7 +362,7 @@ unfolding Sheet-contract
 sheet-runs =
     in-cells 4 (n32 ∷ to-read 0 tt u8 ∷ to-read 1 tt u8 ∷ to-read 2 tt u16 ∷ to-write 3 tt u8 ∷ []) a-value _
     (λ i r o. Sheet-contract (i .0) (the-tables (i .1 .0) (i .1 .1 .0) (i .1 .1 .1 .0)) (entries (i .1 .1 .1 .1 .0)) r (o .0)) _
-    (λ i r o e. ap (λ (y : Listing). (y .reply, (y .lent, tt))) e)
+    (λ i r o e. ap with-list e)
     (sheet-proof.met 𝓥 Closed.H Closed.model ghost₀ 𝓡)
 
 script-runs : Runs (routines script-write) (call script-write)
@@ -371,7 +370,7 @@ unfolding Script-contract
 script-runs =
     in-cells 4 (n32 ∷ to-read 0 tt u8 ∷ to-read 1 tt u8 ∷ to-read 2 tt u16 ∷ to-write 3 tt u8 ∷ []) a-value _
     (λ i r o. Script-contract (i .0) (the-tables (i .1 .0) (i .1 .1 .0) (i .1 .1 .1 .0)) (entries (i .1 .1 .1 .1 .0)) r (o .0)) _
-    (λ i r o e. ap (λ (y : Listing). (y .reply, (y .lent, tt))) e)
+    (λ i r o e. ap with-list e)
     (script-write-proof.met 𝓥 Closed.H Closed.model ghost₀ 𝓡)
 
 tree-runs : Runs (routines tree) (call tree)
@@ -380,7 +379,7 @@ tree-runs =
     in-cells 3 (n32 ∷ to-read 0 tt u8 ∷ to-read 0 tt u8 ∷ to-read 0 tt u16 ∷ to-write 1 tt node-row ∷ to-write 2 tt u16 ∷ []) a-value _
     (λ i r o. Tree-contract (i .0) (the-tables (i .1 .0) (i .1 .1 .0) (i .1 .1 .1 .0)) (entries (i .1 .1 .1 .1 .0)) (entries (i .1 .1 .1 .1 .1 .0)) r
     (o .0) (o .1 .0)) _
-    (λ i r o e. ap (λ (y : Treed). (y .reply, (y .nodes, (y .answer, tt)))) e)
+    (λ i r o e. ap (λ (y : Listing Value (List Node × List ℕ)). (y .reply, (y .lent .0, (y .lent .1, tt)))) e)
     (tree-proof.met 𝓥 Closed.H Closed.model ghost₀ 𝓡)
 
 block-runs : Runs (routines image-block) (call image-block)

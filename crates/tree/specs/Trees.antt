@@ -23,10 +23,11 @@ use Rattle.lists.specs.{Kit.{_≡_, Bool, true, _&&_, not, cond, List, [], _∷
 use Rattle.lists.specs.{Kit.{getD, take, set}, Facts.{folded}, Lists.{range, filter, head-or, overwrite, In, Entries-below}}
 use Rattle.mesh.specs.{Limits.{max-radios, max-neighbours}, Graph.{Graph, radios}, Cores.{number}, Tables.{Tables, tables, graph-in}, Sound.{sound}}
 use Rattle.mesh.specs.{Tree.{root-name, root, node, shell, node-name, parent-name, nodes-at, tree, node-names}, declared.Node.{Node}}
-use Rattle.calls.specs.{Questions.{lengths-of, tree-refusal}, Outcomes.{by-number, value}, declared.Value.{Value}}
+use Rattle.calls.specs.{Questions.{lengths-of}, Outcomes.{value}, declared.Value.{Value}}
 use Rattle.rows.specs.Sets.{in-set}
 use Rattle.soundness.specs.Checks.{fits-sound}
 use Rattle.floods.specs.Floods.{Level-set, Flood-done}
+use Rattle.calls.specs.{Chains.{tree-refusal}, Questions.{by-number}}
 
 pub record Lists : Type 0 where
   pub names : List ℕ

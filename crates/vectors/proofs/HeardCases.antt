@@ -5,7 +5,8 @@ use Rattle.mesh.specs.{Graph.{Link, graph, link-of, neighbours-in}, Sound.{soun
 use Rattle.mesh.specs.{Tables.{tables-of}}
 use Rattle.calls.{specs.Questions.{lengths-of, site-refusal}, specs.Switches.{switch, switched, tables-after}, specs.Heard.{agreed, agreed-degree, heard-alone}}
 use Rattle.calls.{specs.Heard.{one-sided, one-sided-count, heard-lengths, heard-proper, agreed-few, hear-refusal, row-switches, switches-where, goes-down}}
-use Rattle.calls.{specs.Heard.{comes-up, heard-switches}, specs.Outcomes.{heard-with, value, by-number, hear-outcome}, proofs.WorkedState.{compute}}
+use Rattle.calls.{specs.Heard.{comes-up, heard-switches}, specs.Outcomes.{linked-with, value, hear-outcome}, proofs.WorkedState.{compute}}
+use Rattle.calls.specs.Questions.{by-number}
 
 unfoldable compute-heard : Unit {0}
 unfolding compute neighbours-in put-digit put-bit put-link row-links graph-in site-refusal switched tables-after agreed agreed-degree heard-alone one-sided one-sided-count heard-lengths heard-proper agreed-few hear-refusal row-switches switches-where goes-down comes-up heard-switches
@@ -41,14 +42,14 @@ sound-before = refl
 -- the hearing of a table hs by these tables
 heard-by : (hs w : List ℕ) → hear-outcome 4 hs before w
     ≡ by-number (hear-refusal 4 (lengths-of before) hs (length w) true)
-    (heard-with (value 0 (one-sided-count 4 hs)) (tables-after 4 (heard-switches (graph-in 4 (before .links)) hs) before) (one-sided 4 hs))
-    (λ q. heard-with (value q 0) before w)
+    (linked-with (value 0 (one-sided-count 4 hs)) (tables-after 4 (heard-switches (graph-in 4 (before .links)) hs) before) (one-sided 4 hs))
+    (λ q. linked-with (value q 0) before w)
 unfolding hear-outcome
 heard-by hs w =
     ap (λ (t : Bool).
     by-number (hear-refusal 4 (lengths-of before) hs (length w) t)
-    (heard-with (value 0 (one-sided-count 4 hs)) (tables-after 4 (heard-switches (graph-in 4 (before .links)) hs) before) (one-sided 4 hs))
-    (λ q. heard-with (value q 0) before w)) sound-before
+    (linked-with (value 0 (one-sided-count 4 hs)) (tables-after 4 (heard-switches (graph-in 4 (before .links)) hs) before) (one-sided 4 hs))
+    (λ q. linked-with (value q 0) before w)) sound-before
 
 pub calls : heard-switches (graph 4 triangle) heard ≡ switch false 1 2 ∷ switch true 2 3 ∷ []
 unfolding compute-heard
@@ -57,16 +58,16 @@ calls = refl
 -- number 0 and one one-sided pair; the links 0-1, 0-2, 2-3; the pair 1, 2 marked
 pub taken :
     hear-outcome 4 heard before further
-    ≡ heard-with (value 0 1) (tables (row 6 ++ (row 1 ++ (row 9 ++ row 4))) (1 ∷ 1 ∷ 1 ∷ 1 ∷ []) (3 ∷ 2 ∷ 0 ∷ 1 ∷ [])) (row 0 ++ (row 4 ++ (row 0 ++ row 0)))
+    ≡ linked-with (value 0 1) (tables (row 6 ++ (row 1 ++ (row 9 ++ row 4))) (1 ∷ 1 ∷ 1 ∷ 1 ∷ []) (3 ∷ 2 ∷ 0 ∷ 1 ∷ [])) (row 0 ++ (row 4 ++ (row 0 ++ row 0)))
 unfolding compute-heard
 taken = heard-by heard further
 
 -- a row that marks its own radio, or one at n: 14, and every table keeps its content
-pub own-radio : hear-outcome 4 (row 7 ++ (row 5 ++ (row 9 ++ row 4))) before further ≡ heard-with (value 14 0) before further
+pub own-radio : hear-outcome 4 (row 7 ++ (row 5 ++ (row 9 ++ row 4))) before further ≡ linked-with (value 14 0) before further
 unfolding compute-heard
 own-radio = heard-by (row 7 ++ (row 5 ++ (row 9 ++ row 4))) further
 
-pub radio-at-n : hear-outcome 4 (row 6 ++ (row 5 ++ (row 25 ++ row 4))) before further ≡ heard-with (value 14 0) before further
+pub radio-at-n : hear-outcome 4 (row 6 ++ (row 5 ++ (row 25 ++ row 4))) before further ≡ linked-with (value 14 0) before further
 unfolding compute-heard
 radio-at-n = heard-by (row 6 ++ (row 5 ++ (row 25 ++ row 4))) further
 
@@ -80,7 +81,7 @@ unfolding compute-heard
 long-further = refl
 
 -- what is heard is what is linked: nothing changes
-pub same-links : hear-outcome 4 (before .links) before further ≡ heard-with (value 0 0) before (replicate 256 0)
+pub same-links : hear-outcome 4 (before .links) before further ≡ linked-with (value 0 0) before (replicate 256 0)
 unfolding compute-heard
 same-links = heard-by (before .links) further
 
