@@ -1,5 +1,6 @@
 -- The flood's steps as the code has them: rows joined, a layer.
-use Rattle.lists.{specs.Kit.{_≡_, sym, ap, _∙_, _⊎_, inl, inr, true, false, List, ℕ, _+_, _-_, _≤_, arith, eqb, length, getD, replicate, eqb-true, eqb-false}}
+use Rattle.lists.specs.Kit.{_≡_, sym, ap, _∙_, _⊎_, inl, inr, true, false, List, ℕ, _+_, _-_, _≤_, arith, eqb, length, getD, replicate, eqb-true, eqb-false}
+use Rattle.lists.specs.Kit.{⊎-elim}
 use Rattle.lists.{specs.Lists.{member}, proofs.Overwrite.{sets-front}, proofs.Tests.{bool-cases, never, or-cases, or-left, or-right}}
 use borrow.Rule.Slice.PartMut.{midOf, putMid, mid-len}
 use Rattle.rows.{specs.Rows.{row-listed}, specs.Sets.{in-set, Row-joined, common, Common-taken}, proofs.Listing.{put-rest}, proofs.SetLaws.{in-set-zeros}}
@@ -16,11 +17,7 @@ rows-joined-turn ts list from to r s t l row h = record { some = λ x e. some x 
   where
     some : (x : ℕ) → (in-set s x ≡ true) ⊎ (member x (row-listed ts (getD list to 0)) ≡ true) → (in-set r x ≡ true) ⊎ Marked-by ts list from (to + 1) x
     some x (inr e) = inr (record { place = to; low = l; high = omega arith; marks = e })
-    some x (inl e) = go (h .some x e)
-      where
-        go : (in-set r x ≡ true) ⊎ Marked-by ts list from to x → (in-set r x ≡ true) ⊎ Marked-by ts list from (to + 1) x
-        go (inl q) = inl q
-        go (inr m) = inr (record { place = m .place; low = m .low; high = omega (arith, m .high); marks = m .marks })
+    some x (inl e) = ⊎-elim (λ q. inl q) (λ m. inr (record { place = m .place; low = m .low; high = omega (arith, m .high); marks = m .marks })) (h .some x e)
 
     all : (x : ℕ) (m : Marked-by ts list from (to + 1) x) → (eqb (m .place) to ≡ true) ⊎ (eqb (m .place) to ≡ false) → in-set t x ≡ true
     all x m (inl e) =

@@ -1,6 +1,6 @@
 -- Laws of stores: entries in front (`overwrite`), one after the other (`sets`), inside a table given by a rule.
-use Rattle.lists.specs.Kit.{_≡_, refl, ap, _∙_, sym, ap₂, _⊎_, inl, inr, cond, true, false, List, [], _∷_, _++_, map, append-nil, append-assoc, ℕ, zero}
-use Rattle.lists.specs.Kit.{suc, _+_, _-_, _<_, _≤_, min, arith, zero-add, length, take, drop, set, drop-of-length-le, getD, length-append}
+use Rattle.lists.specs.Kit.{_≡_, refl, ap, _∙_, sym, ap₂, cond, List, [], _∷_, _++_, map, append-nil, append-assoc, ℕ, zero}
+use Rattle.lists.specs.Kit.{suc, _+_, _-_, _<_, _≤_, min, arith, zero-add, length, take, drop, set, drop-of-length-le, getD, length-append, ⊎-elim}
 use Rattle.lists.specs.Kit.{take-append-drop, take-at, take-all, drop-cons, set-at, set-append-left, getD-take, sets, set-out, drop-nil, drop-at}
 use Rattle.lists.specs.Kit.{drop-drop, eqb, ltb, eq-eqb, ne-eqb, ltb-true, ltb-false}
 use Rattle.lists.specs.Lists.{overwrite, range}
@@ -94,13 +94,10 @@ sets-full old i (x ∷ xs) h =
     let same = set-out old i x h in rw same (sets-full old (suc i) xs (omega arith))
 
 pub sets-min : (old : List ℕ) (i : ℕ) (xs : List ℕ) → sets old (min (length old) i) xs ≡ sets old i xs
-sets-min old i xs = go (bool-cases (ltb i (length old)))
-  where
-    go : (ltb i (length old) ≡ true) ⊎ (ltb i (length old) ≡ false) → sets old (min (length old) i) xs ≡ sets old i xs
-    go (inl e) = let p : min (length old) i ≡ i = omega (arith, ltb-true i (length old) e) in ap (λ (k : ℕ). sets old k xs) p
-    go (inr e) =
-        let l = ltb-false i (length old) e in
-        sets-full old (min (length old) i) xs (omega arith) ∙ sym (sets-full old i xs l)
+sets-min old i xs =
+    ⊎-elim (λ e. let p : min (length old) i ≡ i = omega (arith, ltb-true i (length old) e) in ap (λ (k : ℕ). sets old k xs) p)
+    (λ e. let l = ltb-false i (length old) e in sets-full old (min (length old) i) xs (omega arith) ∙ sym (sets-full old i xs l))
+    (bool-cases (ltb i (length old)))
 
 -- stores from a place on leave what stands before it
 pub sets-drop : (old : List ℕ) (i : ℕ) (xs : List ℕ) → i ≤ length old → take i old ++ sets (drop i old) 0 xs ≡ sets old i xs

@@ -1,6 +1,6 @@
 -- Laws of parts: parts of equal length joined, a part of a part, lists of bytes, zeros.
-use Rattle.lists.specs.Kit.{_≡_, sym, ap, _∙_, refl, ap₂, _⊎_, inl, inr, Bool, true, false, cond, List, [], _∷_, _++_, flatMap, ℕ, zero, suc, _+_, _*_}
-use Rattle.lists.specs.Kit.{_<_, _≤_, min, _-_, arith, mul-suc, zero-min, suc-min-suc, sub-zero, zero-sub, suc-sub-suc, add-one, replicate}
+use Rattle.lists.specs.Kit.{_≡_, sym, ap, _∙_, refl, ap₂, Bool, true, false, cond, List, [], _∷_, _++_, flatMap, ℕ, zero, suc, _+_, _*_}
+use Rattle.lists.specs.Kit.{_<_, _≤_, min, _-_, arith, mul-suc, zero-min, suc-min-suc, sub-zero, zero-sub, suc-sub-suc, add-one, replicate, ⊎-elim}
 use Rattle.lists.specs.Kit.{length-replicate, getD-replicate, length, getD, take, drop, length-append, List·getD-append, length-drop, take-append-drop}
 use Rattle.lists.specs.Kit.{List·getD-eq-default, getD-append-add, drop-append-add, take-at, drop-drop, take-take, getD-drop, take-nil, drop-cons, ltb}
 use Rattle.lists.specs.Kit.{ltb-true, ltb-false}
@@ -102,11 +102,9 @@ take-drop-take (suc k) m (suc s) (x ∷ xs) h = take-drop-take k m s xs (omega a
 
 -- a place past the end reads as zero
 pub getD-bytes : (bs : List ℕ) → Bytes bs → (i : ℕ) → getD bs i 0 < 256
-getD-bytes bs b i = go (bool-cases (ltb i (length bs)))
-  where
-    go : (ltb i (length bs) ≡ true) ⊎ (ltb i (length bs) ≡ false) → getD bs i 0 < 256
-    go (inl e) = b i (ltb-true i (length bs) e)
-    go (inr e) = rw (List·getD-eq-default bs 0 {n = i} (ltb-false i (length bs) e)) (omega arith)
+getD-bytes bs b i =
+    ⊎-elim (λ e. b i (ltb-true i (length bs) e)) (λ e. rw (List·getD-eq-default bs 0 {n = i} (ltb-false i (length bs) e)) (omega arith))
+    (bool-cases (ltb i (length bs)))
 
 pub bytes-cons : (x : ℕ) (bs : List ℕ) → x < 256 → Bytes bs → Bytes (x ∷ bs)
 bytes-cons x bs h b zero l = h

@@ -5,6 +5,7 @@
 --   nobody-none         nobody exactly when there are none
 use Rattle.lists.{specs.Kit.{_≡_, refl, ap, _⊎_, inl, inr, _↔_, Bool, true, false, List, [], _∷_, _++_, ℕ, zero, suc, _<_, arith, eqb, length, getD, drop}}
 use Rattle.lists.{specs.Kit.{eqb-true, eq-eqb, ne-eqb}, specs.Lists.{filter, head-or, In}, proofs.Tests.{bool-cases}, proofs.Filter.{in-filter}}
+use Rattle.lists.specs.Kit.{⊎-elim}
 use Rattle.mesh.specs.{Orders.{later-in, nobody, First-later}}
 
 -- ---- the first entry that passes a test
@@ -53,11 +54,8 @@ module _ (f : ℕ → ℕ → Bool) (v : ℕ) where
   pub in-later-in : (xs : List ℕ) (u : ℕ) → In u (later-in f v xs) → In u xs
   unfolding later-in
   in-later-in [] u m = m
-  in-later-in (x ∷ xs) u m = go (in-later-in xs u) (bool-cases (eqb x v))
-    where
-      go : (In u (later-in f v xs) → In u xs) → (eqb x v ≡ true) ⊎ (eqb x v ≡ false) → (x ≡ u) ⊎ In u xs
-      go rec (inl t) = inr (in-filter (f v) xs u (rw t at m) .0)
-      go rec (inr t) = inr (rec (rw t at m))
+  in-later-in (x ∷ xs) u m = let rec = in-later-in xs u in
+      ⊎-elim (λ t. inr (in-filter (f v) xs u (rw t at m) .0)) (λ t. inr (rec (rw t at m))) (bool-cases (eqb x v))
 
   pub first-is-first : (xs : List ℕ) → 0 < length (later-in f v xs) → First-later f v (head-or nobody (later-in f v xs)) xs
   unfolding later-in head-or

@@ -1,20 +1,20 @@
 -- An accepted link call on a site: its peel, the numbers after it, the changed radios, and document 01's new order, which is
 -- the peel's. Up and down alike.
-use Rattle.lists.{specs.Kit.{_≡_, refl, sym, ap, subst, _∙_, _⊎_, inl, inr, Bool, true, false, _&&_, _||_, not, cond, Bool·not-not, List, _++_, append-assoc}}
-use Rattle.lists.{specs.Kit.{ℕ, suc, _-_, _≤_, _<_, arith, ltb, eqb, length, ltb-true, eqb-true, eqb-false, eq-eqb, ne-eqb, not-true, not-false}}
+use Rattle.lists.specs.Kit.{_≡_, refl, sym, ap, subst, _∙_, _⊎_, inl, inr, Bool, true, false, _&&_, _||_, not, cond, Bool·not-not, List, _++_, append-assoc}
+use Rattle.lists.specs.Kit.{ℕ, suc, _-_, _≤_, _<_, arith, ltb, eqb, length, ltb-true, eqb-true, eqb-false, eq-eqb, ne-eqb, not-true, not-false, ⊎-elim}
 use Rattle.lists.{specs.Lists.{range, filter, member, In}, specs.Facts.{Distinct}, proofs.Tests.{bool-cases, never, and-both, or-cases, or-left, or-right}}
 use Rattle.lists.{proofs.Member.{in-cases, member-in, in-member, not-member}, proofs.Count.{count-pos}, proofs.Range.{in-range, range-in, once-in, once-below}}
 use Rattle.lists.{proofs.Range.{once-distinct}, proofs.Distinct.{permutation-in}, proofs.Filter.{in-filter, filter-in, member-filter, filter-ext}}
-use Rattle.lists.{proofs.Filter.{distinct-filter}}
+use Rattle.lists.proofs.Filter.{distinct-filter}
 use Rattle.mesh.specs.{Graph.{Graph, radios, linked, neighbours-in, relinked, proper, new-links, Allowed}, Cores.{Group, number}, Orders.{is-k-order}}
-use Rattle.mesh.specs.{Levels.{changed, lower-level, stretch-start, stretch-length, laid-out, stretch-up, stretch-down, new-stretch, with-stretch}}
+use Rattle.mesh.specs.Levels.{changed, lower-level, stretch-start, stretch-length, laid-out, stretch-up, stretch-down, new-stretch, with-stretch}
 use Rattle.mesh.specs.{Levels.{new-order}, Peel.{Takes, bound}, Valid.{Valid, smaller, larger}}
-use Rattle.mesh.proofs.{GraphLaws.{linked-sym, proper-of, of-proper, proper-new-links, linked-self, relinked-adds, Adds}}
+use Rattle.mesh.proofs.GraphLaws.{linked-sym, proper-of, of-proper, proper-new-links, linked-self, relinked-adds, Adds}
 use Rattle.mesh.proofs.{Cores.Certificate.{Certificate}, Cores.Peeling.{number-core}, Cores.KOrders.{k-order-certificate, certificate-number}}
 use Rattle.mesh.proofs.{Cores.KOrders.{certificate-k-order}, Links.Peel.{Peeling, takes-permutation, takes-now-filter, laid-out-is, length-taken}}
-use Rattle.mesh.proofs.{Links.PeelSound.{Moves, Peeled-level, new-list, new-number, new-stuck, new-taken, new-else, taken-level, stuck-level, apart}}
+use Rattle.mesh.proofs.Links.PeelSound.{Moves, Peeled-level, new-list, new-number, new-stuck, new-taken, new-else, taken-level, stuck-level, apart}
 use Rattle.mesh.proofs.{Links.PeelSound.{peel-certificate}, Links.Moves.{link-moves}, Links.LevelCut.{lows, mids, highs, level-cut, stretch-start-is}}
-use Rattle.mesh.proofs.{Links.LevelCut.{stretch-length-is, take-below, take-level, drop-above}}
+use Rattle.mesh.proofs.Links.LevelCut.{stretch-length-is, take-below, take-level, drop-above}
 
 -- ---- both ends of a link have a number above 0
 
@@ -159,12 +159,10 @@ module _ (most : ℕ) (u : Bool) (a b : ℕ) (g : Graph) (xs : List ℕ) (valid 
 
     -- changed radios stood at the lower end's level
     pub changed-level : (v : ℕ) → member v (changed u a b g) ≡ true → number g v ≡ K
-    changed-level v m = go (bool-cases (eqb (number g v) K))
-      where
-        go : (eqb (number g v) K ≡ true) ⊎ (eqb (number g v) K ≡ false) → number g v ≡ K
-        go (inl e) = eqb-true (number g v) K e
-        go (inr e) =
-            absurd (changed-differs u a b g v m (sym (number-else v (changed-below u a b g v m) (eqb-false (number g v) K e))))
+    changed-level v m =
+        ⊎-elim (λ e. eqb-true (number g v) K e)
+        (λ e. absurd (changed-differs u a b g v m (sym (number-else v (changed-below u a b g v m) (eqb-false (number g v) K e)))))
+        (bool-cases (eqb (number g v) K))
 
     changed-taken : (v : ℕ) → v < g .n → In v taken → member v (changed u a b g) ≡ not u
     changed-taken v l m = changed-member u a b g v l ∙ go u refl

@@ -2,8 +2,8 @@
 -- has the link, and include an end of it.
 -- Why: take the radios that one of them reaches over changed radios. With no end among them, they and the radios above the level
 -- would be a group of the larger number in the graph without the link already.
-use Rattle.lists.{specs.Kit.{_≡_, refl, sym, ap, _∙_, _⊎_, inl, inr, Bool, true, false, _||_, List, [], _∷_, ℕ, suc, _≤_, _<_, arith, le-trans, le-of-eq, leb}}
-use Rattle.lists.{specs.Kit.{leb-true, le-leb}, specs.Lists.{member}, proofs.Tests.{bool-cases, never, or-cases, or-left, or-right}}
+use Rattle.lists.specs.Kit.{_≡_, refl, sym, ap, _∙_, _⊎_, inl, inr, Bool, true, false, _||_, List, [], _∷_, ℕ, suc, _≤_, _<_, arith, le-trans, le-of-eq, leb}
+use Rattle.lists.{specs.Kit.{leb-true, le-leb, ⊎-elim}, specs.Lists.{member}, proofs.Tests.{bool-cases, never, or-cases, or-left, or-right}}
 use Rattle.mesh.specs.{Graph.{Graph, linked, neighbours-in}, Cores.{Group, number}, Connected.{Reachable, here, onward, reached}}
 use Rattle.mesh.proofs.{GraphLaws.{Ends, Adds, adds-cases, adds-has, linked-sym, neighbours-in-mono}, Cores.Certificate.{core-enough}}
 use Rattle.mesh.proofs.{Cores.Peeling.{number-core}, Trees.Reach.{reachable-passes, reachable-trans, reachable-sym, reached-iff}}
@@ -91,8 +91,4 @@ module _ {p q : Graph} {a b : ℕ} (apart : Adds p q a b) (a-radio : a < q .n) (
 
   -- an end is among them
   pub changed-has-end : (v : ℕ) → over v ≡ true → (over a ≡ true) ⊎ (over b ≡ true)
-  changed-has-end v m = go (reaches-end v m)
-    where
-      go : Reachable q over v a ⊎ Reachable q over v b → (over a ≡ true) ⊎ (over b ≡ true)
-      go (inl x) = inl (reachable-passes m x)
-      go (inr x) = inr (reachable-passes m x)
+  changed-has-end v m = ⊎-elim (λ x. inl (reachable-passes m x)) (λ x. inr (reachable-passes m x)) (reaches-end v m)

@@ -5,13 +5,13 @@
 --   place-mark       a name and an image make a mark, and are what it holds
 --   mark-place       a mark is the place of its name and its image
 -- In order: zeros, places, the store, one place.
-use Rattle.lists.{specs.Kit.{_≡_, refl, sym, ap, ap₂, _∙_, _⊎_, inl, inr, Bool, true, false, _&&_, cond, List, [], _∷_, _++_, flatMap, append-assoc, ℕ, zero}}
-use Rattle.lists.{specs.Kit.{suc, _+_, _*_, _-_, _≤_, _<_, arith, zero-add, suc-add, mul-suc, leb, eqb, length, take, drop, replicate, length-append}}
-use Rattle.lists.{specs.Kit.{length-drop, length-replicate, take-append-drop, List·getD-append, take-at, drop-at, drop-drop, length-take-le, eqb-true, ne-eqb}}
+use Rattle.lists.specs.Kit.{_≡_, refl, sym, ap, ap₂, _∙_, Bool, true, false, _&&_, cond, List, [], _∷_, _++_, flatMap, append-assoc, ℕ, zero}
+use Rattle.lists.specs.Kit.{suc, _+_, _*_, _-_, _≤_, _<_, arith, zero-add, suc-add, mul-suc, leb, eqb, length, take, drop, replicate, length-append, ⊎-elim}
+use Rattle.lists.specs.Kit.{length-drop, length-replicate, take-append-drop, List·getD-append, take-at, drop-at, drop-drop, length-take-le, eqb-true, ne-eqb}
 use Rattle.lists.{specs.Kit.{leb-true}, specs.Lists.{all}, proofs.Tests.{never, and-left, and-right, and-both, or-cases}}
 use Rattle.mesh.specs.{Limits.{max-radios}, Image.{block-bytes, block-count, word-at, image-graph, image-order, is-image}, Marks.{name-bytes}}
-use Rattle.mesh.specs.{Marks.{place-bytes, places, store-bytes, is-alphanumeric, is-name, before, is-zeros, name-in, image-size, image-in, is-mark}}
-use Rattle.mesh.specs.{Marks.{place-of, places-of, used, marks-in, are-marks, is-store, store-of}}
+use Rattle.mesh.specs.Marks.{place-bytes, places, store-bytes, is-alphanumeric, is-name, before, is-zeros, name-in, image-size, image-in, is-mark}
+use Rattle.mesh.specs.Marks.{place-of, places-of, used, marks-in, are-marks, is-store, store-of}
 use Rattle.mesh.proofs.{Tables.DegreeSum.{block-count-most}, Tables.Sites.{image-valid}, Images.Of.{length-image-of}, Images.Sites.{written-read}}
 use Rattle.mesh.proofs.{Images.Canonical.{length-image-links}, Marks.Lists.{Rising-marks}}
 
@@ -40,11 +40,9 @@ zeros-take (suc k) (b ∷ bs) h =
 
 alphanumeric-more : (c : ℕ) → is-alphanumeric c ≡ true → 0 < c
 unfolding is-alphanumeric
-alphanumeric-more c h = go (or-cases (leb 65 c && leb c 90) (leb 48 c && leb c 57) h)
-  where
-    go : ((leb 65 c && leb c 90) ≡ true) ⊎ ((leb 48 c && leb c 57) ≡ true) → 0 < c
-    go (inl e) = omega (arith, leb-true 65 c (and-left (leb 65 c) (leb c 90) e))
-    go (inr e) = omega (arith, leb-true 48 c (and-left (leb 48 c) (leb c 57) e))
+alphanumeric-more c h =
+    ⊎-elim (λ e. omega (arith, leb-true 65 c (and-left (leb 65 c) (leb c 90) e))) (λ e. omega (arith, leb-true 48 c (and-left (leb 48 c) (leb c 57) e)))
+    (or-cases (leb 65 c && leb c 90) (leb 48 c && leb c 57) h)
 
 mark-name : (n : ℕ) (p : List ℕ) → is-mark n p ≡ true → is-name (name-in p) ≡ true
 unfolding is-mark

@@ -3,7 +3,8 @@
 --   found-at           then that place is the mark
 --   with-at, with-new  a mark set is put at its rank, in place of the one of its name or before the ones that follow
 --   without-at         a mark removed leaves the places before and after it
-use Rattle.lists.{specs.Kit.{_≡_, refl, ap, _∙_, _⊎_, inl, inr, Bool, true, false, cond, List, [], _∷_, _++_, ℕ, suc, _≤_, arith, length, getD, take, drop}}
+use Rattle.lists.specs.Kit.{_≡_, refl, ap, _∙_, _⊎_, inl, inr, Bool, true, false, cond, List, [], _∷_, _++_, ℕ, suc, _≤_, arith, length, getD, take, drop}
+use Rattle.lists.specs.Kit.{⊎-elim}
 use Rattle.lists.{specs.Lists.{same}, proofs.Tests.{bool-cases, never}, proofs.All.{same-refl, same-eq}}
 use Rattle.mesh.specs.{Marks.{before, name-in, has-mark, found, with-mark, without-mark}, MarkPlaces.{rank, heads}}
 use Rattle.mesh.proofs.Marks.{NameOrder.{before-trans, before-self, before-total}, Lists.{Rising-marks, absent}}
@@ -11,25 +12,13 @@ use Rattle.mesh.proofs.Marks.{NameOrder.{before-trans, before-self, bef
 -- ---- two names
 
 pub differ-before : (x y : List ℕ) → before x y ≡ true → same x y ≡ false
-differ-before x y p = go (bool-cases (same x y))
-  where
-    go : (same x y ≡ true) ⊎ (same x y ≡ false) → same x y ≡ false
-    go (inl e) = absurd (before-self y (rw (same-eq x y e) at p))
-    go (inr e) = e
+differ-before x y p = ⊎-elim (λ e. absurd (before-self y (rw (same-eq x y e) at p))) (λ e. e) (bool-cases (same x y))
 
 one-way : (x y : List ℕ) → before x y ≡ true → before y x ≡ false
-one-way x y p = go (bool-cases (before y x))
-  where
-    go : (before y x ≡ true) ⊎ (before y x ≡ false) → before y x ≡ false
-    go (inl e) = absurd (before-self x (before-trans x y x p e))
-    go (inr e) = e
+one-way x y p = ⊎-elim (λ e. absurd (before-self x (before-trans x y x p e))) (λ e. e) (bool-cases (before y x))
 
 not-itself : (x y : List ℕ) → same x y ≡ true → before y x ≡ false
-not-itself x y p = go (bool-cases (before y x))
-  where
-    go : (before y x ≡ true) ⊎ (before y x ≡ false) → before y x ≡ false
-    go (inl e) = absurd (before-self y (rw (same-eq x y p) at e))
-    go (inr e) = e
+not-itself x y p = ⊎-elim (λ e. absurd (before-self y (rw (same-eq x y p) at e))) (λ e. e) (bool-cases (before y x))
 
 after-both : (x y : List ℕ) → before x y ≡ false → same x y ≡ false → before y x ≡ true
 after-both x y p q = before-total x y p (go (bool-cases (same y x)))

@@ -1,12 +1,12 @@
 -- Laws of the shell tree's sets.
 -- In order: shells, connected cores as sets, node sets (they are the connected cores with a radio of their own level), names,
 -- parents (there is one at most).
-use Rattle.lists.{specs.Kit.{_≡_, refl, sym, _∙_, _⊎_, inl, inr, _↔_, Bool, true, false, List, [], _∷_, ℕ, suc, _≤_, _<_, arith, le-antisymm, eqb, eqb-true}}
-use Rattle.lists.{specs.Kit.{eqb-false, eq-eqb}, specs.Lists.{member, In}, proofs.Tests.{bool-cases}, proofs.Member.{member-in, in-member}}
-use Rattle.lists.{proofs.Filter.{in-filter, filter-in}}
+use Rattle.lists.specs.Kit.{_≡_, refl, sym, _∙_, inl, inr, _↔_, Bool, true, List, [], _∷_, ℕ, suc, _≤_, _<_, arith, le-antisymm, eqb, eqb-true}
+use Rattle.lists.{specs.Kit.{eqb-false, eq-eqb, ⊎-elim}, specs.Lists.{member, In}, proofs.Tests.{bool-cases}, proofs.Member.{member-in, in-member}}
+use Rattle.lists.proofs.Filter.{in-filter, filter-in}
 use Rattle.mesh.specs.{Graph.{Graph}, Cores.{number}, Connected.{In-core, core-of}, Tree.{Core-set, Node-set, Named, Contains, Parent, shell}}
 use Rattle.mesh.proofs.Trees.{Reach.{core-of-iff}, CoreLevels.{in-core-here, in-core-below, in-core-level, in-core-sym, in-core-trans, in-core-mono}}
-use Rattle.mesh.proofs.Trees.{CoreLevels.{in-core-lower}}
+use Rattle.mesh.proofs.Trees.CoreLevels.{in-core-lower}
 
 -- the connected core of v at level k, as a set
 abbrev pub core-has : Graph → (v k w : ℕ) → Bool
@@ -82,11 +82,9 @@ module _ (g : Graph) where
   }
     where
       above : (x : ℕ) → In-core g (c .radio) k x → suc k ≤ number g x
-      above x r = let l = in-core-below g (c .radio) k x (c .is-radio) r in go (bool-cases (eqb (number g x) k)) l
-        where
-          go : (eqb (number g x) k ≡ true) ⊎ (eqb (number g x) k ≡ false) → x < g .n → suc k ≤ number g x
-          go (inl e) l = absurd (none x l (c .reaches x l .1 r) (eqb-true (number g x) k e))
-          go (inr e) l = omega (arith, eqb-false (number g x) k e, in-core-level g (c .radio) k x (c .level) r)
+      above x r = let l = in-core-below g (c .radio) k x (c .is-radio) r in
+          ⊎-elim (λ e. absurd (none x l (c .reaches x l .1 r) (eqb-true (number g x) k e)))
+          (λ e. omega (arith, eqb-false (number g x) k e, in-core-level g (c .radio) k x (c .level) r)) (bool-cases (eqb (number g x) k))
 
   -- a node set has a shell
   pub node-set-shell : {k : ℕ} {s : ℕ → Bool} → Node-set g k s → (x : ℕ) × (x < g .n) × (s x ≡ true) × (number g x ≡ k)

@@ -14,25 +14,10 @@ shared-slice-read-join-row : tie.Need-shared-slice-read-join-row Inv-loop μ-loo
 shared-slice-read-join-row c = omega (arith, c .before .loop-test .taken, c .before .before .before .before .before .before .pre .1)
 
 loop-again : tie.Need-loop-again Inv-loop μ-loop
-loop-again c =
-    let joined = c .before .before in
-    let test = joined .before .before .before in
-    let at-loop = test .before in
-    let start = at-loop .before .before .before .before in
-    let inv = at-loop .loop .inv in (
-      omega (arith, inv .0),
-      omega (arith, test .loop-test .taken),
-      search needs,
-      rows-joined-turn (start .args .links .now) (start .args .list .now) (start .args .from) (at-loop .loop .i) (start .args .set .now) (at-loop .loop .set) _ (inv .0)
-          (joined .join-row .ensures) (inv .3),
-    )
+loop-again c = search (needs, rows-joined-turn)
 
 returns : tie.Need-returns Inv-loop μ-loop
-returns c =
-    let at-loop = c .before in
-    let start = at-loop .before .before .before .before in
-    rows-joined-end (start .args .links .now) (start .args .list .now) (start .args .from) (start .args .to) (at-loop .loop .i) (start .args .set .now) (at-loop .loop .set)
-    (c .loop-test .left) (at-loop .loop .inv .1) (at-loop .loop .inv .3)
+returns c = search (needs, rows-joined-end)
 
 pub join-rows-spec : {M : Type 1} → statement M
 join-rows-spec =

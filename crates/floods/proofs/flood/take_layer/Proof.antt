@@ -5,13 +5,7 @@ use Rattle.floods.proofs.{FloodSteps.{layer-taken}, flood.take_layer.St
 use Rattle.floods.proofs.flood.take_layer.Tie as tie
 
 returns : tie.Need-returns
-returns c =
-    let taken = c .before .before .before .before in
-    let joined = taken .before .before .before .before .before in
-    let start = joined .before .before .before .before .before .before in
-    let call = start .args in
-    layer-taken (call .links .now) (call .from) (call .set .now) (call .queue .now) (call .count) _ _ _ _ (start .pre .1) (search needs)
-    (joined .join-rows .ensures) (taken .take-common .ensures)
+returns c = search (needs, layer-taken)
 
 pub take-layer-spec : {M : Type 1} → statement M
 take-layer-spec =

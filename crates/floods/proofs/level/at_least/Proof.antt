@@ -11,9 +11,7 @@ abbrev μ-loop : tie.MeasureT-loop
 μ-loop numbers level set₀ k₀ set k = 8 - k
 
 loop-again : tie.Need-loop-again Inv-loop μ-loop
-loop-again c =
-    let at-loop = c .before .before in
-    level-setting-turn _ _ (at-loop .loop .k) _ (at-loop .loop .set) (c .before .loop-test .taken) (c .level-word .ensures) (at-loop .loop .inv)
+loop-again c = search (needs, level-setting-turn)
 
 pub at-least-spec : {M : Type 1} → statement M
 at-least-spec =
