@@ -1,7 +1,8 @@
 -- Laws of `decimal`: one digit, a digit more, the length, and that every byte is a digit.
-use Rattle.lists.{specs.Kit.{_≡_, refl, sym, ap, _∙_, _⊎_, inl, inr, true, false, List, [], _∷_, _++_, append-nil, append-assoc, ℕ, zero, suc, _+_, _*_, _/_}}
-use Rattle.lists.{specs.Kit.{_%_, _^_, _≤_, _<_, arith, pow-succ', ltb, length, drop, set, length-append, length-set, drop-of-length-le, ltb-true, ltb-false}}
-use Rattle.lists.{proofs.Tests.{bool-cases}}
+use Rattle.lists.specs.Kit.{_≡_, refl, sym, ap, _∙_, List, [], _∷_, _++_, append-nil, append-assoc, ℕ, zero, suc, _+_, _*_, _/_}
+use Rattle.lists.specs.Kit.{_%_, _^_, _≤_, _<_, arith, pow-succ', ltb, length, drop, set, length-append, length-set, drop-of-length-le, ltb-true, ltb-false}
+use Rattle.lists.specs.Kit.{⊎-elim}
+use Rattle.lists.proofs.Tests.{bool-cases}
 use Rattle.text.specs.Text.{digit-byte, digits-in, decimal}
 
 -- ---- digits-in
@@ -62,12 +63,9 @@ length-decimal-more x h = rw (decimal-more x h) (length-append (decimal (x / 10)
 -- a number below 10 ^ k has at most k digits
 pub length-decimal-le : (k x : ℕ) → x < 10 ^ suc k → length (decimal x) ≤ suc k
 length-decimal-le zero x h = omega (arith, length-decimal-digit x (omega arith))
-length-decimal-le (suc k) x h = go (length-decimal-le k (x / 10)) (bool-cases (ltb x 10))
-  where
-    go : (x / 10 < 10 ^ suc k → length (decimal (x / 10)) ≤ suc k) → (ltb x 10 ≡ true) ⊎ (ltb x 10 ≡ false) → length (decimal x) ≤ suc (suc k)
-    go rec (inl e) = omega (arith, length-decimal-digit x (ltb-true x 10 e))
-    go rec (inr e) =
-        omega (arith, length-decimal-more x (ltb-false x 10 e), rec (omega (arith, pow-succ' 10 (suc k))))
+length-decimal-le (suc k) x h = let rec = length-decimal-le k (x / 10) in
+    ⊎-elim (λ e. omega (arith, length-decimal-digit x (ltb-true x 10 e)))
+    (λ e. omega (arith, length-decimal-more x (ltb-false x 10 e), rec (omega (arith, pow-succ' 10 (suc k))))) (bool-cases (ltb x 10))
 
 -- ---- digits filled in from the last on, place i the next
 

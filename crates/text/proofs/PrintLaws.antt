@@ -1,7 +1,7 @@
 -- Laws of `put`: one text after another, lengths, the place, and what stands in the buffer where the text fits.
-use Rattle.lists.{specs.Kit.{_≡_, refl, sym, ap, _∙_, _⊎_, inl, inr, true, false, cond, List, [], _∷_, _++_, map, ℕ, suc, _+_, _≤_, _<_, min, arith}}
-use Rattle.lists.{specs.Kit.{add-one, ltb, length, take, drop, getD, set, length-set, drop-of-length-le, drop-cons, set-out, sets, sets-eq, lt-ltb, le-ltb}}
-use Rattle.lists.{specs.Kit.{ltb-true, ltb-false}, proofs.Tests.{bool-cases}}
+use Rattle.lists.specs.Kit.{_≡_, refl, sym, ap, _∙_, true, false, cond, List, [], _∷_, _++_, map, ℕ, suc, _+_, _≤_, _<_, min, arith}
+use Rattle.lists.specs.Kit.{add-one, ltb, length, take, drop, getD, set, length-set, drop-of-length-le, drop-cons, set-out, sets, sets-eq, lt-ltb, le-ltb}
+use Rattle.lists.{specs.Kit.{ltb-true, ltb-false, ⊎-elim}, proofs.Tests.{bool-cases}}
 use Rattle.text.specs.{Text.{space, line-feed, decimal, further-fields}, Print.{Buffer, buffer-at, max-place, next-place, put, Puts}}
 
 -- ---- one byte
@@ -102,11 +102,8 @@ next-place-below at h = rw (lt-ltb at max-place h)
 
 next-place-min : (at : ℕ) → at ≤ max-place → next-place at ≡ min (at + 1) max-place
 unfolding next-place
-next-place-min at h = go (bool-cases (ltb at max-place))
-  where
-    go : (ltb at max-place ≡ true) ⊎ (ltb at max-place ≡ false) → cond (ltb at max-place) (at + 1) at ≡ min (at + 1) max-place
-    go (inl e) = rw e (omega (arith, ltb-true at max-place e))
-    go (inr e) = rw e (omega (arith, ltb-false at max-place e))
+next-place-min at h =
+    ⊎-elim (λ e. rw e (omega (arith, ltb-true at max-place e))) (λ e. rw e (omega (arith, ltb-false at max-place e))) (bool-cases (ltb at max-place))
 
 -- the place after a text is its length further on, at most the largest
 pub at-put : (b : Buffer) (xs : List ℕ) → b .at ≤ max-place → put b xs .at ≡ min (b .at + length xs) max-place

@@ -9,14 +9,10 @@ returns c =
     puts-byte-in (call .buffer .now) (call .at) (call .byte) (omega arith)
 
 returns-2 : tie.Need-returns-2
-returns-2 c =
-    let call = c .before .before .args in
-    puts-byte-past (call .buffer .now) (call .at) (call .byte) (omega arith) (omega arith)
+returns-2 c = search (needs, puts-byte-past)
 
 returns-3 : tie.Need-returns-3
-returns-3 c =
-    let call = c .before .before .args in
-    puts-byte-last (call .buffer .now) (call .at) (call .byte) (omega arith) (omega arith)
+returns-3 c = search (needs, puts-byte-last)
 
 pub put-byte-spec : {M : Type 1} → statement M
 put-byte-spec =

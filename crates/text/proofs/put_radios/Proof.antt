@@ -11,10 +11,7 @@ abbrev μ-loop : tie.MeasureT-loop
 μ-loop buffer₀ at radios place₀ i₀ buffer place i = length radios - i
 
 loop-again : tie.Need-loop-again Inv-loop μ-loop
-loop-again c =
-    let at-loop = c .before .before .before .before .before .before .before in
-    let entry = c .before .before .before .wide16 in
-    fields-next (entry .result) (omega arith) (entry .ensures) (at-loop .loop .inv) (c .before .before .put-field .ensures)
+loop-again c = search (needs, fields-next)
 
 same-length : tie.Need-same-length Inv-loop μ-loop
 same-length c = c .before .before .put-byte .kept .0 ∙ length-putting (c .before .before .before .before .before .loop .inv .is)
