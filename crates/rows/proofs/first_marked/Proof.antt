@@ -33,17 +33,6 @@ returns-2 c =
     (marked-read links bytes (given .before .args .a) k (read .word-at .result) (read .word-at .ensures))
     (at-loop .loop .inv) (read-less links bytes _ (read .word-at .ensures)) (c .if2 .taken))
 
-loop-again : tie.Need-loop-again Inv-loop μ-loop
-loop-again c =
-    let read = c .before in
-    let at-loop = read .before .before in
-    let given = at-loop .before .before in
-    let k = at-loop .loop .k in
-    searching-turn _ k _ (read .before .loop-test .taken)
-    (marked-read (given .before .args .links .now) (λ j. given .shared-slice-known .given j .fits) (given .before .args .a) k (read .word-at .result)
-    (read .word-at .ensures))
-    (at-loop .loop .inv) (c .if2 .left)
-
 returns-3 : tie.Need-returns-3 Inv-loop μ-loop
 unfolding neighbours-of
 returns-3 c =
@@ -53,9 +42,16 @@ returns-3 c =
     ∙ searching-end _ (c .before .loop .k) (c .loop-test .left) (c .before .loop .inv))
 
 pub first-marked-spec : {M : Type 1} → statement M
-first-marked-spec =
-    tie.close (
-    tie.spec Inv-loop μ-loop (λ c. search needs) (λ c. search needs) returns (λ c. (omega arith, refl)) (λ c. search needs) (λ c. search needs)
-    (λ c. search needs)
-    (λ c κs. search needs) (λ c. search needs) (λ c. omega (arith, trailing-le 64 (c .before .word-at .result))) returns-2 (λ c. search needs)
-    (λ c. search needs) loop-again returns-3)
+first-marked-spec = tie.close (tie.spec Inv-loop μ-loop (λ c. search needs) (λ c. search needs) returns (λ c. (omega arith, refl)) (λ c. search needs)
+    (λ c. search needs) (λ c. search needs) (λ c κs. search needs) (λ c. search needs) (λ c. omega (arith, trailing-le 64 (c .before .word-at .result)))
+    returns-2 (λ c. search needs) (λ c. search needs)
+    (λ c.
+    let read = c .before in
+    let at-loop = read .before .before in
+    let given = at-loop .before .before in
+    let k = at-loop .loop .k in
+    searching-turn _ k _ (read .before .loop-test .taken)
+    (marked-read (given .before .args .links .now) (λ j. given .shared-slice-known .given j .fits) (given .before .args .a) k (read .word-at .result)
+    (read .word-at .ensures))
+    (at-loop .loop .inv) (c .if2 .left))
+    returns-3)

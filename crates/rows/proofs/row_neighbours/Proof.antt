@@ -14,17 +14,6 @@ returns c =
     rw (row-listed-short (call .links .now) (call .a) (c .if1 .taken))
     (omega arith, front-none (call .list .now) (min (length (call .list .now)) (suc max-neighbours)))
 
-list-words-requires : tie.Need-list-words-requires
-list-words-requires c κs =
-    let room = c .before in
-    let call = room .before .before .before .before .args in
-    record {
-      whole = room .before .if1 .left;
-      word = omega arith;
-      short = omega (arith, room .row-room .ensures, length-take (room .row-room .result) (call .list .now));
-      counted = omega arith;
-    }
-
 returns-2 : tie.Need-returns-2
 unfolding row-count
 returns-2 c =
@@ -39,7 +28,15 @@ returns-2 c =
     (omega (arith, front .0, fits), front .1 ∙ ap (λ (k : ℕ). overwrite (take k xs) (call .list .now)) fits)
 
 pub row-neighbours-spec : {M : Type 1} → statement M
-row-neighbours-spec =
-    tie.close (
-    tie.spec (λ c. search needs) (λ c. search needs) returns (λ c κs. search needs) (λ c. search needs)
-    (λ c. sym (length-take-le _ _ (omega (arith, c .before .row-room .ensures)))) list-words-requires (λ c. search needs) returns-2)
+row-neighbours-spec = tie.close (tie.spec (λ c. search needs) (λ c. search needs) returns (λ c κs. search needs) (λ c. search needs)
+    (λ c. sym (length-take-le _ _ (omega (arith, c .before .row-room .ensures))))
+    (λ c κs.
+    let room = c .before in
+    let call = room .before .before .before .before .args in
+    record {
+      whole = room .before .if1 .left;
+      word = omega arith;
+      short = omega (arith, room .row-room .ensures, length-take (room .row-room .result) (call .list .now));
+      counted = omega arith;
+    })
+    (λ c. search needs) returns-2)

@@ -16,16 +16,13 @@ returns c =
     let at-loop = c .before .before .before in
     sym (testing-stop _ _ _ (at-loop .loop .inv) (omega arith) (sym (c .before .is-good .ensures) ∙ not-true _ (c .if1 .taken)))
 
-loop-again : tie.Need-loop-again Inv-loop μ-loop
-loop-again c =
-    let at-loop = c .before .before .before in
-    testing-turn _ _ _ (at-loop .loop .inv) (omega arith) (sym (c .before .is-good .ensures) ∙ not-false _ (c .if1 .left))
-
 returns-2 : tie.Need-returns-2 Inv-loop μ-loop
 unfolding checks-good
 returns-2 c = sym (testing-end _ _ _ (c .before .loop .inv) (omega arith))
 
 pub all-good-spec : {M : Type 1} → statement M
-all-good-spec =
-    tie.close (
-    tie.spec Inv-loop μ-loop (λ c. testing-none _ _) (λ c κs. search needs) returns (λ c. search needs) (λ c. search needs) loop-again returns-2)
+all-good-spec = tie.close (tie.spec Inv-loop μ-loop (λ c. testing-none _ _) (λ c κs. search needs) returns (λ c. search needs) (λ c. search needs)
+    (λ c.
+    let at-loop = c .before .before .before in
+    testing-turn _ _ _ (at-loop .loop .inv) (omega arith) (sym (c .before .is-good .ensures) ∙ not-false _ (c .if1 .left)))
+    returns-2)

@@ -18,13 +18,25 @@ returns-3 : tie.Need-returns-3
 unfolding blocks-refusal ask whole-blocks
 returns-3 c =
     let tested = c .before .before in
-    rw (ne-eqb _ 0 (tested .before .if1 .left), eq-eqb _ 0 (tested .if2 .left), ← c .before .all-good .ensures, not-true (c .before .all-good .result) (c .if3 .taken))
+    rw (
+      ne-eqb _ 0 (tested .before .if1 .left),
+      eq-eqb _ 0 (tested .if2 .left),
+      ← c .before .all-good .ensures,
+      not-true (c .before .all-good .result)
+          (c .if3 .taken),
+    )
 
 returns-4 : tie.Need-returns-4
 unfolding blocks-refusal ask whole-blocks
 returns-4 c =
     let tested = c .before .before in
-    rw (ne-eqb _ 0 (tested .before .if1 .left), eq-eqb _ 0 (tested .if2 .left), ← c .before .all-good .ensures, not-false (c .before .all-good .result) (c .if3 .left))
+    rw (
+      ne-eqb _ 0 (tested .before .if1 .left),
+      eq-eqb _ 0 (tested .if2 .left),
+      ← c .before .all-good .ensures,
+      not-false (c .before .all-good .result)
+          (c .if3 .left),
+    )
 
 pub refusal-spec : {M : Type 1} → statement M
 refusal-spec = tie.close (tie.spec returns returns-2 (λ c κs. search needs) returns-3 returns-4)

@@ -10,14 +10,10 @@ Inv-loop image at k all₀ j₀ all j = Passing (λ (l : ℕ). eqb (getD image (
 abbrev μ-loop : tie.MeasureT-loop
 μ-loop image at k all₀ j₀ all j = k - j
 
-loop-again : tie.Need-loop-again Inv-loop μ-loop
-loop-again c = passing-turn _ _ _ _ (c .before .before .loop .inv) (omega arith)
-
 returns : tie.Need-returns Inv-loop μ-loop
 unfolding zeros
 returns c = passing-end _ _ _ _ (c .before .loop .inv) (c .loop-test .left)
 
 pub are-zeros-spec : {M : Type 1} → statement M
-are-zeros-spec =
-    tie.close (
-    tie.spec Inv-loop μ-loop (λ c. passing-none _ _) (λ c. search needs) (λ c. search needs) (λ c. search needs) (λ c. search needs) loop-again returns)
+are-zeros-spec = tie.close (tie.spec Inv-loop μ-loop (λ c. passing-none _ _) (λ c. search needs) (λ c. search needs) (λ c. search needs) (λ c. search needs)
+    (λ c. passing-turn _ _ _ _ (c .before .before .loop .inv) (omega arith)) returns)

@@ -20,6 +20,4 @@ returns-2 c =
     rw (eq-eqb _ _ (sym (header .radios-said)), ← header .links-said, ← counted .block-count .ensures, eq-eqb _ _ (else1 .if1 .left)) (c .are-formed .ensures)
 
 pub is-formed-spec : {M : Type 1} → statement M
-is-formed-spec =
-    tie.close (
-    tie.spec (λ c κs. search needs) (λ c. search needs) (λ c. search needs) returns (λ c κs. search needs) returns-2)
+is-formed-spec = tie.close (tie.spec (λ c κs. search needs) (λ c. search needs) (λ c. search needs) returns (λ c κs. search needs) returns-2)

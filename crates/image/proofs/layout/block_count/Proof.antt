@@ -17,6 +17,4 @@ unfolding order-blocks block-count blocks-for
 returns c = omega (arith, c .before .blocks-for .ensures, c .blocks-for2 .ensures)
 
 pub block-count-spec : {M : Type 1} → statement M
-block-count-spec =
-    tie.close (
-    tie.spec (λ c κs. search needs) add-result (λ c κs. search needs) add-result-2 returns)
+block-count-spec = tie.close (tie.spec (λ c κs. search needs) add-result (λ c κs. search needs) add-result-2 returns)

@@ -9,7 +9,11 @@ unfolding next-key
 returns c =
     let x = c .before .args .x in
     let sum : x ≡ x % 65536 + 65536 * (x / 65536) = omega arith in
-    rw (key-low x (x % 65536) (x / 65536) sum (omega arith) (omega arith), key-high x (x % 65536) (x / 65536) sum (omega arith) (omega arith), c .key-of .ensures)
+    rw (
+      key-low x (x % 65536) (x / 65536) sum (omega arith) (omega arith),
+      key-high x (x % 65536) (x / 65536) sum (omega arith) (omega arith),
+      c .key-of .ensures,
+    )
 
 pub is-next-spec : {M : Type 1} → statement M
 is-next-spec = tie.close (tie.spec (λ c κs. search needs) returns)

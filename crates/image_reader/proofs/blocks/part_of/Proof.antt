@@ -9,8 +9,5 @@ unfolding order-blocks
 returns c = part-is _ _ _ _ _ _ _ (c .before .blocks-for .ensures) refl refl (c .least .ensures)
 
 pub part-of-spec : {M : Type 1} → statement M
-part-of-spec =
-    tie.close (
-    tie.spec (λ c κs. search needs) (λ c. search needs) (λ c. search needs) (λ c. search needs)
-    (λ c. search needs) (λ c. search needs) (λ c. search needs) (λ c. search needs) (λ c. search needs) (λ c. search needs)
-    (λ c κs. search needs) returns)
+part-of-spec = tie.close (tie.spec (λ c κs. search needs) (λ c. search needs) (λ c. search needs) (λ c. search needs) (λ c. search needs) (λ c. search needs)
+    (λ c. search needs) (λ c. search needs) (λ c. search needs) (λ c. search needs) (λ c κs. search needs) returns)

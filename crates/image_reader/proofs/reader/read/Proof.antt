@@ -40,7 +40,5 @@ read-site-requires c κs =
     )
 
 pub read-spec : {M : Type 1} → statement M
-read-spec =
-    tie.close (
-    tie.spec (λ c κs. search needs) returns (λ c κs. search needs) returns-2 (λ c. search needs) (λ c. search laws) (λ c. search laws)
+read-spec = tie.close (tie.spec (λ c κs. search needs) returns (λ c κs. search needs) returns-2 (λ c. search needs) (λ c. search laws) (λ c. search laws)
     (λ c. search laws) (λ c. search laws) read-site-requires (λ c. search needs) (λ c. search needs) (λ c. search needs) (λ c. search needs))

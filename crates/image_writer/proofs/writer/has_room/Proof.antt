@@ -13,14 +13,10 @@ returns c =
     let m = length (links-from (start .args .n) (start .args .links .now) 0 0) in
     sym (le-leb (512 * block-count (start .args .n) m) (start .args .bytes) (omega (arith, start .pre .1, c .before .block-count .ensures, c .if1 .taken)))
 
-returns-2 : tie.Need-returns-2
-returns-2 c =
+pub has-room-spec : {M : Type 1} → statement M
+has-room-spec = tie.close (tie.spec (λ c. search needs) (λ c κs. search needs) (λ c. search needs) (λ c. search needs) returns (λ c. search needs)
+    (λ c κs. search needs) (λ c κs. search needs) (λ c. search needs) (λ c. search needs)
+    (λ c.
     let counted = c .before .before in
     let start = counted .before .before .before .before .before in
-    ap (λ (k : ℕ). leb (512 * k) (start .args .bytes)) (c .block-count2 .ensures ∙ ap (block-count (start .args .n)) (counted .count-links .ensures))
-
-pub has-room-spec : {M : Type 1} → statement M
-has-room-spec =
-    tie.close (
-    tie.spec (λ c. search needs) (λ c κs. search needs) (λ c. search needs) (λ c. search needs) returns (λ c. search needs) (λ c κs. search needs)
-    (λ c κs. search needs) (λ c. search needs) (λ c. search needs) returns-2)
+    ap (λ (k : ℕ). leb (512 * k) (start .args .bytes)) (c .block-count2 .ensures ∙ ap (block-count (start .args .n)) (counted .count-links .ensures))))

@@ -14,6 +14,4 @@ returns c =
     ∙ sym (sets-append (call .part .now) (call .at) (word (call .a)) (word (call .b)))
 
 pub put-link-spec : {M : Type 1} → statement M
-put-link-spec =
-    tie.close (
-    tie.spec (λ c κs. search needs) (λ c. search needs) (λ c κs. search needs) (λ c. search needs) returns)
+put-link-spec = tie.close (tie.spec (λ c κs. search needs) (λ c. search needs) (λ c κs. search needs) (λ c. search needs) returns)

@@ -9,6 +9,5 @@ unfolding word
 returns c = rw add-one
 
 pub put-word-spec : {M : Type 1} → statement M
-put-word-spec =
-    tie.close (
-    tie.spec (λ c. search needs) (λ c. search needs) (λ c. search needs) (λ c. search needs) (λ c. simp length-set (omega arith)) (λ c. search needs) returns)
+put-word-spec = tie.close (tie.spec (λ c. search needs) (λ c. search needs) (λ c. search needs) (λ c. search needs) (λ c. simp length-set (omega arith))
+    (λ c. search needs) returns)

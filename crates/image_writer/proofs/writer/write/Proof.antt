@@ -104,7 +104,5 @@ returns-3 c =
     write-done (s .n) t (s .buffer .now) good _ first-is fits _ _ _ (linked .fill-link-blocks .ensures) _ (filled .fill-blocks .ensures)
 
 pub write-spec : {M : Type 1} → statement M
-write-spec =
-    tie.close (
-    tie.spec (λ c κs. search needs) returns has-room-requires returns-2 (λ c κs. search needs) add-first fill-link-blocks-requires
+write-spec = tie.close (tie.spec (λ c κs. search needs) returns has-room-requires returns-2 (λ c κs. search needs) add-first fill-link-blocks-requires
     fill-blocks-requires (λ c. search needs) mul-t18 (λ c. search needs) returns-3)

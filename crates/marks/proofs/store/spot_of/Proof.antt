@@ -69,7 +69,5 @@ returns-4 c =
     )
 
 pub spot-of-spec : {M : Type 1} → statement M
-spot-of-spec =
-    tie.close (
-    tie.spec (λ c κs. search needs) (λ c κs. search needs) returns count-used-requires is-store-requires (λ c κs. search needs) returns-2
-    (λ c κs. search needs) (λ c κs. search needs) returns-3 (λ c κs. search needs) returns-4)
+spot-of-spec = tie.close (tie.spec (λ c κs. search needs) (λ c κs. search needs) returns count-used-requires is-store-requires (λ c κs. search needs)
+    returns-2 (λ c κs. search needs) (λ c κs. search needs) returns-3 (λ c κs. search needs) returns-4)

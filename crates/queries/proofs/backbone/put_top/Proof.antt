@@ -15,5 +15,4 @@ returns-2 c =
     rw (← at .before .number-in .ensures, eq-eqb _ _ (at .if1 .left)) (c .before .before .put-in .ensures)
 
 pub put-top-spec : {M : Type 1} → statement M
-put-top-spec =
-    tie.close (tie.spec (λ c κs. search needs) returns (λ c κs. search needs) (λ c. search needs) returns-2)
+put-top-spec = tie.close (tie.spec (λ c κs. search needs) returns (λ c κs. search needs) (λ c. search needs) returns-2)

@@ -11,16 +11,6 @@ Inv-loop numbers top list k set₀ i₀ set i = Folding (top-put numbers top) (t
 abbrev μ-loop : tie.MeasureT-loop
 μ-loop numbers top list k set₀ i₀ set i = k - i
 
-loop-again : tie.Need-loop-again Inv-loop μ-loop
-loop-again c =
-    let at-loop = c .before .before .before .before .before .before in
-    let start = at-loop .before .before .before .before in
-    folding-front _ (start .args .list .now) (start .args .k) (start .args .set .now) (at-loop .loop .set) _ (at-loop .loop .i) (start .pre)
-    (c .before .before .before .before .before .loop-test .taken) (c .before .before .put-top .ensures) (at-loop .loop .inv)
-
-same-length : tie.Need-same-length Inv-loop μ-loop
-same-length c = folding-long _ (length-top-put _ _) _ _ _ _ (c .before .loop .inv)
-
 returns : tie.Need-returns Inv-loop μ-loop
 unfolding tops-put
 returns c =
@@ -29,7 +19,11 @@ returns c =
     (c .before .loop .inv)
 
 pub put-tops-spec : {M : Type 1} → statement M
-put-tops-spec =
-    tie.close (
-    tie.spec Inv-loop μ-loop (λ c. folding-none _ _ _) (λ c. search needs) (λ c. search needs) (λ c κs. search needs)
-    (λ c. search needs) (λ c. search needs) loop-again same-length returns)
+put-tops-spec = tie.close (tie.spec Inv-loop μ-loop (λ c. folding-none _ _ _) (λ c. search needs) (λ c. search needs) (λ c κs. search needs)
+    (λ c. search needs) (λ c. search needs)
+    (λ c.
+    let at-loop = c .before .before .before .before .before .before in
+    let start = at-loop .before .before .before .before in
+    folding-front _ (start .args .list .now) (start .args .k) (start .args .set .now) (at-loop .loop .set) _ (at-loop .loop .i) (start .pre)
+    (c .before .before .before .before .before .loop-test .taken) (c .before .before .put-top .ensures) (at-loop .loop .inv))
+    (λ c. folding-long _ (length-top-put _ _) _ _ _ _ (c .before .loop .inv)) returns)

@@ -12,17 +12,6 @@ Inv-loop one other k₀ k = Searching (both one other) k
 abbrev μ-loop : tie.MeasureT-loop
 μ-loop one other k₀ k = 8 - k
 
-add-result : tie.Need-add-result Inv-loop μ-loop
-add-result c =
-    let test = c .before .before .before in
-    let call = test .before .before .args in
-    omega (
-      arith,
-      test .loop-test .taken,
-      trailing-le 64 (bitAnd (getD (call .one .now) (test .before .loop .k) 0)
-          (getD (call .other .now) (test .before .loop .k) 0)),
-    )
-
 returns : tie.Need-returns Inv-loop μ-loop
 unfolding common
 returns c =
@@ -35,19 +24,26 @@ returns c =
     sym (searching-found _ k _ (test .loop-test .taken) (both-word (call .one .now) (call .other .now) k) (at-loop .loop .inv)
     (and-lt 64 _ _ (first .shared-slice-known .given k .fits) (second .shared-slice-known2 .given k .fits)) (c .if1 .taken))
 
-loop-again : tie.Need-loop-again Inv-loop μ-loop
-loop-again c =
-    let test = c .before .before .before in
-    let k = test .before .loop .k in
-    let call = test .before .before .args in
-    searching-turn _ k _ (test .loop-test .taken) (both-word (call .one .now) (call .other .now) k) (test .before .loop .inv) (c .if1 .left)
-
 returns-2 : tie.Need-returns-2 Inv-loop μ-loop
 unfolding common
 returns-2 c = sym (searching-end _ (c .before .loop .k) (c .loop-test .left) (c .before .loop .inv))
 
 pub first-common-spec : {M : Type 1} → statement M
-first-common-spec =
-    tie.close (
-    tie.spec Inv-loop μ-loop (λ c. (omega arith, refl)) (λ c. search needs) (λ c. search needs) (λ c. search needs) (λ c. search needs)
-    (λ c. search needs) (λ c. search needs) (λ c. search needs) add-result returns (λ c. search needs) (λ c. search needs) loop-again returns-2)
+first-common-spec = tie.close (tie.spec Inv-loop μ-loop (λ c. (omega arith, refl)) (λ c. search needs) (λ c. search needs) (λ c. search needs)
+    (λ c. search needs) (λ c. search needs) (λ c. search needs) (λ c. search needs)
+    (λ c.
+    let test = c .before .before .before in
+    let call = test .before .before .args in
+    omega (
+      arith,
+      test .loop-test .taken,
+      trailing-le 64 (bitAnd (getD (call .one .now) (test .before .loop .k) 0)
+          (getD (call .other .now) (test .before .loop .k) 0)),
+    ))
+    returns (λ c. search needs) (λ c. search needs)
+    (λ c.
+    let test = c .before .before .before in
+    let k = test .before .loop .k in
+    let call = test .before .before .args in
+    searching-turn _ k _ (test .loop-test .taken) (both-word (call .one .now) (call .other .now) k) (test .before .loop .inv) (c .if1 .left))
+    returns-2)

@@ -10,6 +10,4 @@ unfolding numbers-line printed-line
 returns c = puts-append (c .before .before .before .before .before .before .put-text .ensures) (c .before .before .put-numbers .ensures)
 
 pub put-numbers-line-spec : {M : Type 1} → statement M
-put-numbers-line-spec =
-    tie.close (
-    tie.spec (λ c. search needs) (λ c κs. search needs) (λ c κs. search needs) (λ c. search needs) returns)
+put-numbers-line-spec = tie.close (tie.spec (λ c. search needs) (λ c κs. search needs) (λ c κs. search needs) (λ c. search needs) returns)

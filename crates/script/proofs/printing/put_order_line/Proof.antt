@@ -10,6 +10,4 @@ unfolding order-line printed-line
 returns c = puts-append (c .before .before .before .before .before .before .put-text .ensures) (c .before .before .put-radios .ensures)
 
 pub put-order-line-spec : {M : Type 1} → statement M
-put-order-line-spec =
-    tie.close (
-    tie.spec (λ c. search needs) (λ c κs. search needs) (λ c κs. search needs) (λ c. search needs) returns)
+put-order-line-spec = tie.close (tie.spec (λ c. search needs) (λ c κs. search needs) (λ c κs. search needs) (λ c. search needs) returns)

@@ -7,11 +7,6 @@ use Rattle.rows.{specs.Links.{links-to, links-above}, proofs.AboveLaws.{above-f
 use Rattle.script.proofs.{PutLaws.{above-radios}, writer.put_radio.Statement.{statement}}
 use Rattle.script.proofs.writer.put_radio.Tie as tie
 
-aggregate : tie.Need-slice-aggregate-put-row
-aggregate c =
-    let listed = c .before .before .before in
-    sym (length-take-le _ _ (omega (arith, listed .row-above .ensures .0, listed .row-above .kept .1 .1 .0)))
-
 put-row-requires : tie.Need-put-row-requires
 unfolding links-above
 put-row-requires c κs =
@@ -36,6 +31,8 @@ returns c =
     puts-as (ap (λ (bs : List ℕ). flatMap up-line (links-to (s .a) bs)) is) (put .put-row .ensures)
 
 pub put-radio-spec : {M : Type 1} → statement M
-put-radio-spec =
-    tie.close (
-    tie.spec (λ c. search needs) (λ c κs. search needs) (λ c. search needs) (λ c. search needs) aggregate put-row-requires (λ c. search needs) returns)
+put-radio-spec = tie.close (tie.spec (λ c. search needs) (λ c κs. search needs) (λ c. search needs) (λ c. search needs)
+    (λ c.
+    let listed = c .before .before .before in
+    sym (length-take-le _ _ (omega (arith, listed .row-above .ensures .0, listed .row-above .kept .1 .1 .0))))
+    put-row-requires (λ c. search needs) returns)

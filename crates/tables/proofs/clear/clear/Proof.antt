@@ -27,7 +27,5 @@ returns-2 c =
     (linked .fill8 .ensures) (numbered .fill82 .ensures) (ordered .index16 .ensures)
 
 pub clear-spec : {M : Type 1} → statement M
-clear-spec =
-    tie.close (
-    tie.spec (λ c κs. search needs) returns (λ c κs. search needs) (λ c κs. search needs) (λ c κs. search needs) (λ c. search needs) (λ c. search needs)
-    (λ c. search needs) returns-2)
+clear-spec = tie.close (tie.spec (λ c κs. search needs) returns (λ c κs. search needs) (λ c κs. search needs) (λ c κs. search needs) (λ c. search needs)
+    (λ c. search needs) (λ c. search needs) returns-2)

@@ -36,6 +36,4 @@ returns-4 c =
     (rw (not-false (long .result) (c .before .if2 .left), not-false others (c .if3 .left)))
 
 pub with-others-spec : {M : Type 1} → statement M
-with-others-spec =
-    tie.close (
-    tie.spec (λ c κs. search needs) returns (λ c κs. search needs) returns-2 returns-3 returns-4)
+with-others-spec = tie.close (tie.spec (λ c κs. search needs) returns (λ c κs. search needs) returns-2 returns-3 returns-4)

@@ -17,6 +17,4 @@ unfolding step-at
 returns-2 c = sym (set-out _ _ _ (c .if1 .left))
 
 pub step-at-spec : {M : Type 1} → statement M
-step-at-spec =
-    tie.close (
-    tie.spec (λ c. search needs) (λ c κs. search needs) (λ c. search needs) (λ c. search needs) returns returns-2)
+step-at-spec = tie.close (tie.spec (λ c. search needs) (λ c κs. search needs) (λ c. search needs) (λ c. search needs) returns returns-2)

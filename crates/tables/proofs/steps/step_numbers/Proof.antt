@@ -13,21 +13,6 @@ Inv-loop numbers₀ changed k step m i₀ numbers i = Folding (λ v now. step-at
 abbrev μ-loop : tie.MeasureT-loop
 μ-loop numbers₀ changed k step m i₀ numbers i = m - i
 
-cast-step-at : tie.Need-cast-step-at Inv-loop μ-loop
-cast-step-at c = omega (arith, c .shared-slice-known2 .given (c .before .before .before .loop .i))
-
-loop-again : tie.Need-loop-again Inv-loop μ-loop
-loop-again c =
-    let at-loop = c .before .before .before .before .before .before in
-    let s = at-loop .before .before .before .before .args in
-    let i = at-loop .loop .i in
-    rw (c .before .before .step-at .ensures)
-    (folding-turn _ (take (s .k) (s .changed .now)) _ _ _ i (at-loop .loop .inv) (omega (arith, length-take (s .k) (s .changed .now)))
-    (rw (getD-take (s .k) (s .changed .now) i 0 (omega arith))))
-
-same-length : tie.Need-same-length Inv-loop μ-loop
-same-length c = folding-long _ (λ v now. length-step-at v _ now) _ _ _ _ (c .before .loop .inv)
-
 returns : tie.Need-returns Inv-loop μ-loop
 unfolding all-stepped
 returns c =
@@ -37,7 +22,13 @@ returns c =
     ∙ ap (λ (z : ℤ). all-stepped list z (s .args .numbers .now)) (toZ-ofZ (s .fits .step))
 
 pub step-numbers-spec : {M : Type 1} → statement M
-step-numbers-spec =
-    tie.close (
-    tie.spec Inv-loop μ-loop (λ c κs. search needs) (λ c. folding-none _ _ _) (λ c. search needs) (λ c. search needs) cast-step-at (λ c κs. search needs)
-    (λ c. search needs) (λ c. search needs) loop-again same-length returns)
+step-numbers-spec = tie.close (tie.spec Inv-loop μ-loop (λ c κs. search needs) (λ c. folding-none _ _ _) (λ c. search needs) (λ c. search needs)
+    (λ c. omega (arith, c .shared-slice-known2 .given (c .before .before .before .loop .i))) (λ c κs. search needs) (λ c. search needs) (λ c. search needs)
+    (λ c.
+    let at-loop = c .before .before .before .before .before .before in
+    let s = at-loop .before .before .before .before .args in
+    let i = at-loop .loop .i in
+    rw (c .before .before .step-at .ensures)
+    (folding-turn _ (take (s .k) (s .changed .now)) _ _ _ i (at-loop .loop .inv) (omega (arith, length-take (s .k) (s .changed .now)))
+    (rw (getD-take (s .k) (s .changed .now) i 0 (omega arith)))))
+    (λ c. folding-long _ (λ v now. length-step-at v _ now) _ _ _ _ (c .before .loop .inv)) returns)

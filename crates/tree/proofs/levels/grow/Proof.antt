@@ -4,11 +4,13 @@ use Rattle.lists.specs.Kit.{sym, arith, length, length-take-le, needs}
 use Rattle.mesh.specs.Tables.{tables}
 use Rattle.soundness.proofs.SoundSite.{fits-sound-site}
 use Rattle.tree.specs.Trees.{lists}
-use Rattle.tree.proofs.{ShellSets.{sound-levels}, TreeLoop.{filled-front, grown-all}, levels.grow.Statement.{statement}}
-use Rattle.tree.proofs.levels.grow.Tie as tie
+use Rattle.tree.proofs.{ShellSets.{sound-levels}, TreeLoop.{filled-front, grown-all}, levels.grow.{Statement.{statement}, Tie.{close, spec}}}
 
-take-levels-requires : tie.Need-take-levels-requires
-take-levels-requires c κs =
+pub grow-spec : {M : Type 1} → statement M
+grow-spec = close (spec (λ c. search needs)
+    (λ c. sym (length-take-le _ _ (c .before .before .before .before .before .before .before .before .pre .1 .answer))) (λ c κs. search needs)
+    (λ c κs. search needs) (λ c κs. search needs) (λ c. search needs) (λ c. search needs) (λ c κs. search needs)
+    (λ c κs.
     let start = c .before .before .before .before .before .before .before .before .before .before .before .before .before .before .before .before .before
     .before .before .before .before .before .before .before .before .before .before in
     let call = start .args in
@@ -21,11 +23,11 @@ take-levels-requires c κs =
       );
       low = omega (arith, c .before .before .before .before .least .ensures);
       start = sound-levels (length (call .numbers .now)) (tables (call .links .now) (call .numbers .now) (call .order .now)) (start .pre .0);
-    }
-
-returns : tie.Need-returns
-returns c =
-    let node = c .before .before .before .before .before .before .before .before .before .before .before .before .before .before .before .before .before .before
+    })
+    (λ c. search needs) (λ c. search needs) (λ c. search needs) (λ c. search needs)
+    (λ c.
+    let node = c .before .before .before .before .before .before .before .before .before .before .before .before .before .before .before .before .before
+    .before
     .before .before .before in
     let filled = node .before .before .before .before .before .before in
     let start = filled .before .before .before .before .before .before .before .before .before in
@@ -37,11 +39,4 @@ returns c =
     (c .before .before .before .before .before .before .before .before .before .before .before .before .before .least .ensures)
     (node .put-node .ensures .0) (node .put-node .ensures .1 .0) (node .put-node .ensures .1 .1)
     (filled-front (call .answer .now) _ (length (call .numbers .now)) _ (start .pre .1 .answer) (filled .fill16 .ensures))
-    (c .before .before .before .before .before .before .before .before .take-levels .ensures) (call .order .now) (start .pre .0) (start .pre .1)
-
-pub grow-spec : {M : Type 1} → statement M
-grow-spec =
-    tie.close (
-    tie.spec (λ c. search needs) (λ c. sym (length-take-le _ _ (c .before .before .before .before .before .before .before .before .pre .1 .answer)))
-    (λ c κs. search needs) (λ c κs. search needs) (λ c κs. search needs) (λ c. search needs) (λ c. search needs) (λ c κs. search needs)
-    take-levels-requires (λ c. search needs) (λ c. search needs) (λ c. search needs) (λ c. search needs) returns)
+    (c .before .before .before .before .before .before .before .before .take-levels .ensures) (call .order .now) (start .pre .0) (start .pre .1)))

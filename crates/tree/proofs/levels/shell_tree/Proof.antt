@@ -2,11 +2,13 @@
 -- tree grows.
 use Rattle.lists.specs.Kit.{refl, length, needs}
 use Rattle.tree.specs.Trees.{lists}
-use Rattle.tree.proofs.{TreeAnswer.{places-least, room-test, tree-refused, tree-ready, tree-accepted}, levels.shell_tree.Statement.{statement}}
-use Rattle.tree.proofs.levels.shell_tree.Tie as tie
+use Rattle.tree.proofs.TreeAnswer.{places-least, room-test, tree-refused, tree-ready, tree-accepted}
+use Rattle.tree.proofs.levels.shell_tree.{Statement.{statement}, Tie.{close, spec}}
 
-returns : tie.Need-returns
-returns c =
+pub shell-tree-spec : {M : Type 1} → statement M
+shell-tree-spec = close (spec (λ c κs. search needs) (λ c κs. search needs) (λ c κs. search needs) (λ c. search needs) (λ c κs. search needs)
+    (λ c κs. search needs)
+    (λ c.
     let asked = c .before in
     let room = asked .before in
     let call = room .before .before .before .before .before .before .before .before .before .before .before .args in
@@ -14,10 +16,8 @@ returns c =
     let size = places-least (call .room) s _ _ _ (room .before .before .before .least .ensures) (room .before .before .least2 .ensures)
     (room .before .least3 .ensures) in
     tree-refused (call .n) (call .room) (call .links .now) (call .numbers .now) (call .order .now) s _ _ _ size
-    (room-test (call .n) _ (length (call .answer .now)) _ (room .least4 .ensures)) (asked .refusal .ensures) _ (c .if1 .taken) refl refl
-
-grow-requires : tie.Need-grow-requires
-grow-requires c κs =
+    (room-test (call .n) _ (length (call .answer .now)) _ (room .least4 .ensures)) (asked .refusal .ensures) _ (c .if1 .taken) refl refl)
+    (λ c κs.
     let passed = c .before .before .before .before in
     let asked = passed .before in
     let room = asked .before in
@@ -26,10 +26,9 @@ grow-requires c κs =
     let size = places-least (call .room) s _ _ _ (room .before .before .before .least .ensures) (room .before .before .least2 .ensures)
     (room .before .least3 .ensures) in
     tree-ready (call .n) (call .room) (call .links .now) (call .numbers .now) (call .order .now) s _ _ _ size
-    (room-test (call .n) _ (length (call .answer .now)) _ (room .least4 .ensures)) (asked .refusal .ensures) (passed .if1 .left)
-
-returns-2 : tie.Need-returns-2
-returns-2 c =
+    (room-test (call .n) _ (length (call .answer .now)) _ (room .least4 .ensures)) (asked .refusal .ensures) (passed .if1 .left))
+    (λ c. search needs) (λ c. search needs) (λ c. search needs) (λ c. search needs)
+    (λ c.
     let grown = c .before .before .before .before .before .before .before .before in
     let passed = grown .before .before .before .before .before in
     let asked = passed .before in
@@ -39,10 +38,5 @@ returns-2 c =
     let size = places-least (call .room) s _ _ _ (room .before .before .before .least .ensures) (room .before .before .least2 .ensures)
     (room .before .least3 .ensures) in
     tree-accepted (call .n) (call .room) (call .links .now) (call .numbers .now) (call .order .now) s _ _ _ size
-    (room-test (call .n) _ (length (call .answer .now)) _ (room .least4 .ensures)) (asked .refusal .ensures) (passed .if1 .left) _ _ refl (grown .grow .ensures)
-
-pub shell-tree-spec : {M : Type 1} → statement M
-shell-tree-spec =
-    tie.close (
-    tie.spec (λ c κs. search needs) (λ c κs. search needs) (λ c κs. search needs) (λ c. search needs) (λ c κs. search needs) (λ c κs. search needs)
-    returns grow-requires (λ c. search needs) (λ c. search needs) (λ c. search needs) (λ c. search needs) returns-2)
+    (room-test (call .n) _ (length (call .answer .now)) _ (room .least4 .ensures)) (asked .refusal .ensures) (passed .if1 .left) _ _ refl
+    (grown .grow .ensures)))

@@ -5,21 +5,19 @@ use Rattle.mesh.specs.Limits.{max-radios}
 use Rattle.rows.specs.Sets.{common}
 use Rattle.tree.specs.Trees.{lists, stand}
 use Rattle.tree.proofs.{ShellSets.{takes-none}, LevelLoop.{Levelling, levelling-none, levelling-to, levelling-later, levelling-next, levelling-end}}
-use Rattle.tree.proofs.{levels.take_level.Statement.{statement}}
-use Rattle.tree.proofs.levels.take_level.Tie as tie
+use Rattle.tree.proofs.levels.take_level.{Statement.{statement}, Tie.{close, spec}}
 
-abbrev Inv-loop : tie.InvT-loop
-Inv-loop links numbers level shell set₀ queue₀ names₀ levels₀ parents₀ answer₀ count c₀ v₀ set queue names levels parents answer c v =
-    (v ≡ head-or max-radios (common shell set)) × (length queue ≡ length queue₀)
-    × Levelling links numbers level (stand set₀ (lists names₀ levels₀ parents₀ answer₀) count) (min v (length numbers))
-    (stand set (lists names levels parents answer) c)
-
-abbrev μ-loop : tie.MeasureT-loop
-μ-loop links numbers level shell set₀ queue₀ names₀ levels₀ parents₀ answer₀ count c₀ v₀ set queue names levels parents answer c v =
-    length numbers - v
-
-loop-holds : tie.Need-loop-holds Inv-loop μ-loop
-loop-holds c =
+pub take-level-spec : {M : Type 1} → statement M
+take-level-spec = close (spec
+    (λ links numbers level shell set₀ queue₀ names₀ levels₀ parents₀ answer₀ count _ _ set queue names levels parents answer c v.
+    (v ≡ head-or max-radios (common shell set)) × (length queue ≡ length queue₀) × Levelling links numbers level
+    (stand set₀ (lists names₀ levels₀ parents₀ answer₀) count) (min v (length numbers)) (stand set (lists names levels parents answer) c))
+    (λ _ numbers _ _ _ _ _ _ _ _ _ _ _ _ _ _ _ _ _ _ v. length numbers - v)
+    (λ c κs.
+    let ready = c .before .before .before .before .before .before .before .before .before .before .pre in
+    (ready .own .long, ready .words))
+    (λ c. search needs)
+    (λ c.
     let start = c .before .before .before .before .before .before .before .before .before .before .before in
     let ready = start .pre in (
       c .first-common .ensures,
@@ -28,18 +26,15 @@ loop-holds c =
           (takes-none (start .args .links .now) _ _ (start .args .shell .now) (ready .own) _ (ready .words) (c .first-common .result)
           (c .first-common .ensures))
           (levelling-none _ _ _ _),
-    )
-
-cast-take-node : tie.Need-cast-take-node Inv-loop μ-loop
-cast-take-node c = omega (
-  arith,
-  c .loop-test .taken,
-  c .before .before .before .before .before .before .before .before .before .before
-      .before .before .before .pre .small,
-)
-
-take-node-requires : tie.Need-take-node-requires Inv-loop μ-loop
-take-node-requires c κs =
+    ))
+    (λ c.
+    omega (
+      arith,
+      c .loop-test .taken,
+      c .before .before .before .before .before .before .before .before .before .before
+          .before .before .before .pre .small,
+    ))
+    (λ c κs.
     let test = c .before .before .before .before .before .before in
     let at-loop = test .before in
     let ready = at-loop .before .before .before .before .before .before .before .before .before .before .before .before .pre in
@@ -51,22 +46,14 @@ take-node-requires c κs =
       },
       omega (arith, test .loop-test .taken, ready .named, inv .lengths .answer),
       omega (arith, test .loop-test .taken, ready .small, ready .few, inv .few),
-    )
-
-first-common-requires : tie.Need-first-common-requires Inv-loop μ-loop
-first-common-requires c κs =
-    let ready = c .before .before .before .before .before .before .before .before .before .before .pre in
-    (ready .own .long, ready .words)
-
-first-common-requires-2 : tie.Need-first-common-requires-2 Inv-loop μ-loop
-first-common-requires-2 c κs =
+    ))
+    (λ c κs.
     let set-at = c .before .before .before .before .before .before .before .before .before .before .before .before in
     let at-loop = set-at .before .before .before .before .before .before .before .before .before in
     let ready = at-loop .before .before .before .before .before .before .before .before .before .before .before .before .pre in
-    (ready .own .long, set-at .set .given ∙ at-loop .loop .inv .2 .set-long ∙ ready .words)
-
-loop-less : tie.Need-loop-less Inv-loop μ-loop
-loop-less c =
+    (ready .own .long, set-at .set .given ∙ at-loop .loop .inv .2 .set-long ∙ ready .words))
+    (λ c. search needs)
+    (λ c.
     let visited = c .before .before .before .before .before .before .before .before .before .before .before .before .before .before in
     let test = visited .before .before .before .before .before .before .before in
     let at-loop = test .before in
@@ -79,10 +66,8 @@ loop-less c =
           (ready .words) (ready .small) (test .loop-test .taken) (at-loop .loop .inv .0) (at-loop .loop .inv .2) _ _
           (c .before .before .before .before .before .before .before .before .before .before .before .before .before .set .given)
           (visited .take-node .ensures) (c .first-common2 .ensures),
-    )
-
-loop-again : tie.Need-loop-again Inv-loop μ-loop
-loop-again c =
+    ))
+    (λ c.
     let visited = c .before .before .before .before .before .before .before .before .before .before .before .before .before .before in
     let test = visited .before .before .before .before .before .before .before in
     let at-loop = test .before in
@@ -100,22 +85,14 @@ loop-again c =
             parents = c .before .before .before .before .before .parents .given;
             answer = c .before .before .before .answer .given;
           }),
-    )
-
-returns : tie.Need-returns Inv-loop μ-loop
-returns c =
+    ))
+    (λ c. c .before .loop .inv .2 .set-long) (λ c. c .before .loop .inv .1) (λ c. c .before .loop .inv .2 .lengths .names)
+    (λ c. c .before .loop .inv .2 .lengths .levels) (λ c. c .before .loop .inv .2 .lengths .parents) (λ c. c .before .loop .inv .2 .lengths .answer)
+    (λ c.
     let at-loop = c .before in
     let start = at-loop .before .before .before .before .before .before .before .before .before .before .before .before in
     let ready = start .pre in (
       omega (arith, ready .small, ready .few, at-loop .loop .inv .2 .within, at-loop .loop .inv .2 .few),
       levelling-end (start .args .links .now) (start .args .numbers .now) _ _ (ready .positive) (at-loop .loop .v) _ (ready .words) (ready .level)
           (c .loop-test .left) (at-loop .loop .inv .2),
-    )
-
-pub take-level-spec : {M : Type 1} → statement M
-take-level-spec =
-    tie.close (
-    tie.spec Inv-loop μ-loop first-common-requires (λ c. search needs) loop-holds cast-take-node take-node-requires first-common-requires-2
-    (λ c. search needs) loop-less loop-again (λ c. c .before .loop .inv .2 .set-long) (λ c. c .before .loop .inv .1)
-    (λ c. c .before .loop .inv .2 .lengths .names) (λ c. c .before .loop .inv .2 .lengths .levels) (λ c. c .before .loop .inv .2 .lengths .parents)
-    (λ c. c .before .loop .inv .2 .lengths .answer) returns)
+    )))
