@@ -94,7 +94,8 @@ module _ {M : Type 1} (𝓤 : URA M) (H : Heap 𝓤) (A : Atoms 𝓤) (W : Given
   pub twice : ent 𝓤 (sem 𝓤 H A (Own κ d)) (sep 𝓤 (sem 𝓤 H A (Own κ d)) (sem 𝓤 H A (Own κ d)))
   twice = LL.copy (D κ) (T′.the-copy (namedLft 1 0 tt (κ, tt))) 𝓤 H A W .twice d (mach d ∷ [])
 
-  pub apart : (P : SProp 𝓤) → ent 𝓤 (⋆ 𝓤 H A (Token 𝓤 κ q ∷ ‵ (OwnImage κ d) ∷ [])) P → ent 𝓤 (⋆ 𝓤 H A (Token 𝓤 κ q ∷ ‵ (Own κ d) ∷ [])) (sep 𝓤 P (sem 𝓤 H A (Own κ d)))
+  pub apart : (P : SProp 𝓤) → ent 𝓤 (⋆ 𝓤 H A (Token 𝓤 κ q ∷ ‵ (OwnImage κ d) ∷ [])) P → ent 𝓤 (⋆ 𝓤 H A (Token 𝓤 κ q ∷ ‵ (Own κ d) ∷ []))
+      (sep 𝓤 P (sem 𝓤 H A (Own κ d)))
   apart P k =
       qed W (Token 𝓤 κ q ∷ ‵ (Own κ d) ∷ []) ∵
       move ! (1 ∷ []) $ use1 W (‵ (Own κ d) ⊛ ‵ (Own κ d)) twice $ split ! $
@@ -110,7 +111,8 @@ module _ {M : Type 1} (𝓤 : URA M) (H : Heap 𝓤) (A : Atoms 𝓤) (W : Given
     pub asks : d .next < 2 ^ 64 → ent 𝓤 (⋆ 𝓤 H A (Token 𝓤 κ q ∷ ‵ (OwnImage κ d) ∷ [])) (BlockAt 𝓤 H A mem run .pre to)
     asks fits =
         qed W (Token 𝓤 κ q ∷ ‵ (OwnImage κ d) ∷ []) ∵
-        nothing ! $ owned ! usize (Is usize) (uint-makes 𝓤 H A W w64) (d .next) _ (refl, fits) $ fjoin ! $ move ! (2 ∷ 0 ∷ []) $ fjoin ! $ move ! (1 ∷ 0 ∷ []) $ join ! $ frame ! $ done !
+        nothing ! $ owned ! usize (Is usize) (uint-makes 𝓤 H A W w64) (d .next) _ (refl, fits) $ fjoin ! $ move ! (2 ∷ 0 ∷ []) $ fjoin ! $ move ! (1 ∷ 0 ∷ []) $
+        join ! $ frame ! $ done !
 
     -- of what `block` ensures, the clause alone: it has no `&mut`, so what is said of last values is dropped
     pub said : (b : Block) → ent 𝓤 (ensured 𝓤 H A asked.ended (asked.clauses 𝓤 H A mem run) (κ, tt) (args d) tt b) (fact 𝓤 (Said d b))

@@ -10,16 +10,19 @@ abbrev stopping : List ℕ
 stopping = 0 ∷ 1 ∷ 1 ∷ 2 ∷ 0 ∷ 0 ∷ 0 ∷ 2 ∷ []
 
 pub stops : batch-stop 4 stopping [] ≡ 5
-unfolding batch-stop by-number ends-refusal ask is-radio are-radios ends-differ can-switch has-room linked other-ends member degree neighbours-among radios range count new-links with-link link link-before
+unfolding batch-stop by-number ends-refusal ask is-radio are-radios ends-differ can-switch has-room linked other-ends member degree neighbours-among radios
+    range count new-links with-link link link-before
 stops = refl
 
 pub stops-after-two : batch-switches 4 stopping [] ≡ switch true 0 1 ∷ switch true 1 2 ∷ []
-unfolding batch-switches by-number ends-refusal ask is-radio are-radios ends-differ can-switch has-room linked other-ends member degree neighbours-among radios range count new-links with-link link link-before
+unfolding batch-switches by-number ends-refusal ask is-radio are-radios ends-differ can-switch has-room linked other-ends member degree neighbours-among radios
+    range count new-links with-link link link-before
 stops-after-two = refl
 
 -- a link twice: 6 beside one link
 pub twice : batch-stop 4 (0 ∷ 1 ∷ 1 ∷ 0 ∷ []) [] ≡ 6
-unfolding batch-stop by-number ends-refusal ask is-radio are-radios ends-differ can-switch has-room linked other-ends member degree neighbours-among radios range count new-links with-link link link-before
+unfolding batch-stop by-number ends-refusal ask is-radio are-radios ends-differ can-switch has-room linked other-ends member degree neighbours-among radios
+    range count new-links with-link link link-before
 twice = refl
 
 -- a radio that is not there is 4 before it is 5

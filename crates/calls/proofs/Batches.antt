@@ -91,7 +91,8 @@ stop-at n (a ∷ b ∷ xs) ps h =
         → (by-number R (batch-stop n xs qs) (λ q. q) ≡ 0 → ⊥)
         → (2 * length (by-number R (switch true a b ∷ rest) (λ q. [])) + 1 < length (a ∷ b ∷ xs))
         × (by-number R (batch-stop n xs qs) (λ q. q)
-        ≡ up-refusal n (getD (a ∷ b ∷ xs) (2 * length (by-number R (switch true a b ∷ rest) (λ q. []))) 0) (getD (a ∷ b ∷ xs) (2 * length (by-number R (switch true a b ∷ rest) (λ q. [])) + 1) 0)
+        ≡ up-refusal n (getD (a ∷ b ∷ xs) (2 * length (by-number R (switch true a b ∷ rest) (λ q. []))) 0)
+        (getD (a ∷ b ∷ xs) (2 * length (by-number R (switch true a b ∷ rest) (λ q. [])) + 1) 0)
         (pairs-after (by-number R (switch true a b ∷ rest) (λ q. [])) ps))
     go zero e rec g =
         let s = rec g in
@@ -147,7 +148,8 @@ module _ {n : ℕ} {xs : List ℕ} {t : Tables} {k : ℕ} {u : Tables} where
   batch-ended w =
       let many : length (batch-switches n xs (pairs n t)) ≡ k = w .count ∙ omega arith in rw (w .stop, many, w .tables)
 
-  pub batch-halted : (a b q : ℕ) (ys : List ℕ) → Batch-left n xs t k (a ∷ b ∷ ys) u → q ≡ ends-refusal max-neighbours true n a b (graph-in n (u .links)) → (q ≡ 0 → ⊥)
+  pub batch-halted : (a b q : ℕ) (ys : List ℕ) → Batch-left n xs t k (a ∷ b ∷ ys) u → q ≡ ends-refusal max-neighbours true n a b (graph-in n (u .links)) →
+      (q ≡ 0 → ⊥)
       → tabled (value q k) u ≡ links-taken n xs t
   unfolding links-taken batch-stop batch-switches by-number tables-after graph-in
   batch-halted a b zero ys w e h = absurd (h refl)
@@ -175,8 +177,10 @@ module _ (n : ℕ) (xs : List ℕ) (t : Tables) where
     asked : Good n t × (list-length (length xs) ≡ true)
     unfolding batch-refusal
     asked =
-        let s = site-zero n (lengths-of t) (list-length (length xs)) (sound n t) 0 zero-is .0 in
-        (record { lent = record { least = s .lent .least; most = s .lent .most; lengths = s .lent .lengths; further = refl }; is-sound = s .is-sound }, s .lent .further)
+        let s = site-zero n (lengths-of t) (list-length (length xs)) (sound n t) 0 zero-is .0 in (
+          record { lent = record { least = s .lent .least; most = s .lent .most; lengths = s .lent .lengths; further = refl }; is-sound = s .is-sound },
+          s .lent .further,
+        )
 
     abbrev v : Tables
     v = tables-after n (batch-switches n xs ps) t

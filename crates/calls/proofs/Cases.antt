@@ -7,7 +7,8 @@ use Rattle.calls.specs.{Cases.{texts, one-hub, other-hub}}
 use Rattle.calls.proofs.{WorkedState.{all-state-right, compute}, WorkedLaws.{all-by-state}}
 
 computed : all-state-right cases ≡ true
-unfolding compute triangle two-triangles two-triangles-tied cases m1 m2-before m2 m3 m4 m5 m6 m7 m8 m9 m10 image-253 image-300 former-32 former-33 staircase-m4 texts one-hub other-hub
+unfolding compute triangle two-triangles two-triangles-tied cases m1 m2-before m2 m3 m4 m5 m6 m7 m8 m9 m10 image-253 image-300 former-32 former-33 staircase-m4
+    texts one-hub other-hub
 computed = refl
 
 pub cases-right : All-right cases

@@ -52,7 +52,8 @@ exactly-listed n ps s start cs up m a b w z x j k l p q =
     let h = answer-of (o .reply) (o .lent) in
     let d = link-done up m a b t w in
     exactly-changed n ps s t (o .tables) (events cs s) up m a b (length w) h start (run cs s) d z x j k l p
-    (subst (λ (es : List Event). Core (graph n (book-after (givens es) ps)) x k) (events-append cs (linking up m a b (length w) ∷ []) s ∙ last t (linking up m a b (length w)) (o .tables) h d) q)
+    (subst (λ (es : List Event). Core (graph n (book-after (givens es) ps)) x k)
+    (events-append cs (linking up m a b (length w) ∷ []) s ∙ last t (linking up m a b (length w)) (o .tables) h d) q)
   where
     last : (t : Tables) (c : Call) (u : Tables) (h : Answer) → did (h ∷ []) u ≡ done c t →
         events cs s ++ events (c ∷ []) t ≡ events cs s ++ (event c t (h ∷ []) u ∷ [])

@@ -29,7 +29,8 @@ order-is n ps t k = ap (λ (o : Tables). o .order) (k .is)
 pub image-is : (n : ℕ) (h : History) (ps : List Link) (t : Tables) (k : Traced n h ps t) → image-at h ≡ image-of (graph n ps) (k .holds .xs)
 unfolding image-at
 image-is n h ps t k =
-    ap (λ (m : ℕ). image-of (graph-in m (tables-after m (h .calls) (beginning-tables (h .began)) .links)) (tables-after m (h .calls) (beginning-tables (h .began)) .order))
+    ap (λ (m : ℕ). image-of (graph-in m (tables-after m (h .calls) (beginning-tables (h .began)) .links))
+    (tables-after m (h .calls) (beginning-tables (h .began)) .order))
     (k .by .size)
     ∙ ap (λ (v : Tables). image-of (graph-in n (v .links)) (v .order)) (sym (k .by .tables))
     ∙ ap₂ image-of (read-back n ps t (k .holds)) (order-is n ps t (k .holds))

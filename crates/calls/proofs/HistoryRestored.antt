@@ -133,7 +133,8 @@ accepted-set m x bs l ps e =
     ap (λ (R : ℕ). unless-refused R o) (accepted (set-refusal m l true x bs) o e)
 
 accepted-return : (j : ℕ) (x ds : List ℕ) (l : Lengths) (ps : List Link) → counted 0 0 ∷ [] ≡ outcome (returning j x ds) l ps .answers →
-    (named-refusal j l true x ds ≡ 0) × (outcome (returning j x ds) l ps ≡ outcome-with (counted 0 0 ∷ []) (some (from-image j (mark-image j x ds))) [] (returns x))
+    (named-refusal j l true x ds ≡ 0) × (outcome (returning j x ds) l ps ≡ outcome-with (counted 0 0 ∷ []) (some (from-image j (mark-image j x ds))) []
+    (returns x))
 unfolding outcome by-number
 accepted-return j x ds l ps e =
     let o = outcome-with (counted 0 0 ∷ []) (some (from-image j (mark-image j x ds))) [] (returns x) in
@@ -145,72 +146,81 @@ image-read : (j : ℕ) (bs : List ℕ) → j ≤ max-radios → images.is-image 
 unfolding image-at fresh site-size tables-after beginning-tables tables-of image-graph
 image-read j bs small i =
     let v = image-valid j bs small i in
-    ap (λ (g : Graph). image-of g (image-order j bs)) (graph-in-links-table (image-graph j bs) small (v .links-proper) (v .links-ascending)) ∙ written-read j bs i
+    ap (λ (g : Graph). image-of g (image-order j bs)) (graph-in-links-table (image-graph j bs) small (v .links-proper) (v .links-ascending)) ∙ written-read j bs
+    i
 
 -- ---- the theorem
 
-module _ (n : ℕ) (qs : List Link) (p : Past) (t : Tables) (k : Past-holds n qs p t) (m : ℕ) (x bs : List ℕ) (d : Does (setting m x bs) t (counted 0 0 ∷ []) t) where
-  abbrev marked : Past
-  marked = past (p .history) (record { name = x; history = p .history } ∷ replacing x (image-under m x bs) (p .marks))
+module _ (n : ℕ) (qs : List Link) (p : Past) (t : Tables) (k : Past-holds n qs p t) (m : ℕ) (x bs : List ℕ) (d : Does (setting m x bs) t (counted 0 0 ∷ []) t)
+  where
+    abbrev marked : Past
+    marked = past (p .history) (record { name = x; history = p .history } ∷ replacing x (image-under m x bs) (p .marks))
 
-  marked-holds : Past-holds n qs marked t
-  marked-holds = record { traced = k .traced; marks = (record { pairs = qs; tables = t; traced = k .traced }, replacing-hold n x (image-under m x bs) (p .marks) (k .marks)) }
+    marked-holds : Past-holds n qs marked t
+    marked-holds = record {
+      traced = k .traced;
+      marks =
+          (record { pairs = qs; tables = t; traced = k .traced }, replacing-hold n x (image-under m x bs) (p .marks) (k .marks));
+    }
 
-  set-is : outcome (setting m x bs) (lengths-of t) qs ≡ outcome-with (counted 0 0 ∷ []) none [] (sets x (image-under m x bs))
-  set-is = accepted-set m x bs (lengths-of t) qs (step n qs t (k .traced .holds) (setting m x bs) (counted 0 0 ∷ []) t d .kept .answered)
+    set-is : outcome (setting m x bs) (lengths-of t) qs ≡ outcome-with (counted 0 0 ∷ []) none [] (sets x (image-under m x bs))
+    set-is = accepted-set m x bs (lengths-of t) qs (step n qs t (k .traced .holds) (setting m x bs) (counted 0 0 ∷ []) t d .kept .answered)
 
-  after-set : (cs : List Given) → past-after (given (setting m x bs) (lengths-of t) ∷ cs) qs p ≡ past-after cs qs marked
-  unfolding past-after booked past-by marked-by pairs-of pairs-after first-pairs
-  after-set cs =
-      ap₂ (past-after cs) (ap (λ (o : Outcome). pairs-of o qs) set-is)
-      (ap (λ (o : Outcome). past-by o p) set-is ∙ ap (λ (h : History). past h (record { name = x; history = h } ∷ replacing x (image-under m x bs) (p .marks))) (same-calls (p .history)))
+    after-set : (cs : List Given) → past-after (given (setting m x bs) (lengths-of t) ∷ cs) qs p ≡ past-after cs qs marked
+    unfolding past-after booked past-by marked-by pairs-of pairs-after first-pairs
+    after-set cs =
+        ap₂ (past-after cs) (ap (λ (o : Outcome). pairs-of o qs) set-is)
+        (ap (λ (o : Outcome). past-by o p) set-is ∙ ap (λ (h : History). past h (record { name = x; history = h } ∷ replacing x (image-under m x bs) (p .marks)))
+        (same-calls (p .history)))
 
-  -- the image that was set
-  set-image : image-at (p .history) ≡ image-of (graph-in n (t .links)) (t .order)
-  set-image =
-      image-is n (p .history) qs t (k .traced)
-      ∙ sym (ap₂ image-of (read-back n qs t (k .traced .holds)) (order-is n qs t (k .traced .holds)))
+    -- the image that was set
+    set-image : image-at (p .history) ≡ image-of (graph-in n (t .links)) (t .order)
+    set-image =
+        image-is n (p .history) qs t (k .traced)
+        ∙ sym (ap₂ image-of (read-back n qs t (k .traced .holds)) (order-is n qs t (k .traced .holds)))
 
-  module _ (between : List Event) (u v : Tables) (j : ℕ) (ds : List ℕ) (r : Run t between u) (b : Does (returning j x ds) u (counted 0 0 ∷ []) v)
-      (free : all-leave x (image-of (graph-in n (t .links)) (t .order)) (givens between) qs marked ≡ true) (still : mark-image j x ds ≡ image-of (graph-in n (t .links)) (t .order)) where
-    abbrev then : Past
-    then = past-after (givens between) qs marked
+    module _ (between : List Event) (u v : Tables) (j : ℕ) (ds : List ℕ) (r : Run t between u) (b : Does (returning j x ds) u (counted 0 0 ∷ []) v)
+        (free : all-leave x (image-of (graph-in n (t .links)) (t .order)) (givens between) qs marked ≡ true)
+        (still : mark-image j x ds ≡ image-of (graph-in n (t .links)) (t .order)) where
+      abbrev then : Past
+      then = past-after (givens between) qs marked
 
-    abbrev pairs : List Link
-    pairs = book-after (givens between) qs
+      abbrev pairs : List Link
+      pairs = book-after (givens between) qs
 
-    kept : Past-holds n pairs then u
-    kept = past-kept n qs marked marked-holds r
+      kept : Past-holds n pairs then u
+      kept = past-kept n qs marked marked-holds r
 
-    return-is :
-        (named-refusal j (lengths-of u) true x ds ≡ 0)
-        × (outcome (returning j x ds) (lengths-of u) pairs ≡ outcome-with (counted 0 0 ∷ []) (some (from-image j (mark-image j x ds))) [] (returns x))
-    return-is =
-        accepted-return j x ds (lengths-of u) pairs (step n pairs u (kept .traced .holds) (returning j x ds) (counted 0 0 ∷ []) v b .kept .answered)
+      return-is :
+          (named-refusal j (lengths-of u) true x ds ≡ 0)
+          × (outcome (returning j x ds) (lengths-of u) pairs ≡ outcome-with (counted 0 0 ∷ []) (some (from-image j (mark-image j x ds))) [] (returns x))
+      return-is =
+          accepted-return j x ds (lengths-of u) pairs (step n pairs u (kept .traced .holds) (returning j x ds) (counted 0 0 ∷ []) v b .kept .answered)
 
-    -- the mark's image is the one that was set
-    back-image : image-at (p .history) ≡ image-at (fresh (from-image j (mark-image j x ds)))
-    back-image =
-        let q = named-zero j (lengths-of u) true x ds (return-is .0) in
-        set-image ∙ sym still ∙ sym (image-read j (mark-image j x ds) (q .0 .site .lent .most) (mark-is-image j x ds (q .0 .store .marks) (q .1)))
+      -- the mark's image is the one that was set
+      back-image : image-at (p .history) ≡ image-at (fresh (from-image j (mark-image j x ds)))
+      back-image =
+          let q = named-zero j (lengths-of u) true x ds (return-is .0) in
+          set-image ∙ sym still ∙ sym (image-read j (mark-image j x ds) (q .0 .site .lent .most) (mark-is-image j x ds (q .0 .store .marks) (q .1)))
 
-    after-return : past-after (given (returning j x ds) (lengths-of u) ∷ []) pairs then .history ≡ p .history
-    unfolding past-after booked past-by marked-by history-by fresh
-    after-return =
-        ap (λ (o : Outcome). past-by o then .history) (return-is .1)
-        ∙ recalled-after x (fresh (from-image j (mark-image j x ds))) (givens between) qs marked
-        (subst (λ (i : List ℕ). all-leave x i (givens between) qs marked ≡ true) (sym set-image ∙ back-image) free)
-        ∙ recalled-own x (fresh (from-image j (mark-image j x ds))) (p .history) (replacing x (image-under m x bs) (p .marks)) back-image
+      after-return : past-after (given (returning j x ds) (lengths-of u) ∷ []) pairs then .history ≡ p .history
+      unfolding past-after booked past-by marked-by history-by fresh
+      after-return =
+          ap (λ (o : Outcome). past-by o then .history) (return-is .1)
+          ∙ recalled-after x (fresh (from-image j (mark-image j x ds))) (givens between) qs marked
+          (subst (λ (i : List ℕ). all-leave x i (givens between) qs marked ≡ true) (sym set-image ∙ back-image) free)
+          ∙ recalled-own x (fresh (from-image j (mark-image j x ds))) (p .history) (replacing x (image-under m x bs) (p .marks)) back-image
 
-    restored : past-after (givens (event (setting m x bs) t (counted 0 0 ∷ []) t ∷ (between ++ (event (returning j x ds) u (counted 0 0 ∷ []) v ∷ [])))) qs p .history ≡ p .history
-    unfolding givens
-    restored =
-        let back = given (returning j x ds) (lengths-of u) ∷ [] in
-        ap (λ (o : Past). o .history)
-        (after-set (givens (between ++ (event (returning j x ds) u (counted 0 0 ∷ []) v ∷ [])))
-        ∙ ap (λ (cs : List Given). past-after cs qs marked) (givens-append between (event (returning j x ds) u (counted 0 0 ∷ []) v ∷ []))
-        ∙ past-append (givens between) back qs marked)
-        ∙ after-return
+      restored : past-after (givens (event (setting m x bs) t (counted 0 0 ∷ []) t ∷ (between ++ (event (returning j x ds) u (counted 0 0 ∷ []) v ∷ [])))) qs
+          p .history ≡ p .history
+      unfolding givens
+      restored =
+          let back = given (returning j x ds) (lengths-of u) ∷ [] in
+          ap (λ (o : Past). o .history)
+          (after-set (givens (between ++ (event (returning j x ds) u (counted 0 0 ∷ []) v ∷ [])))
+          ∙ ap (λ (cs : List Given). past-after cs qs marked) (givens-append between (event (returning j x ds) u (counted 0 0 ∷ []) v ∷ []))
+          ∙ past-append (givens between) back qs marked)
+          ∙ after-return
 
 pub history-restored :
     (n : ℕ) (ps : List Link) (t₀ t u v : Tables) (s : Start n ps t₀) (before between : List Event) (m j : ℕ) (x bs ds : List ℕ) →
@@ -218,7 +228,8 @@ pub history-restored :
     all-leave x (image-of (graph-in n (t .links)) (t .order)) (givens between) (book-after (givens before) ps)
     (past-of (givens (before ++ (event (setting m x bs) t (counted 0 0 ∷ []) t ∷ []))) ps (beginning s)) ≡ true →
     mark-image j x ds ≡ image-of (graph-in n (t .links)) (t .order) →
-    history (givens (before ++ (event (setting m x bs) t (counted 0 0 ∷ []) t ∷ (between ++ (event (returning j x ds) u (counted 0 0 ∷ []) v ∷ []))))) ps (beginning s)
+    history (givens (before ++ (event (setting m x bs) t (counted 0 0 ∷ []) t ∷ (between ++ (event (returning j x ds) u (counted 0 0 ∷ []) v ∷ []))))) ps
+    (beginning s)
     ≡ history (givens before) ps (beginning s)
 unfolding history past-of givens past-after
 history-restored n ps t₀ t u v s before between m j x bs ds r₁ d₁ r₂ d₂ free still =
@@ -242,11 +253,13 @@ marked-events :
     (between : List Call) (t : Tables) (m j : ℕ) (x bs ds : List ℕ) → let u = after between t in
     set-outcome m x t bs .reply ≡ 0 → return-outcome j x ds u .reply ≡ 0 →
     events (setting m x bs ∷ (between ++ (returning j x ds ∷ []))) t
-    ≡ event (setting m x bs) t (counted 0 0 ∷ []) t ∷ (events between t ++ (event (returning j x ds) u (counted 0 0 ∷ []) (return-outcome j x ds u .tables) ∷ []))
+    ≡ event (setting m x bs) t (counted 0 0 ∷ []) t ∷
+    (events between t ++ (event (returning j x ds) u (counted 0 0 ∷ []) (return-outcome j x ds u .tables) ∷ []))
 unfolding events done
 marked-events between t m j x bs ds z y = rw (z, events-append between (returning j x ds ∷ []) t, y)
 
-set-event : (t : Tables) (m : ℕ) (x bs : List ℕ) → set-outcome m x t bs .reply ≡ 0 → events (setting m x bs ∷ []) t ≡ event (setting m x bs) t (counted 0 0 ∷ []) t ∷ []
+set-event : (t : Tables) (m : ℕ) (x bs : List ℕ) → set-outcome m x t bs .reply ≡ 0 → events (setting m x bs ∷ []) t ≡ event (setting m x bs) t
+    (counted 0 0 ∷ []) t ∷ []
 unfolding events done
 set-event t m x bs z = rw z
 
@@ -264,6 +277,9 @@ restored-list n ps t₀ s before between m j x bs ds z y free still =
     let u = after between t in
     ap (λ (es : List Event). history (givens es) ps (beginning s))
     (events-append before _ t₀ ∙ ap (λ (es : List Event). events before t₀ ++ es) (marked-events between t m j x bs ds z y))
-    ∙ history-restored n ps t₀ t u (return-outcome j x ds u .tables) s (events before t₀) (events between t) m j x bs ds (run before t₀) (rw z) (run between t) (rw y)
-    (subst (λ (es : List Event). all-leave x (image-of (graph-in n (t .links)) (t .order)) (givens (events between t)) (book-after (givens (events before t₀)) ps)
-    (past-of (givens es) ps (beginning s)) ≡ true) (events-append before (setting m x bs ∷ []) t₀ ∙ ap (λ (es : List Event). events before t₀ ++ es) (set-event t m x bs z)) free) still
+    ∙ history-restored n ps t₀ t u (return-outcome j x ds u .tables) s (events before t₀) (events between t) m j x bs ds (run before t₀) (rw z) (run between t)
+    (rw y)
+    (subst (λ (es : List Event). all-leave x (image-of (graph-in n (t .links)) (t .order)) (givens (events between t))
+    (book-after (givens (events before t₀)) ps)
+    (past-of (givens es) ps (beginning s)) ≡ true) (events-append before (setting m x bs ∷ []) t₀ ∙ ap (λ (es : List Event). events before t₀ ++ es)
+    (set-event t m x bs z)) free) still

@@ -109,7 +109,8 @@ module _ (n : ℕ) (ps : List Link) (t : Tables) (k : Holds n ps t) where
 
 -- ---- links one after the other
 
-pub all-holds : (n : ℕ) (ps : List Link) (ss : List Switch) (t : Tables) → Holds n ps t → All-allowed n ps ss → Holds n (pairs-after ss ps) (tables-after n ss t)
+pub all-holds : (n : ℕ) (ps : List Link) (ss : List Switch) (t : Tables) → Holds n ps t → All-allowed n ps ss → Holds n (pairs-after ss ps)
+    (tables-after n ss t)
 unfolding All-allowed pairs-after tables-after
 all-holds n ps [] t k ok = k
 all-holds n ps (s ∷ ss) t k ok = all-holds n _ ss (switched n s t) (switched-holds n ps t k s (ok .0)) (ok .1)

@@ -7,7 +7,8 @@ use Rattle.mesh.{specs.Valid.{Valid, smaller, larger}, proofs.Links.Call.{chang
 use Rattle.mesh.{proofs.Links.Laws.{link-connected, link-has-end, link-below, link-above, link-stretch, link-table}}
 use Rattle.calls.specs.{Book.{reported}, Demand.{By-one, graph-with-link, Changed-end, Link-kept}}
 
-by-one-at : (u : Bool) (a b : ℕ) (g : Graph) (x : ℕ) → number (larger u a b g) x ≡ suc (number (smaller u a b g) x) → By-one u (number g x) (number (relinked u a b g) x)
+by-one-at : (u : Bool) (a b : ℕ) (g : Graph) (x : ℕ) → number (larger u a b g) x ≡ suc (number (smaller u a b g) x) → By-one u (number g x)
+    (number (relinked u a b g) x)
 unfolding By-one larger smaller
 by-one-at true a b g x e = e
 by-one-at false a b g x e = e

@@ -33,7 +33,8 @@ pub record Mark-asked (n : ℕ) (l : Lengths) (sound : Bool) (x bs : List ℕ) :
   pub store : Store-marks n bs
   pub name : is-name x ≡ true
 
-pub mark-zero : (n : ℕ) (l : Lengths) (sound : Bool) (x bs : List ℕ) (later : ℕ) → mark-refusal n l sound x bs later ≡ 0 → Mark-asked n l sound x bs × (later ≡ 0)
+pub mark-zero : (n : ℕ) (l : Lengths) (sound : Bool) (x bs : List ℕ) (later : ℕ) → mark-refusal n l sound x bs later ≡ 0 → Mark-asked n l sound x bs ×
+    (later ≡ 0)
 unfolding mark-refusal marks-good store-length
 mark-zero n l sound x bs later p =
     let q = site-zero n l (store-length bs) sound (ask 17 (marks-good n x bs) later) p in
@@ -196,7 +197,8 @@ pub mark-read :
 mark-read n l sound x bs a h =
     let g = a .site .lent in
     let i = mark-is-image n x bs (a .store .marks) h in
-    read-yes n l (mark-image n x bs) (record { least = g .least; most = g .most; lengths = g .lengths; further = refl }) (image-blocks n (mark-image n x bs) i) i
+    read-yes n l (mark-image n x bs) (record { least = g .least; most = g .most; lengths = g .lengths; further = refl }) (image-blocks n (mark-image n x bs) i)
+    i
 
 -- accepted: the tables of the mark's image, which are what reading it leaves
 pub return-right :

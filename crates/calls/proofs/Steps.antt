@@ -64,7 +64,11 @@ module _ (n : ℕ) (ps : List Link) (t : Tables) (k : Holds n ps t) where
   refused :
       (q : ℕ) (hs : List Answer) (v : Tables) → hs ≡ one (counted (suc q) 0) → v ≡ t → Stepped n ps (outcome-of (one (counted (suc q) 0)) none []) t hs v
   unfolding pairs-of first-pairs pairs-after tables-after
-  refused q hs v e f = record { kept = record { answered = e; tables = λ j. f; switching = λ j. rw f ended; started = λ qs j. absurd (none-some j) }; holds = unchanged-holds n ps t k f }
+  refused q hs v e f = record {
+    kept = record { answered = e; tables = λ j. f; switching = λ j. rw f ended; started = λ qs j. absurd (none-some j) };
+    holds =
+        unchanged-holds n ps t k f;
+  }
 
   -- a clearing, a reading or a coming back
   restarted :
@@ -128,7 +132,8 @@ module _ (n : ℕ) (ps : List Link) (t : Tables) (k : Holds n ps t) where
   -- of an image that reading takes
   image-step :
       (m : ℕ) (bs : List ℕ) (mark : Marking) → read-refusal m (lengths-of t) bs ≡ 0 →
-      Stepped n ps (unless-refused 0 (outcome-with (one (counted 0 0)) (some (from-image m bs)) [] mark)) t (one (counted 0 0)) (beginning-tables (from-image m bs))
+      Stepped n ps (unless-refused 0 (outcome-with (one (counted 0 0)) (some (from-image m bs)) [] mark)) t (one (counted 0 0))
+      (beginning-tables (from-image m bs))
   unfolding site-size beginning-pairs
   image-step m bs mark p =
       let lent = read-zero m (lengths-of t) bs p .0 in

@@ -116,7 +116,12 @@ start-traced (cleared n t v d) =
     record { holds = start (cleared n t v d); by = record { size = refl; start = subst (Start n []) e (cleared n t v d); tables = e }; pairs = refl }
 start-traced (read n bs t v d) =
     let e = read-in-is n bs t v d .1 in
-    record { holds = start (read n bs t v d); by = record { size = refl; start = subst (Start n (image-links n bs)) e (read n bs t v d); tables = e }; pairs = refl }
+    record {
+      holds = start (read n bs t v d);
+      by = record { size = refl; start = subst (Start n (image-links n bs)) e (read n bs t v d); tables = e };
+      pairs =
+          refl;
+    }
 
 -- with no mark set
 pub start-past : {n : ℕ} {ps : List Link} {t : Tables} → (s : Start n ps t) → Past-holds n ps (past (fresh (beginning s)) []) t

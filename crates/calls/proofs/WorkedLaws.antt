@@ -234,7 +234,8 @@ module _ (f : ℕ → ℕ) (n : ℕ) (size : size-good n ≡ true) where
     meets-by (all-numbers ns) p = rw tables-are p
     meets-by (whole-order xs) p = rw (k .order) p
     meets-by (shell-tree ns vs) p =
-        tree-right ns vs (and-left (same-nodes (tree site) ns) (same (node-names site) vs) p) (and-right (same-nodes (tree site) ns) (same (node-names site) vs) p)
+        tree-right ns vs (and-left (same-nodes (tree site) ns) (same (node-names site) vs) p)
+        (and-right (same-nodes (tree site) ns) (same (node-names site) vs) p)
     meets-by (connected-core v i r xs) p =
         rw (core-by-pairs n (q .pairs) (s .tables) (k .holds) least v i (entries f n) enough-entries) (
         listing-right (level-refusal n v i site) r (core-of site v i) (entries f n) xs p)

@@ -97,5 +97,17 @@ all-state-right (r ∷ rs) = state-right r && all-state-right rs
 
 -- everything that rows compute with
 unfoldable pub compute : Unit {0}
-unfolding range count filter member all same head-or radios other-ends linked neighbours-among degree link link-before same-link with-link without-link new-links relinked survivors peeled cores-from cores depth number numbers changed step-of lower-level stretch-start stretch-length first-fitting without laid-out stretch-up stretch-down new-stretch with-stretch new-order at-least reached core-of greatest backbone shell node-name parent-name nodes-at tree node-names word long weighted-sum check-sum block blocks-for order-blocks block-count link-bytes order-payload links-payload block-at image-of word-at entry-at image-order image-link image-links image-graph whole-blocks block-check checks-good is-image-within is-image other-size weight filter-links falling joined keep staircase link-entries weighs least goes-before site-refusal up-line script-of bad-line proper ascending each-once rising few-later digit byte-at marked from-digits bit-row bit-table links-table tables-of symmetric irreflexive within row-degree few rows-proper enough sound-within sound ask is-radio are-radios ends-differ can-switch has-room has-level image-length ends-refusal image-refusal digit-byte digits-in decimal step-text further-fields printed-line link-line numbers-line order-line closing-lines risen fallen unchanged refused same-step same-answers same-nodes block-checks put-in answer-line flatMap counted reported blocks-refusal is-value lines by-number value-outcome check-outcome tables-refusal lent-refusal size-good site-lengths lengths-of read-refusal carried-out state-played state-after state-meets state-meets-all state-right all-state-right
+unfolding range count filter member all same head-or radios other-ends linked neighbours-among degree link link-before same-link with-link without-link
+    new-links relinked survivors peeled cores-from cores depth number numbers changed step-of lower-level stretch-start stretch-length first-fitting without
+    laid-out stretch-up stretch-down new-stretch with-stretch new-order at-least reached core-of greatest backbone shell node-name parent-name nodes-at tree
+    node-names word long weighted-sum check-sum block blocks-for order-blocks block-count link-bytes order-payload links-payload block-at image-of
+    word-at entry-at image-order image-link image-links image-graph whole-blocks block-check checks-good is-image-within is-image other-size weight
+    filter-links falling joined keep staircase link-entries weighs least goes-before site-refusal up-line script-of bad-line proper ascending
+    each-once rising few-later digit byte-at marked from-digits bit-row bit-table links-table tables-of symmetric irreflexive within
+    row-degree few rows-proper enough sound-within sound ask is-radio are-radios ends-differ can-switch has-room has-level image-length
+    ends-refusal image-refusal digit-byte digits-in decimal step-text further-fields printed-line link-line numbers-line order-line
+    closing-lines risen fallen unchanged refused same-step same-answers same-nodes block-checks put-in answer-line flatMap
+    counted reported blocks-refusal is-value lines by-number value-outcome check-outcome tables-refusal lent-refusal
+    size-good site-lengths lengths-of read-refusal carried-out state-played state-after state-meets state-meets-all
+    state-right all-state-right
 compute = tt

@@ -1,4 +1,5 @@
--- Document 01's cases M1 to M10, and further cases of documents 01 and 02, as one table. That every row is right is `cases-right` in proofs/Cases.antt. Definitions only.
+-- Document 01's cases M1 to M10, and further cases of documents 01 and 02, as one table. That every row is right is `cases-right` in proofs/Cases.antt.
+-- Definitions only.
 use Rattle.lists.specs.{Kit.{List, [], _∷_, _++_, map, ℕ}, Lists.{range}}
 use Rattle.mesh.specs.Tree.{node}
 use Rattle.calls.specs.{Switches.{Switch}, Worked.{up, down, risen, fallen, unchanged, refused, last-answers, all-numbers, whole-order, shell-tree}}

@@ -47,7 +47,8 @@ module _ (n : ℕ) (t : Tables) (s : Sound-site n t) (k : ℕ) where
           let lw = spread-below r in
           let p = inside x h in
           onward (spread-reachable r)
-          (linked-marked n t s w x lw (p .0) ∙ in-neighbours-of (t .links) w x (rw (row-listed-neighbours n t s w lw) at (member-in x (row-listed (t .links) w) e)) .1)
+          (linked-marked n t s w x lw (p .0) ∙ in-neighbours-of (t .links) w x
+          (rw (row-listed-neighbours n t s w lw) at (member-in x (row-listed (t .links) w) e)) .1)
           (p .0) (p .1)
 
       pub spread-core : (w : ℕ) → Spreads w → In-core g v k w
@@ -61,7 +62,8 @@ module _ (n : ℕ) (t : Tables) (s : Sound-site n t) (k : ℕ) where
         reachable-spread (onward {w} {x} r e lx o) =
             let lw : w < n = reachable-below radio r in
             Spread.onward (reachable-spread r)
-            (ap (member x) (row-listed-neighbours n t s w lw) ∙ member-neighbours-of (t .links) w x (omega (arith, s .small)) ∙ sym (linked-marked n t s w x lw lx) ∙ e)
+            (ap (member x) (row-listed-neighbours n t s w lw) ∙ member-neighbours-of (t .links) w x (omega (arith, s .small)) ∙ sym
+            (linked-marked n t s w x lw lx) ∙ e)
             (whole x (onward r e lx o))
 
         pub core-spread : (w : ℕ) → In-core g v k w → Spreads w

@@ -113,7 +113,8 @@ module _ (ts : List ℕ) (v : ℕ) (old : List ℕ) where
             → (member x xs ≡ true) ⊎ (member x xs ≡ false) → In x (xs ++ new)
         taken j g l x m o (inl e) = in-left x xs new (member-in x xs e)
         taken j g l x m o (inr e) =
-            in-right x xs new (new-in x (all x (record { place = j; low = g; high = l; marks = in-member x (row-listed ts (getD xs j 0)) m })) (h .bits x ∙ rw (o, e)))
+            in-right x xs new (new-in x (all x (record { place = j; low = g; high = l; marks = in-member x (row-listed ts (getD xs j 0)) m }))
+            (h .bits x ∙ rw (o, e)))
 
         closed : (j : ℕ) → j < length xs → (x : ℕ) → In x (row-listed ts (getD xs j 0)) → in-set old x ≡ true → (ltb j i ≡ true) ⊎ (ltb j i ≡ false)
             → In x (xs ++ new)
@@ -179,7 +180,8 @@ module _ (ts : List ℕ) (v : ℕ) (old : List ℕ) where
       behind : came-in e ≡ came-in f ++ more
       behind =
           ap (λ (k : ℕ). take k (e .queue)) came ∙ ap (take (f .count + length more)) parts
-          ∙ take-at (came-in f ++ more) (drop (f .count + length more) (f .queue)) (f .count + length more) (omega (arith, length-append (came-in f) more, long))
+          ∙ take-at (came-in f ++ more) (drop (f .count + length more) (f .queue)) (f .count + length more)
+          (omega (arith, length-append (came-in f) more, long))
 
   -- the radio that the flood starts from
   pub walking-start : (queue : List ℕ) → v < max-radios → length old ≡ 8 → max-radios ≤ length queue

@@ -13,7 +13,8 @@ rows-joined-none ts list from r = record { some = λ x e. inl e; all = λ x m. a
 
 pub rows-joined-turn : (ts list : List ℕ) (from to : ℕ) (r s t : List ℕ) → from ≤ to → Row-joined ts (getD list to 0) s t
     → Rows-joined ts list from to r s → Rows-joined ts list from (to + 1) r t
-rows-joined-turn ts list from to r s t l row h = record { some = λ x e. some x (or-cases _ _ (sym (row .bits x) ∙ e)); all = λ x m. all x m (bool-cases (eqb (m .place) to)) }
+rows-joined-turn ts list from to r s t l row h = record
+    { some = λ x e. some x (or-cases _ _ (sym (row .bits x) ∙ e)); all = λ x m. all x m (bool-cases (eqb (m .place) to)) }
   where
     some : (x : ℕ) → (in-set s x ≡ true) ⊎ (member x (row-listed ts (getD list to 0)) ≡ true) → (in-set r x ≡ true) ⊎ Marked-by ts list from (to + 1) x
     some x (inr e) = inr (record { place = to; low = l; high = omega arith; marks = e })
@@ -25,7 +26,12 @@ rows-joined-turn ts list from to r s t l row h = record { some = λ x e. some x 
         ∙ or-right (in-set s x) _ (ap (λ (j : ℕ). member x (row-listed ts (getD list j 0))) (sym (eqb-true (m .place) to e)) ∙ m .marks)
     all x m (inr e) =
         row .bits x
-        ∙ or-left (in-set s x) _ (h .all x (record { place = m .place; low = m .low; high = omega (arith, m .high, eqb-false (m .place) to e); marks = m .marks }))
+        ∙ or-left (in-set s x) _ (h .all x (record {
+          place = m .place;
+          low = m .low;
+          high = omega (arith, m .high, eqb-false (m .place) to e);
+          marks = m .marks;
+        }))
 
 pub rows-joined-end : (ts list : List ℕ) (from to i : ℕ) (r s : List ℕ) → to ≤ i → i ≤ to → Rows-joined ts list from i r s → Rows-joined ts list from to r s
 rows-joined-end ts list from to i r s l g h = let e : i ≡ to = omega arith in rw e at h

@@ -72,7 +72,8 @@ pub record Level-setting (ns : List ℕ) (k j : ℕ) (t : List ℕ) : Type 0 whe
   pub long : length t ≡ 8
   pub words : (i : ℕ) → i < j → Level-word ns k (64 * i) (getD t i 0)
 
-pub level-setting-turn : (ns : List ℕ) (k j w : ℕ) (t : List ℕ) → j < 8 → Level-word ns k (64 * j) w → Level-setting ns k j t → Level-setting ns k (j + 1) (set t j w)
+pub level-setting-turn : (ns : List ℕ) (k j w : ℕ) (t : List ℕ) → j < 8 → Level-word ns k (64 * j) w → Level-setting ns k j t → Level-setting ns k (j + 1)
+    (set t j w)
 level-setting-turn ns k j w t l h a = record {
   low = omega arith;
   long = length-set t j w ∙ a .long;

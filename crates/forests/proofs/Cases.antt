@@ -5,5 +5,6 @@ use Rattle.mesh.specs.{Connected.{reached, greatest}, Staircase.{weight, filter
 use Rattle.forests.specs.Cases.{right, all-right, alone, unlinked, m3, m4, m5, ring, hanging, cases}
 
 pub staircase-cases : all-right cases ≡ true
-unfolding range count filter member same radios linked other-ends neighbours-among survivors peeled cores-from cores depth number numbers reached greatest weight filter-links falling joined keep staircase link-entries right all-right alone unlinked m3 m4 m5 ring hanging cases
+unfolding range count filter member same radios linked other-ends neighbours-among survivors peeled cores-from cores depth number numbers reached greatest
+    weight filter-links falling joined keep staircase link-entries right all-right alone unlinked m3 m4 m5 ring hanging cases
 staircase-cases = refl

@@ -18,7 +18,8 @@ pub in-filter-links : (t : Link → Bool) (ls : List Link) (m : Link) → In-lin
 unfolding filter-links
 in-filter-links t (l ∷ ls) m i = go (in-filter-links t ls m) (bool-cases (t l)) i
   where
-    pick : (In-links m (filter-links t ls) → In-links m ls × (t m ≡ true)) → t l ≡ true → In-links m (l ∷ filter-links t ls) → In-links m (l ∷ ls) × (t m ≡ true)
+    pick : (In-links m (filter-links t ls) → In-links m ls × (t m ≡ true)) → t l ≡ true → In-links m (l ∷ filter-links t ls) → In-links m (l ∷ ls) ×
+        (t m ≡ true)
     pick rec e (inl q) = (inl q, ap t (sym q) ∙ e)
     pick rec e (inr k) = let r = rec k in (inr (r .0), r .1)
 
@@ -169,7 +170,8 @@ acyclic-grows n (l ∷ ls) s a = (a [] ls l refl, acyclic-grows n ls (λ m i. s 
   where
     tail : (ps qs : List Link) (m : Link) → ls ≡ ps ++ (m ∷ qs) → Joined n (ps ++ qs) (m .low) (m .high) → ⊥
     tail ps qs m e r =
-        a (l ∷ ps) qs m (ap {B = List Link} (λ zs. l ∷ zs) e) (joined-mono n (ps ++ qs) (l ∷ (ps ++ qs)) (λ k i. s k (inr (back k (in-links-cases k ps qs i)))) (λ k i. inr i) r)
+        a (l ∷ ps) qs m (ap {B = List Link} (λ zs. l ∷ zs) e)
+        (joined-mono n (ps ++ qs) (l ∷ (ps ++ qs)) (λ k i. s k (inr (back k (in-links-cases k ps qs i)))) (λ k i. inr i) r)
       where
         back : (k : Link) → In-links k ps ⊎ In-links k qs → In-links k ls
         back k (inl j) = rw e (in-links-left k ps (m ∷ qs) j)

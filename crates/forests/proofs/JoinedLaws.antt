@@ -46,7 +46,8 @@ module _ (n : ℕ) where
   joined-ends ls l v w h r (inl e) = rw (e .0, e .1) r
   joined-ends ls l v w h r (inr e) = rw (e .0, e .1) (joined-sym ls h r)
 
-  pub joined-by-links : (ls ms : List Link) → Inside n ls → ((l : Link) → In-links l ls → Joined n ms (l .low) (l .high)) → {a b : ℕ} → Joined n ls a b → Joined n ms a b
+  pub joined-by-links : (ls ms : List Link) → Inside n ls → ((l : Link) → In-links l ls → Joined n ms (l .low) (l .high)) → {a b : ℕ} → Joined n ls a b → Joined
+      n ms a b
   joined-by-links ls ms s f here = here
   joined-by-links ls ms s f (onward {w} {x} r e lx o) = go (joined-by-links ls ms s f r) (linked-some ls w x (sym (linked-graph n ls w x) ∙ e))
     where

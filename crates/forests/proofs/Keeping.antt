@@ -64,22 +64,26 @@ tight-end n l ks s h new t = go (trichotomy (t .label (l .low)) (t .label (l .hi
         → Tight n (ks ++ (l ∷ []))
     go (inl less) = record {
       label = relabel (t .label (l .low)) (t .label (l .high)) (t .label);
-      labels = labels-new n ks (ks ++ (l ∷ [])) l (inside-end n l ks s h) (more-end l ks) (t .label) (t .labels) (l .low) (l .high) (inl (refl, refl)) (h .0) (h .1) less;
+      labels = labels-new n ks (ks ++ (l ∷ [])) l (inside-end n l ks s h) (more-end l ks) (t .label) (t .labels) (l .low) (l .high) (inl (refl, refl)) (h .0)
+          (h .1) less;
       counted = omega (
         arith,
         t .counted,
-        parts-new n ks (ks ++ (l ∷ [])) l (inside-end n l ks s h) (more-end l ks) (t .label) (t .labels) (l .low) (l .high) (inl (refl, refl)) (h .0) (h .1) less,
+        parts-new n ks (ks ++ (l ∷ [])) l (inside-end n l ks s h) (more-end l ks) (t .label) (t .labels) (l .low) (l .high) (inl (refl, refl)) (h .0) (h .1)
+            less,
         length-append ks (l ∷ []),
       );
     }
     go (inr (inl e)) = absurd (new (same-label n ks (t .label) (t .labels) (l .low) (l .high) (h .0) (h .1) e))
     go (inr (inr less)) = record {
       label = relabel (t .label (l .high)) (t .label (l .low)) (t .label);
-      labels = labels-new n ks (ks ++ (l ∷ [])) l (inside-end n l ks s h) (more-end l ks) (t .label) (t .labels) (l .high) (l .low) (inr (refl, refl)) (h .1) (h .0) less;
+      labels = labels-new n ks (ks ++ (l ∷ [])) l (inside-end n l ks s h) (more-end l ks) (t .label) (t .labels) (l .high) (l .low) (inr (refl, refl)) (h .1)
+          (h .0) less;
       counted = omega (
         arith,
         t .counted,
-        parts-new n ks (ks ++ (l ∷ [])) l (inside-end n l ks s h) (more-end l ks) (t .label) (t .labels) (l .high) (l .low) (inr (refl, refl)) (h .1) (h .0) less,
+        parts-new n ks (ks ++ (l ∷ [])) l (inside-end n l ks s h) (more-end l ks) (t .label) (t .labels) (l .high) (l .low) (inr (refl, refl)) (h .1) (h .0)
+            less,
         length-append ks (l ∷ []),
       );
     }

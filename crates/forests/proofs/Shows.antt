@@ -75,9 +75,11 @@ shows-none n old = record {
         go (inr (inl h)) = List·getD-eq-default (range 0 n) v {n = v} (omega (arith, length-range 0 n))
         go (inr (inr h)) = List·getD-eq-default (range 0 n) v {n = v} (omega (arith, length-range 0 n))
 
-module _ (n : ℕ) (old : List ℕ) (ks : List Link) (inside : Inside n ks) (l : Link) (ends : (l .low < n) × (l .high < n)) (s : Growing) (shows : Shows n old ks s) where
+module _ (n : ℕ) (old : List ℕ) (ks : List Link) (inside : Inside n ks) (l : Link) (ends : (l .low < n) × (l .high < n)) (s : Growing)
+    (shows : Shows n old ks s) where
   labels-up : (entry (s .labels) (l .low) ≡ entry (s .labels) (l .high) → ⊥)
-      → Labels n (ks ++ (l ∷ [])) (entry (map (relabelled (min (entry (s .labels) (l .low)) (entry (s .labels) (l .high))) (max (entry (s .labels) (l .low)) (entry (s .labels) (l .high)))) (s .labels)))
+      → Labels n (ks ++ (l ∷ [])) (entry (map (relabelled (min (entry (s .labels) (l .low)) (entry (s .labels) (l .high)))
+      (max (entry (s .labels) (l .low)) (entry (s .labels) (l .high)))) (s .labels)))
   labels-up ne = go (trichotomy p q)
     where
       p : ℕ
@@ -91,14 +93,16 @@ module _ (n : ℕ) (old : List ℕ) (ks : List Link) (inside : Inside n ks) (l :
           let lo : min p q ≡ p = omega arith in
           let hi : max p q ≡ q = omega arith in
           rw (lo, hi) (labels-ext n (ks ++ (l ∷ [])) (relabel p q (entry (s .labels))) (entry (map (relabelled p q) (s .labels)))
-          (labels-new n ks (ks ++ (l ∷ [])) l (inside-end n l ks inside ends) (more-end l ks) (entry (s .labels)) (shows .labels) (l .low) (l .high) (inl (refl, refl)) (ends .0) (ends .1) h)
+          (labels-new n ks (ks ++ (l ∷ [])) l (inside-end n l ks inside ends) (more-end l ks) (entry (s .labels)) (shows .labels) (l .low) (l .high)
+          (inl (refl, refl)) (ends .0) (ends .1) h)
           (entry-relabelled (s .labels) p q (omega (arith, shows .labels .low (l .high), ends .1, shows .long))))
       go (inr (inl h)) = absurd (ne h)
       go (inr (inr h)) =
           let lo : min p q ≡ q = omega arith in
           let hi : max p q ≡ p = omega arith in
           rw (lo, hi) (labels-ext n (ks ++ (l ∷ [])) (relabel q p (entry (s .labels))) (entry (map (relabelled q p) (s .labels)))
-          (labels-new n ks (ks ++ (l ∷ [])) l (inside-end n l ks inside ends) (more-end l ks) (entry (s .labels)) (shows .labels) (l .high) (l .low) (inr (refl, refl)) (ends .1) (ends .0) h)
+          (labels-new n ks (ks ++ (l ∷ [])) l (inside-end n l ks inside ends) (more-end l ks) (entry (s .labels)) (shows .labels) (l .high) (l .low)
+          (inr (refl, refl)) (ends .1) (ends .0) h)
           (entry-relabelled (s .labels) q p (omega (arith, shows .labels .low (l .low), ends .0, shows .long))))
 
   shows-up : (entry (s .labels) (l .low) ≡ entry (s .labels) (l .high) → ⊥)
@@ -125,7 +129,12 @@ module _ (n : ℕ) (old : List ℕ) (ks : List Link) (inside : Inside n ks) (l :
   pub shows-one : Shows n old (now n ks l) (grown-one l s)
   unfolding grown-one
   shows-one =
-      rw (labels-tell, getD-any (s .labels) (l .low) 0 (l .low) (omega (arith, ends .0, shows .long)), getD-any (s .labels) (l .high) 0 (l .high) (omega (arith, ends .1, shows .long)))
+      rw (
+        labels-tell,
+        getD-any (s .labels) (l .low) 0 (l .low) (omega (arith, ends .0, shows .long)),
+        getD-any (s .labels) (l .high) 0 (l .high)
+            (omega (arith, ends .1, shows .long)),
+      )
       (go (bool-cases (eqb (entry (s .labels) (l .low)) (entry (s .labels) (l .high)))))
     where
       a : ℕ
@@ -134,11 +143,13 @@ module _ (n : ℕ) (old : List ℕ) (ks : List Link) (inside : Inside n ks) (l :
       b : ℕ
       b = entry (s .labels) (l .high)
 
-      go : (eqb a b ≡ true) ⊎ (eqb a b ≡ false) → Shows n old (cond (eqb a b) ks (ks ++ (l ∷ []))) (cond {A = Growing} (eqb a b) s (joined-up (l .low) (l .high) a b s))
+      go : (eqb a b ≡ true) ⊎ (eqb a b ≡ false) → Shows n old (cond (eqb a b) ks (ks ++ (l ∷ [])))
+          (cond {A = Growing} (eqb a b) s (joined-up (l .low) (l .high) a b s))
       go (inl e) = rw e shows
       go (inr e) = rw e (shows-up (λ q. never (eqb a b) (eq-eqb a b q) e))
 
-pub shows-all : (n : ℕ) (old : List ℕ) (ls ks : List Link) → Inside n ls → Inside n ks → (s : Growing) → Shows n old ks s → Shows n old (keep n ks ls) (grown-all ls s)
+pub shows-all : (n : ℕ) (old : List ℕ) (ls ks : List Link) → Inside n ls → Inside n ks → (s : Growing) → Shows n old ks s → Shows n old (keep n ks ls)
+    (grown-all ls s)
 unfolding keep grown-all
 shows-all n old [] ks u i s h = h
 shows-all n old (l ∷ ls) ks u i s h =

@@ -52,7 +52,8 @@ module _ (g : Graph) (p : proper (g .n) (g .links) ≡ true) where
 
           close : (v : ℕ) × (x : ℕ) × Joined n (ps ++ rs) a v × Between l v x × Joined n (ps ++ rs) x b → ⊥
           close z = let h = below (z .0) (z .1) (z .3) in
-              turn (z .0) (z .1) (reachable-trans (joined-sym n (ps ++ rs) la (z .2)) (reachable-trans straight (joined-sym n (ps ++ rs) (h .1) (z .4)))) (h .0) (z .3)
+              turn (z .0) (z .1) (reachable-trans (joined-sym n (ps ++ rs) la (z .2)) (reachable-trans straight (joined-sym n (ps ++ rs) (h .1) (z .4)))) (h .0)
+              (z .3)
 
       go : (ps : List Link) × (rs : List Link) × (staircase g ≡ ps ++ (l ∷ rs)) → ⊥
       go z = at-place (z .0) (z .1) (z .2)
@@ -64,7 +65,8 @@ module _ (g : Graph) (p : proper (g .n) (g .links) ≡ true) where
   pub staircase-widest : (a b : ℕ) → a < g .n → (a ≡ b → ⊥) → (ps qs : List Link) → Way (g .links) a b ps → Way (staircase g) a b qs → Once qs
       → least (weight g) ps ≤ least (weight g) qs
   staircase-widest a b la ne ps [] wp stay o = absurd (ne refl)
-  staircase-widest a b la ne ps (m ∷ qs) wp wq o = le-least (weight g) (least (weight g) ps) m qs (λ l i. heavy-enough l i (bool-cases (leb (least (weight g) ps) (weight g l))))
+  staircase-widest a b la ne ps (m ∷ qs) wp wq o = le-least (weight g) (least (weight g) ps) m qs
+      (λ l i. heavy-enough l i (bool-cases (leb (least (weight g) ps) (weight g l))))
     where
       joined-heavy : Joined (g .n) (heavy (weight g) (least (weight g) ps) (staircase g)) a b
       joined-heavy = way-joined (g .n) (g .links) (heavy (weight g) (least (weight g) ps) (staircase g)) (links-inside g p) wp

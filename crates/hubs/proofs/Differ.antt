@@ -114,7 +114,8 @@ orders-differ claim =
     let w = after zeros 4 ds first .tables in
     let p = run-is (run 4 cs first) in
     let q = run-is (run 4 ds first) in
-    let e = claim 4 (first .tables) (first .tables) (called (events 4 cs first)) (called (events 4 ds first)) cs ds (played-one .cleared) (played-other .cleared)
+    let e = claim 4 (first .tables) (first .tables) (called (events 4 cs first)) (called (events 4 ds first)) cs ds (played-one .cleared)
+    (played-other .cleared)
     (subst (λ (es : List Event). Singles 4 es cs) (p .0) (singles 4 cs first (played-one .taken)))
     (subst (λ (es : List Event). Singles 4 es ds) (q .0) (singles 4 ds first (played-other .taken))) cases-same in
     let same : v .order ≡ w .order = ap (λ (o : Tables). o .order) (p .1) ∙ e ∙ sym (ap (λ (o : Tables). o .order) (q .1)) in

@@ -89,7 +89,8 @@ one-test-more : (f : ℕ → Bool) (v : ℕ) → all f (range 0 (v + 1)) ≡ (al
 unfolding all
 one-test-more f v =
     let z : 0 + v ≡ v = omega arith in
-    ap (λ (k : ℕ). all f (range 0 k)) (add-one v) ∙ ap (all f) (range-suc 0 v) ∙ all-append f (range 0 v) ((0 + v) ∷ []) ∙ rw z (drop-true (all f (range 0 v)) (f v))
+    ap (λ (k : ℕ). all f (range 0 k)) (add-one v) ∙ ap (all f) (range-suc 0 v) ∙ all-append f (range 0 v) ((0 + v) ∷ []) ∙ rw z
+    (drop-true (all f (range 0 v)) (f v))
   where
     drop-true : (b c : Bool) → (b && (c && true)) ≡ (b && c)
     drop-true true true = refl

@@ -56,9 +56,21 @@ before-key p k = go (trichotomy (p / 65536) (k / 65536)) (trichotomy (p % 65536)
     go (inr (inl e)) (inl f) =
         rw (le-ltb (p / 65536) (k / 65536) (omega arith), eq-eqb (p / 65536) (k / 65536) e, lt-ltb (p % 65536) (k % 65536) f, lt-ltb p k (omega arith))
     go (inr (inl e)) (inr (inl f)) =
-        rw (le-ltb (p / 65536) (k / 65536) (omega arith), eq-eqb (p / 65536) (k / 65536) e, le-ltb (p % 65536) (k % 65536) (omega arith), le-ltb p k (omega arith))
+        rw (
+          le-ltb (p / 65536) (k / 65536) (omega arith),
+          eq-eqb (p / 65536) (k / 65536) e,
+          le-ltb (p % 65536) (k % 65536) (omega arith),
+          le-ltb p k
+              (omega arith),
+        )
     go (inr (inl e)) (inr (inr f)) =
-        rw (le-ltb (p / 65536) (k / 65536) (omega arith), eq-eqb (p / 65536) (k / 65536) e, le-ltb (p % 65536) (k % 65536) (omega arith), le-ltb p k (omega arith))
+        rw (
+          le-ltb (p / 65536) (k / 65536) (omega arith),
+          eq-eqb (p / 65536) (k / 65536) e,
+          le-ltb (p % 65536) (k % 65536) (omega arith),
+          le-ltb p k
+              (omega arith),
+        )
     go (inr (inr e)) f =
         rw (le-ltb (p / 65536) (k / 65536) (omega arith), ne-eqb (p / 65536) (k / 65536) (λ z. omega arith), le-ltb p k (omega arith))
 
@@ -143,7 +155,8 @@ order-in bs q i x l e =
     let entry : (block-entries * q + i) % block-entries ≡ i = omega arith in
     e ∙ rw (block, entry)
 
-pub order-turn : (bs xs : List ℕ) (j x : ℕ) → Order-read bs j xs → j < length xs → x ≡ order-entry bs j → x < 65536 → Order-read bs (j + 1) (set xs j (x % 65536))
+pub order-turn : (bs xs : List ℕ) (j x : ℕ) → Order-read bs j xs → j < length xs → x ≡ order-entry bs j → x < 65536 → Order-read bs (j + 1)
+    (set xs j (x % 65536))
 order-turn bs xs j x r l e small k h = go (trichotomy k j)
   where
     go : (k < j) ⊎ ((k ≡ j) ⊎ (j < k)) → getD (set xs j (x % 65536)) k 0 ≡ order-entry bs k

@@ -25,7 +25,8 @@ pub zeros-put : (part new : List ℕ) (e k : ℕ) → length part ≡ block-byte
 zeros-put part new e k long h m is =
     let n : length (take k (drop e part)) ≡ block-bytes - e = omega (arith, length-take k (drop e part), length-drop e part) in
     let past : drop k (drop e part) ≡ [] = drop-of-length-le (drop e part) {i = k} (omega (arith, length-drop e part)) in
-    ap (λ (zs : List ℕ). take e part ++ zs) (ap₂ {C = List ℕ} (λ xs ys. xs ++ ys) (is ∙ ap (λ (j : ℕ). replicate {A = ℕ} j 0) n) past ∙ append-nil (replicate (block-bytes - e) 0))
+    ap (λ (zs : List ℕ). take e part ++ zs) (ap₂ {C = List ℕ} (λ xs ys. xs ++ ys) (is ∙ ap (λ (j : ℕ). replicate {A = ℕ} j 0) n) past ∙ append-nil
+    (replicate (block-bytes - e) 0))
 
 -- ---- a block sealed
 

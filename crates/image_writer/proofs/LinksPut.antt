@@ -62,7 +62,8 @@ module _ (a first rest : ℕ) (some : rest ≡ 0 → ⊥) (low : rest < 2 ^ 64) 
   b = first + trailingZeros 64 rest
 
   pub bits-turn : {ls : List Link} {from : ℕ} {old now : List ℕ} {at : ℕ} (new : List ℕ) → Links-put ls from old now at (links-to a (set-bits 64 first rest))
-      → at + 4 ≤ 508 → new ≡ sets now at (link-bytes (link-of a b)) → Links-put ls from old new (at + 4) (links-to a (set-bits 64 first (bitAnd rest (rest - 1))))
+      → at + 4 ≤ 508 → new ≡ sets now at (link-bytes (link-of a b)) → Links-put ls from old new (at + 4)
+      (links-to a (set-bits 64 first (bitAnd rest (rest - 1))))
   bits-turn {ls} {from} {old} {now} {at} new p h e =
       put-whole (link-of a b ∷ []) (links-to a (set-bits 64 first (bitAnd rest (rest - 1)))) new (at + 4) []
       (rw (links-lowest a first rest low some) at p) (put-one (link-of a b) at now new h e) refl
@@ -138,7 +139,8 @@ module _ (ts : List ℕ) (a k first rest left : ℕ) {old new : List ℕ} {from 
   whole : Links-put (row-left ts a k first rest) from old new at (links-to a (set-bits 64 first left) ++ after ts a k)
   whole =
       rw (row-left-is ts a k first rest)
-      (put-then (links-to a (set-bits 64 first rest)) (after ts a k) new at _ (put-none (links-to a (set-bits 64 first rest) ++ after ts a k) from old (omega (arith, p .place, p .within))) p)
+      (put-then (links-to a (set-bits 64 first rest)) (after ts a k) new at _
+      (put-none (links-to a (set-bits 64 first rest) ++ after ts a k) from old (omega (arith, p .place, p .within))) p)
 
   pub row-stop : Links-put (row-left ts a k first rest) from old new at (row-left ts a k first left)
   row-stop = rw (row-left-is ts a k first left) whole
@@ -146,7 +148,8 @@ module _ (ts : List ℕ) (a k first rest left : ℕ) {old new : List ℕ} {from 
   pub row-turn : left ≡ 0 → (last : List ℕ) (to : ℕ) (others : List Link) → Links-put (after ts a k) at new last to others
       → Links-put (row-left ts a k first rest) from old last to others
   row-turn z last to others q =
-      let mine : Links-put (row-left ts a k first rest) from old new at (after ts a k ++ []) = rw (append-nil (after ts a k)) (rw (links-none a first left z) at whole) in
+      let mine : Links-put (row-left ts a k first rest) from old new at (after ts a k ++ []) = rw (append-nil (after ts a k))
+      (rw (links-none a first left z) at whole) in
       rw (append-nil others) at (put-then (after ts a k) [] last to others mine q)
 
 -- where something of a word is left, the block is full
@@ -189,7 +192,8 @@ module _ (n : ℕ) (ts : List ℕ) (a k first rest : ℕ) {from at : ℕ} {old n
       put-then (row-left ts a k first rest) (links-from n ts (a + 1) 0) now at left
       (put-none (row-left ts a k first rest ++ links-from n ts (a + 1) 0) from old (omega (arith, p .place, p .within))) p
 
-  pub left-stop : (k₂ first₂ rest₂ : ℕ) → left ≡ row-left ts a k₂ first₂ rest₂ → Links-put (links-left n ts a k first rest) from old now at (links-left n ts a k₂ first₂ rest₂)
+  pub left-stop : (k₂ first₂ rest₂ : ℕ) → left ≡ row-left ts a k₂ first₂ rest₂ → Links-put (links-left n ts a k first rest) from old now at
+      (links-left n ts a k₂ first₂ rest₂)
   unfolding links-left
   left-stop k₂ first₂ rest₂ d = rw d at left-put
 
@@ -235,7 +239,8 @@ module _ (n : ℕ) (ts : List ℕ) (a k first rest : ℕ) {from at : ℕ} {old n
   pub left-stop-as : (row : ℕ) → row ≡ a → Links-put (links-left n ts a k first rest) 4 old now at (links-left n ts row k₂ first₂ rest₂)
   left-stop-as row d = rw d (rw e at (left-stop n ts a k first rest _ p k₂ first₂ rest₂ refl))
 
-  pub left-turn-as : row-left ts a k₂ first₂ rest₂ ≡ [] → (new : List ℕ) (to : ℕ) (others : List Link) → Links-put (links-from n ts (a + 1) 0) at now new to others
+  pub left-turn-as : row-left ts a k₂ first₂ rest₂ ≡ [] → (new : List ℕ) (to : ℕ) (others : List Link) → Links-put (links-from n ts (a + 1) 0) at now new to
+      others
       → Links-put (links-left n ts a k first rest) 4 old new to others
   left-turn-as d new to others q = rw e at (left-turn n ts a k first rest _ p d new to others q)
 

@@ -63,7 +63,12 @@ module _ (n : ℕ) (t : Tables) (w : List ℕ) where
     pub write-most : length (links-from n (t .links) 0 0) ≤ 20 * n
     unfolding sound graph-in
     write-most =
-        omega (arith, links-few max-neighbours g (t .order) (valid-graph-in max-neighbours n t write-small write-sound), ap (λ (h : Graph). length (h .links)) whole)
+        omega (
+          arith,
+          links-few max-neighbours g (t .order) (valid-graph-in max-neighbours n t write-small write-sound),
+          ap (λ (h : Graph). length (h .links))
+              whole,
+        )
 
     pub write-few : length (links-from n (t .links) 0 0) ≤ 10240
     unfolding sound graph-in
@@ -94,7 +99,8 @@ module _ (n : ℕ) (t : Tables) (w : List ℕ) where
           let zero-is : refusal ≡ 0 = write-yes n (lengths-of t) (length w) (sound n t) g passed (omega (arith, length-is)) in
           let front : flatMap (block-at (marked-graph n (t .links)) (t .order)) (range 0 blocks) ≡ image-of g (t .order) =
           ap₂ {C = List ℕ} (λ (m : Graph) (k : ℕ). flatMap (block-at m (t .order)) (range 0 k)) whole (counted ∙ blocks-are) in
-          let long : length (image-of g (t .order)) ≡ block-bytes * blocks = length-image-of g (t .order) ∙ ap (λ (k : ℕ). block-bytes * k) (sym (counted ∙ blocks-are)) in
+          let long : length (image-of g (t .order)) ≡ block-bytes * blocks = length-image-of g (t .order) ∙ ap (λ (k : ℕ). block-bytes * k)
+          (sym (counted ∙ blocks-are)) in
           listing-answered refusal _ _ w _ x zero-is (sym length-is) (e ∙ ap₂ {C = List ℕ} (λ (xs : List ℕ) (k : ℕ). xs ++ drop k w) front (sym long))
 
     -- ---- the blocks of links from block `first` on, and the blocks before them
@@ -127,4 +133,5 @@ module _ (n : ℕ) (t : Tables) (w : List ℕ) where
             → Write-contract n t w (record { number = 0; value = block-bytes * blocks }) x
         unfolding block-count
         write-done x put =
-            write-accepted blocks write-blocks x (rw write-blocks fits) (image-filled n first ls (t .order) w h filled x blocks count r (omega (arith, h, fits)) put)
+            write-accepted blocks write-blocks x (rw write-blocks fits)
+            (image-filled n first ls (t .order) w h filled x blocks count r (omega (arith, h, fits)) put)

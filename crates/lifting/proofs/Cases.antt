@@ -6,5 +6,7 @@ use Rattle.calls.specs.{Questions.{ask, is-radio, are-radios, ends-differ, can-
 use Rattle.lifting.specs.Cases.{same-first, right, all-right, unlinked, path, triangle, alone, tail, tail-end, tail-middle, two-triangles, ring, cases}
 
 pub lift-cases : all-right cases ≡ true
-unfolding range count filter member radios linked other-ends neighbours-among degree link link-before same-link with-link new-links relinked survivors peeled cores-from cores depth number ask is-radio are-radios ends-differ can-switch has-room ends-refusal lifts lifting-from lifting same-first right all-right unlinked path triangle alone tail tail-end tail-middle two-triangles ring cases flatMap
+unfolding range count filter member radios linked other-ends neighbours-among degree link link-before same-link with-link new-links relinked survivors peeled
+    cores-from cores depth number ask is-radio are-radios ends-differ can-switch has-room ends-refusal lifts lifting-from lifting same-first right all-right
+    unlinked path triangle alone tail tail-end tail-middle two-triangles ring cases flatMap
 lift-cases = refl

@@ -58,7 +58,8 @@ set-front f k w x d l =
     let new : ℕ → ℕ = λ u. cond (eqb w u) x (f u) in
     set-append-left (map f (range 0 k)) (drop (length (map f (range 0 k))) d) w x (omega (arith, long f))
     ∙ ap₂ {C = List ℕ} (λ ys j. ys ++ drop j d)
-    (set-map-range f 0 k w x l ∙ map-range-ext (λ u. cond (eqb (0 + w) u) x (f u)) new 0 k (λ u a b. ap (λ (i : ℕ). cond {A = ℕ} (eqb i u) x (f u)) (zero-add w)))
+    (set-map-range f 0 k w x l ∙ map-range-ext (λ u. cond (eqb (0 + w) u) x (f u)) new 0 k
+    (λ u a b. ap (λ (i : ℕ). cond {A = ℕ} (eqb i u) x (f u)) (zero-add w)))
     (long f ∙ sym (long new))
 
 pub getD-front : (f : ℕ → ℕ) (k v : ℕ) (d : List ℕ) → v < k → getD (overwrite (map f (range 0 k)) d) v 0 ≡ f v

@@ -85,7 +85,8 @@ flatMap-take-drop f size i zero (b ∷ bs) len h = absurd (omega arith)
 flatMap-take-drop f size i (suc k) bs len h =
     let none : size * 0 ≡ 0 = omega arith in
     let first : take size bs ≡ f i = sym (ap (λ (x : ℕ). take size (drop x bs)) none) ∙ h 0 (omega arith) ∙ ap f (omega arith) in
-    ap₂ {C = List ℕ} (λ xs ys. xs ++ ys) (sym first) (flatMap-take-drop f size (suc i) k (drop size bs) (omega (arith, length-drop size bs, mul-suc size k)) rest)
+    ap₂ {C = List ℕ} (λ xs ys. xs ++ ys) (sym first)
+    (flatMap-take-drop f size (suc i) k (drop size bs) (omega (arith, length-drop size bs, mul-suc size k)) rest)
     ∙ take-append-drop size bs
   where
     rest : (v : ℕ) → v < k → take size (drop (size * v) (drop size bs)) ≡ f (suc i + v)

@@ -23,11 +23,13 @@ use Rattle.calls.specs.{Outcomes.{listing}, Chains.{set-store, removed-store}}
 
 -- ---- 1, 2, 3 or 17 got no
 
-stopped : (n : ℕ) (l : Lengths) (sound : Bool) (x bs : List ℕ) (later : ℕ) → (mark-refusal n l sound x bs 0 ≡ 0 → ⊥) → mark-refusal n l sound x bs later ≡ mark-refusal n l sound x bs 0
+stopped : (n : ℕ) (l : Lengths) (sound : Bool) (x bs : List ℕ) (later : ℕ) → (mark-refusal n l sound x bs 0 ≡ 0 → ⊥) → mark-refusal n l sound x bs later ≡
+    mark-refusal n l sound x bs 0
 unfolding mark-refusal site-refusal lent-refusal ask
 stopped n l sound x bs later h = go (size-good n) (site-lengths n l && store-length bs) sound (marks-good n x bs) h
   where
-    go : (a b c d : Bool) → (ask 1 a (ask 2 b (ask 3 c (ask 17 d 0))) ≡ 0 → ⊥) → ask 1 a (ask 2 b (ask 3 c (ask 17 d later))) ≡ ask 1 a (ask 2 b (ask 3 c (ask 17 d 0)))
+    go : (a b c d : Bool) → (ask 1 a (ask 2 b (ask 3 c (ask 17 d 0))) ≡ 0 → ⊥) → ask 1 a (ask 2 b (ask 3 c (ask 17 d later))) ≡ ask 1 a
+        (ask 2 b (ask 3 c (ask 17 d 0)))
     go true true true true k = absurd (k refl)
     go true true true false k = refl
     go true true false d k = refl
@@ -163,9 +165,11 @@ module _ (n : ℕ) (x : List ℕ) (t : Tables) (bs : List ℕ) (q : ℕ) (e : q 
         ∙ replaced marks are-sized (asked .store .marks .few) (rank x marks) p l
         ∙ ap store-of (sym (at-name p there′)))
       where
-        at-name : (p : List ℕ) → has-mark x marks ≡ true → with-mark (place-of x image) marks ≡ take (rank x marks) marks ++ (place-of x image ∷ drop (suc (rank x marks)) marks)
+        at-name : (p : List ℕ) → has-mark x marks ≡ true → with-mark (place-of x image) marks ≡ take (rank x marks) marks ++
+            (place-of x image ∷ drop (suc (rank x marks)) marks)
         at-name p h =
-            subst (λ (y : List ℕ). has-mark y marks ≡ true → with-mark (place-of x image) marks ≡ take (rank y marks) marks ++ (place-of x image ∷ drop (suc (rank y marks)) marks))
+            subst (λ (y : List ℕ). has-mark y marks ≡ true → with-mark (place-of x image) marks ≡ take (rank y marks) marks ++
+            (place-of x image ∷ drop (suc (rank y marks)) marks))
             (mark-kept .name) (with-at n (place-of x image) [] marks (asked .store .marks .rising)) h
 
     pub set-full : there ≡ false → used ≡ places → Set-contract n x t bs 19 bs
@@ -184,7 +188,8 @@ module _ (n : ℕ) (x : List ℕ) (t : Tables) (bs : List ℕ) (q : ℕ) (e : q 
         let none : has-mark x marks ≡ false = sym there-is ∙ h in
         let less : length marks < places = omega (arith, room m, spot .counted) in
         set-by (ap₂ {C = Bool} (λ a b. a || b) none (lt-ltb (length marks) places less)) cs
-        (f ∙ ap₂ {C = List ℕ} (λ j k. take (place-bytes * j) (moved-up bs (place-bytes * j) (place-bytes * k)) ++ (p ++ drop (place-bytes * j + place-bytes) (moved-up bs (place-bytes * j) (place-bytes * k)))) (spot .ranked) (spot .counted)
+        (f ∙ ap₂ {C = List ℕ} (λ j k. take (place-bytes * j) (moved-up bs (place-bytes * j) (place-bytes * k)) ++
+        (p ++ drop (place-bytes * j + place-bytes) (moved-up bs (place-bytes * j) (place-bytes * k)))) (spot .ranked) (spot .counted)
         ∙ ap (λ (os : List ℕ). take (place-bytes * rank x marks) (moved-up os (place-bytes * rank x marks) (place-bytes * length marks))
         ++ (p ++ drop (place-bytes * rank x marks + place-bytes) (moved-up os (place-bytes * rank x marks) (place-bytes * length marks)))) (asked .store .whole)
         ∙ inserted marks are-sized (asked .store .marks .few) (rank x marks) p (rank-most n x marks) less
@@ -192,7 +197,8 @@ module _ (n : ℕ) (x : List ℕ) (t : Tables) (bs : List ℕ) (q : ℕ) (e : q 
       where
         at-name : has-mark x marks ≡ false → with-mark (place-of x image) marks ≡ take (rank x marks) marks ++ (place-of x image ∷ drop (rank x marks) marks)
         at-name h =
-            subst (λ (y : List ℕ). has-mark y marks ≡ false → with-mark (place-of x image) marks ≡ take (rank y marks) marks ++ (place-of x image ∷ drop (rank y marks) marks))
+            subst (λ (y : List ℕ). has-mark y marks ≡ false → with-mark (place-of x image) marks ≡ take (rank y marks) marks ++
+            (place-of x image ∷ drop (rank y marks) marks))
             (mark-kept .name) (with-new n (place-of x image) [] marks (asked .store .marks .rising)) h
 
     -- ---- 18
@@ -239,7 +245,8 @@ module _ (n : ℕ) (x : List ℕ) (t : Tables) (bs : List ℕ) (q : ℕ) (e : q 
         found-at n x [] marks (asked .store .marks .rising) (sym there-is ∙ h)
         ∙ mark-at bs (rank x marks) (omega (arith, below h, spot .counted, spot .ranked)) ∙ ap (place-at bs) (sym (spot .ranked))
 
-    module _ (h : there ≡ true) (s : ℕ) (size : s ≡ image-size n (drop name-bytes (take (place-bytes * first + place-bytes - place-bytes * first) (drop (place-bytes * first) bs)))) where
+    module _ (h : there ≡ true) (s : ℕ) (size : s ≡ image-size n
+        (drop name-bytes (take (place-bytes * first + place-bytes - place-bytes * first) (drop (place-bytes * first) bs)))) where
       whole-place : take (place-bytes * first + place-bytes - place-bytes * first) (drop (place-bytes * first) bs) ≡ place-at bs first
       unfolding place-at
       whole-place =
@@ -278,7 +285,8 @@ module _ (n : ℕ) (x : List ℕ) (t : Tables) (bs : List ℕ) (q : ℕ) (e : q 
               absurd (omega (arith, own, size-is, length-drop name-bytes (place-at bs first), place-long))
 
       -- the part that is read
-      part-is : take (place-bytes * first + name-bytes + s - (place-bytes * first + name-bytes)) (drop (place-bytes * first + name-bytes) bs) ≡ mark-image n x bs
+      part-is : take (place-bytes * first + name-bytes + s - (place-bytes * first + name-bytes)) (drop (place-bytes * first + name-bytes) bs) ≡ mark-image n x
+          bs
       unfolding place-at
       part-is =
           let e : place-bytes * first + name-bytes + s - (place-bytes * first + name-bytes) ≡ s = omega arith in
@@ -286,7 +294,8 @@ module _ (n : ℕ) (x : List ℕ) (t : Tables) (bs : List ℕ) (q : ℕ) (e : q 
           ∙ sym (take-drop-take name-bytes s place-bytes (drop (place-bytes * first) bs) fits) ∙ sym image-is
 
       pub returned : (r : ℕ) (v : Tables) →
-          Read-contract n (take (place-bytes * first + name-bytes + s - (place-bytes * first + name-bytes)) (drop (place-bytes * first + name-bytes) bs)) t r v →
+          Read-contract n (take (place-bytes * first + name-bytes + s - (place-bytes * first + name-bytes)) (drop (place-bytes * first + name-bytes) bs)) t r v
+          →
           Return-contract n x bs t r v
       unfolding Return-contract return-outcome Read-contract read-outcome is-marked
       returned r v d =

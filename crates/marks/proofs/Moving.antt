@@ -28,7 +28,8 @@ up-none bs to =
     let e : 0 ≡ to - to = omega arith in
     sym (take-append-drop (to + place-bytes) bs) ∙ ap (λ (k : ℕ). take (to + place-bytes) bs ++ (take k (drop to bs) ++ drop (to + place-bytes) bs)) e
 
-pub up-turn : (bs now : List ℕ) (i to : ℕ) → suc i ≤ to → to + place-bytes ≤ length bs → now ≡ moved-up bs (suc i) to → set now (i + place-bytes) (getD now i 0) ≡ moved-up bs i to
+pub up-turn : (bs now : List ℕ) (i to : ℕ) → suc i ≤ to → to + place-bytes ≤ length bs → now ≡ moved-up bs (suc i) to → set now (i + place-bytes) (getD now i 0)
+    ≡ moved-up bs i to
 unfolding moved-up
 up-turn bs now i to l h e =
     let rest = take (to - suc i) (drop (suc i) bs) ++ drop (to + place-bytes) bs in
@@ -36,7 +37,8 @@ up-turn bs now i to l h e =
     let x = getD bs (i + place-bytes) 0 in
     let s : suc i + place-bytes ≡ suc (i + place-bytes) = omega arith in
     let f : now ≡ front ++ (x ∷ rest) =
-    e ∙ ap (λ (k : ℕ). take k bs ++ rest) s ∙ ap (λ (ys : List ℕ). ys ++ rest) (take-suc bs (i + place-bytes) 0 (omega arith)) ∙ append-assoc front (x ∷ []) rest in
+    e ∙ ap (λ (k : ℕ). take k bs ++ rest) s ∙ ap (λ (ys : List ℕ). ys ++ rest) (take-suc bs (i + place-bytes) 0 (omega arith)) ∙ append-assoc front (x ∷ [])
+    rest in
     let v : getD now i 0 ≡ getD bs i 0 =
     ap (λ (ys : List ℕ). getD ys i 0) (e ∙ ap (λ (k : ℕ). take k bs ++ rest) s)
     ∙ getD-front i (suc (i + place-bytes)) bs rest (omega arith) (omega arith) in

@@ -50,11 +50,13 @@ module _ (n : ℕ) (t : Tables) (x : List ℕ) (k : Markable n t x) (len : ℕ) 
     placed =
         let none : drop (length y - name-bytes) (drop name-bytes y) ≡ [] =
         let l : length (drop name-bytes y) ≤ length y - name-bytes = omega (arith, length-drop name-bytes y) in drop-of-length-le (drop name-bytes y) l in
-        ap₂ {C = List ℕ} (λ xs ys. xs ++ (w ++ ys)) (ap (take name-bytes) name-then ∙ take-at x (replicate (len - name-bytes) 0) name-bytes (length-name x (k .name))) none
+        ap₂ {C = List ℕ} (λ xs ys. xs ++ (w ++ ys))
+        (ap (take name-bytes) name-then ∙ take-at x (replicate (len - name-bytes) 0) name-bytes (length-name x (k .name))) none
         ∙ ap (λ (ys : List ℕ). x ++ ys) (append-nil w ∙ accepted)
 
 -- a place of the store
-pub placed-at : (bs : List ℕ) (i : ℕ) (w p : List ℕ) → w ≡ p → putMid (place-bytes * i) (place-bytes * i + place-bytes - place-bytes * i) bs w ≡ put-place bs i p
+pub placed-at : (bs : List ℕ) (i : ℕ) (w p : List ℕ) → w ≡ p → putMid (place-bytes * i) (place-bytes * i + place-bytes - place-bytes * i) bs w ≡ put-place bs i
+    p
 unfolding put-place
 placed-at bs i w p e =
     let f : place-bytes * i + (place-bytes * i + place-bytes - place-bytes * i) ≡ place-bytes * i + place-bytes = omega arith in

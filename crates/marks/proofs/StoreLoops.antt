@@ -29,13 +29,15 @@ part-is bs i =
     ap (λ (k : ℕ). take k (drop (place-bytes * i) bs)) e
 
 -- the places from i on
-from-place : (bs : List ℕ) (i : ℕ) → i < places → places-of (places - i) (drop (place-bytes * i) bs) ≡ place-at bs i ∷ places-of (places - (i + 1)) (drop (place-bytes * (i + 1)) bs)
+from-place : (bs : List ℕ) (i : ℕ) → i < places → places-of (places - i) (drop (place-bytes * i) bs) ≡ place-at bs i ∷ places-of (places - (i + 1))
+    (drop (place-bytes * (i + 1)) bs)
 unfolding places-of place-at
 from-place bs i l =
     let e : places - i ≡ suc (places - (i + 1)) = omega arith in
     let f : place-bytes * i + place-bytes ≡ place-bytes * (i + 1) = omega arith in
     ap (λ (k : ℕ). places-of k (drop (place-bytes * i) bs)) e
-    ∙ ap {B = List (List ℕ)} (λ (xs : List ℕ). place-at bs i ∷ places-of (places - (i + 1)) xs) (drop-drop place-bytes (place-bytes * i) bs ∙ ap (λ (k : ℕ). drop k bs) f)
+    ∙ ap {B = List (List ℕ)} (λ (xs : List ℕ). place-at bs i ∷ places-of (places - (i + 1)) xs)
+    (drop-drop place-bytes (place-bytes * i) bs ∙ ap (λ (k : ℕ). drop k bs) f)
 
 used-more : (p : List ℕ) (ps : List (List ℕ)) → is-zeros p ≡ false → used (p ∷ ps) ≡ p ∷ used ps
 unfolding used
@@ -84,12 +86,14 @@ unfolding last-name
 testing-none n bs = record { low = omega arith; left = refl }
 
 marks-step : (n : ℕ) (bs : List ℕ) (i : ℕ) → i < length (marks-in bs)
-    → are-marks n (last-name bs i) (drop i (marks-in bs)) ≡ (is-mark n (place-at bs i) && (before (last-name bs i) (name-at bs i) && are-marks n (last-name bs (i + 1)) (drop (i + 1) (marks-in bs))))
+    → are-marks n (last-name bs i) (drop i (marks-in bs)) ≡
+    (is-mark n (place-at bs i) && (before (last-name bs i) (name-at bs i) && are-marks n (last-name bs (i + 1)) (drop (i + 1) (marks-in bs))))
 unfolding are-marks last-name
 marks-step n bs i l =
     let e : suc i ≡ i + 1 = omega arith in
     ap (are-marks n (last-name bs i)) (drop-cons (marks-in bs) i [] l)
-    ∙ ap₂ {C = Bool} (λ (p x : List ℕ). is-mark n p && (before (last-name bs i) x && are-marks n x (drop (suc i) (marks-in bs)))) (mark-at bs i l) (ap name-in (mark-at bs i l) ∙ name-of-place bs i)
+    ∙ ap₂ {C = Bool} (λ (p x : List ℕ). is-mark n p && (before (last-name bs i) x && are-marks n x (drop (suc i) (marks-in bs)))) (mark-at bs i l)
+    (ap name-in (mark-at bs i l) ∙ name-of-place bs i)
     ∙ ap (λ (k : ℕ). is-mark n (place-at bs i) && (before (last-name bs i) (name-at bs i) && are-marks n (last-name bs k) (drop k (marks-in bs)))) e
 
 -- ---- names in turn
@@ -99,7 +103,8 @@ unfolding name-at
 rising-parts bs i =
     let e : place-bytes * i + name-bytes - place-bytes * i ≡ name-bytes = omega arith in ap (λ (k : ℕ). take k (drop (place-bytes * i) bs)) e
 
-pub rising-first : (bs : List ℕ) (i : ℕ) (r : Bool) → i ≡ 0 → r ≡ before (take (0 - 0) (drop 0 bs)) (take (place-bytes * i + name-bytes - place-bytes * i) (drop (place-bytes * i) bs))
+pub rising-first : (bs : List ℕ) (i : ℕ) (r : Bool) → i ≡ 0 → r ≡ before (take (0 - 0) (drop 0 bs))
+    (take (place-bytes * i + name-bytes - place-bytes * i) (drop (place-bytes * i) bs))
     → r ≡ before (last-name bs i) (name-at bs i)
 unfolding last-name
 rising-first bs i r z e =
@@ -181,7 +186,8 @@ module _ (bs x : List ℕ) (i : ℕ) (f : Ranking bs x i) (l : i < length (marks
 
   pub ranking-turn : r ≡ true → Ranking bs x (i + 1)
   ranking-turn h =
-      let e : rank x (drop i (marks-in bs)) ≡ suc (rank x (drop (i + 1) (marks-in bs))) = rank-from ∙ ap (λ (t : Bool). cond t (suc (rank x (drop (i + 1) (marks-in bs)))) 0) h in
+      let e : rank x (drop i (marks-in bs)) ≡ suc (rank x (drop (i + 1) (marks-in bs))) = rank-from ∙ ap
+      (λ (t : Bool). cond t (suc (rank x (drop (i + 1) (marks-in bs)))) 0) h in
       record { low = omega arith; left = omega (arith, f .left, e) }
 
   pub ranking-stop : r ≡ false → i ≡ rank x (marks-in bs)

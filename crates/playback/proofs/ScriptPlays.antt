@@ -135,7 +135,13 @@ module _ (n : ℕ) (least : 1 ≤ n) where
       record {
         none-refused = rw said (none-refused-more (reported true changes) _ refl (c .none-refused));
         tables = leaves ∙ c .tables;
-        text = rw (line-of-up l (ends .0) (ends .1), line-up n least ps u k l (ok .0) m w room (λ y z. lines-text n (map up-line ls) (m + 1) y z), said, leaves, c .text)
+        text = rw (
+          line-of-up l (ends .0) (ends .1),
+          line-up n least ps u k l (ok .0) m w room (λ y z. lines-text n (map up-line ls) (m + 1) y z),
+          said,
+          leaves,
+          c .text,
+        )
             (sym (append-assoc (answer-line (reported true changes)) (flatMap answer-line (answers (events (up-calls n ls) v)))
             (closing-lines (after (up-calls n ls) v .numbers) (after (up-calls n ls) v .order))));
       }

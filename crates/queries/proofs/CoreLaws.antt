@@ -71,7 +71,8 @@ module _ (n : ℕ) (t : Tables) (s : Sound-site n t) (k v : ℕ) (radio : v < n)
       unfolding members
       members-core =
           filter-ext (in-set own) (λ w. member w (core-of g v k)) (range 0 max-radios) (λ w m. in-core w)
-          ∙ filter-range-within (λ w. member w (core-of g v k)) n max-radios (s .small) (λ w l. not-member w (core-of g v k) (λ m. outside w l (core-radio-in w (in-member w (core-of g v k) m))))
+          ∙ filter-range-within (λ w. member w (core-of g v k)) n max-radios (s .small)
+          (λ w l. not-member w (core-of g v k) (λ m. outside w l (core-radio-in w (in-member w (core-of g v k) m))))
           ∙ sym ascending-core
         where
           outside : (w : ℕ) → n ≤ w → In-core (graph-in n (t .links)) v k w → ⊥

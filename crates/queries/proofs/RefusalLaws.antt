@@ -41,7 +41,8 @@ module _ (n v k w : ℕ) (t : Tables) (q : ℕ) (asked : q ≡ site-refusal n (l
 
   pub core-four : q ≡ 0 → n ≤ v → 4 ≡ core-refusal n v k (lengths-of t) w (sound n t) g
   unfolding answer-length
-  core-four e h = sym (site-later-yes n (lengths-of t) (leb n w) (sound n t) q asked _ e ∙ ask-no 4 (is-radio n v) (ask 8 (has-level g v k) 0) (not-radio n v h))
+  core-four e h = sym (site-later-yes n (lengths-of t) (leb n w) (sound n t) q asked _ e ∙ ask-no 4 (is-radio n v) (ask 8 (has-level g v k) 0)
+      (not-radio n v h))
 
   -- the tables, once 1 to 3 got yes
   pub core-site : q ≡ 0 → Sound-site n t

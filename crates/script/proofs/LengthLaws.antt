@@ -9,7 +9,13 @@ pub length-fields-le : (k : ℕ) (xs : List ℕ) → ((x : ℕ) → In x xs → 
 unfolding further-fields
 length-fields-le k [] h = omega arith
 length-fields-le k (x ∷ xs) h =
-    omega (arith, length-append (decimal x) (further-fields (map decimal xs)), length-decimal-le k x (h x (inl refl)), length-fields-le k xs (λ y m. h y (inr m)))
+    omega (
+      arith,
+      length-append (decimal x) (further-fields (map decimal xs)),
+      length-decimal-le k x (h x (inl refl)),
+      length-fields-le k xs
+          (λ y m. h y (inr m)),
+    )
 
 -- a word, and numbers below 10 ^ k
 pub length-line-le : (word : List ℕ) (k : ℕ) (xs : List ℕ) → ((x : ℕ) → In x xs → x < 10 ^ suc k)

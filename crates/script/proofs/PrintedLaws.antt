@@ -9,4 +9,5 @@ pub puts-link-line : {b c d e f : Buffer} (number : ℕ) {y : ℤ} (z : ℤ) {xs
     → Puts b (link-line number z cs) f
 unfolding link-line printed-line further-fields
 puts-link-line number z cs same-step same-radios p q r s =
-    puts-append p (puts-append q (puts-append (puts-as (ap step-text same-step) r) (puts-as (ap (λ (l : List ℕ). further-fields (map decimal l)) same-radios) s)))
+    puts-append p (puts-append q (puts-append (puts-as (ap step-text same-step) r)
+    (puts-as (ap (λ (l : List ℕ). further-fields (map decimal l)) same-radios) s)))

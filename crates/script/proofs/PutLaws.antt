@@ -79,7 +79,8 @@ up-put x y p q r s = puts-append p (puts-append q (puts-append r s))
 
 -- the word of a line that fits has room, and so have both its radios and its line feed
 module _ (bytes : List ℕ) (at a b : ℕ) (room : at + length (up-text a b) ≤ length bytes) (long : length bytes ≤ max-place) where
-  pub up-word : {xs : List ℕ} {w : ℕ} → Puts (buffer-at bytes at) (bytes-of "up ") (buffer-at xs w) → w + 2 + length (decimal a) + length (decimal b) ≤ length bytes
+  pub up-word : {xs : List ℕ} {w : ℕ} → Puts (buffer-at bytes at) (bytes-of "up ") (buffer-at xs w) → w + 2 + length (decimal a) + length (decimal b) ≤ length
+      bytes
   up-word o = omega (arith, length-up-text a b, puts-place o (omega (arith, length-up-text a b)))
 
   pub up-lower : {xs ys : List ℕ} {w s : ℕ} → Puts (buffer-at bytes at) (bytes-of "up ") (buffer-at xs w)

@@ -54,7 +54,8 @@ module _ (n : ℕ) (t : Tables) (s : Sound-site n t) where
     shown =
         rw (is-end, s .numbers-long, levels-graph (greatest (t .numbers)), s .numbers)
         (shows-all n old (falling (weight site) (greatest (numbers site)) (site .links)) []
-        (λ l i. inside l (in-falling (weight site) (greatest (numbers site)) (site .links) l i .0)) (λ l i. absurd i) (growing (range 0 n) old 0) (shows-none n old))
+        (λ l i. inside l (in-falling (weight site) (greatest (numbers site)) (site .links) l i .0)) (λ l i. absurd i) (growing (range 0 n) old 0)
+        (shows-none n old))
 
     fewer : length (staircase site) < n
     unfolding graph-in

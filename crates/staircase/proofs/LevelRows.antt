@@ -138,7 +138,8 @@ neighbours-putting-turn ts list old i set after l same joined h = record {
         ∙ or-right (in-set set x) (member x (row-listed ts (getD list i 0))) (ap (λ (u : ℕ). member x (row-listed ts (getD list u 0))) (sym z) ∙ m)
     go j x (inr q) r m = let d = eqb-false j i q in stays x (h .near j x (omega (arith, d)) m)
 
-pub neighbours-putting-end : (ts list old : List ℕ) (i : ℕ) (set : List ℕ) → length list ≤ i → Neighbours-putting ts list old i set → Neighbours-put ts list old set
+pub neighbours-putting-end : (ts list old : List ℕ) (i : ℕ) (set : List ℕ) → length list ≤ i → Neighbours-putting ts list old i set → Neighbours-put ts list old
+    set
 neighbours-putting-end ts list old i set l h = record { kept = h .kept; near = λ j x r m. h .near j x (omega arith) m }
 
 -- ---- the rows listed
@@ -148,7 +149,8 @@ listed-front : (xs old list : List ℕ) (r : ℕ) → length xs ≤ length old �
     → take r list ≡ xs
 listed-front xs old list r fits counted listed =
     let all : r ≡ length xs = omega arith in
-    ap (λ (k : ℕ). take k list) all ∙ ap (take (length xs)) (listed ∙ ap (λ (ys : List ℕ). overwrite ys old) (take-all (length old) xs fits)) ∙ take-overwrite xs old
+    ap (λ (k : ℕ). take k list) all ∙ ap (take (length xs)) (listed ∙ ap (λ (ys : List ℕ). overwrite ys old) (take-all (length old) xs fits)) ∙ take-overwrite
+    xs old
 
 few-radios : (f : ℕ → Bool) → length (filter f (range 0 max-radios)) ≤ max-radios
 few-radios f = filter-le f (range 0 max-radios) max-radios (length-range 0 max-radios)
@@ -250,7 +252,8 @@ filter-links-flatMap f h (x ∷ xs) =
     filter-links-append f (h x) (flatMap h xs) ∙ ap {B = List Link} (λ ls. filter-links f (h x) ++ ls) (filter-links-flatMap f h xs)
 
 -- entries that give nothing may be left out
-flatMap-filter : (g : ℕ → Bool) (h k : ℕ → List Link) (xs : List ℕ) → ((a : ℕ) → In a xs → g a ≡ false → h a ≡ []) → ((a : ℕ) → In a xs → g a ≡ true → k a ≡ h a)
+flatMap-filter : (g : ℕ → Bool) (h k : ℕ → List Link) (xs : List ℕ) → ((a : ℕ) → In a xs → g a ≡ false → h a ≡ []) →
+    ((a : ℕ) → In a xs → g a ≡ true → k a ≡ h a)
     → flatMap k (filter g xs) ≡ flatMap h xs
 unfolding flatMap filter
 flatMap-filter g h k [] none same = refl
@@ -355,7 +358,8 @@ module _ (ts ns : List ℕ) (k : ℕ) (some : 1 ≤ k) (rows : Mutual (length ns
       where
         none : (b : ℕ) → (b < max-radios) × (marked ts a b ≡ true) → min (getD ns a 0) (getD ns b 0) ≡ k → ⊥
         none b m q =
-            never (taken a) (and-both (in-set reach a) (found .rows a) (of-reach a l ∙ le-leb k (getD ns a 0) (omega arith)) (row-found a b l (m .0) (m .1) q)) e
+            never (taken a) (and-both (in-set reach a) (found .rows a) (of-reach a l ∙ le-leb k (getD ns a 0) (omega arith)) (row-found a b l (m .0) (m .1) q))
+            e
 
     pub level-links : flatMap (level-row ts own reach) (take r list) ≡ of-weight (table-weight ns) k (links-from n ts 0 0)
     unfolding links-from

@@ -17,7 +17,8 @@ use Rattle.staircase.specs.{Taking.{Takeable}, Rows.{row-among, level-ro
 -- ---- set bits of two words
 
 -- a test that tells the digits of y, where the word x has its bits, leaves the bits that both have
-filter-bits : (d i x y : ℕ) (f : ℕ → Bool) → ((m : ℕ) → m < d → digit x m ≡ true → f (i + m) ≡ digit y m) → filter f (set-bits d i x) ≡ set-bits d i (bitAnd x y)
+filter-bits : (d i x y : ℕ) (f : ℕ → Bool) → ((m : ℕ) → m < d → digit x m ≡ true → f (i + m) ≡ digit y m) → filter f (set-bits d i x) ≡ set-bits d i
+    (bitAnd x y)
 unfolding set-bits filter
 filter-bits zero i x y f h = refl
 filter-bits (suc d) i x y f h =
@@ -77,7 +78,8 @@ module _ (ts : List ℕ) (bytes : (j : ℕ) → getD ts j 0 < 256) (s : List ℕ
       let e = read ∙ word-of-row ts a k m long whole h in
       ap (links-to a) (ap (filter (in-set s)) (row-split ts bytes a k w h e)
       ∙ filter-append (in-set s) (set-bits 64 (64 * k) w) (row-from ts a (k + 1))
-      ∙ ap (λ (xs : List ℕ). xs ++ filter (in-set s) (row-from ts a (k + 1))) (filter-bits 64 (64 * k) w (getD s k 0) (in-set s) (λ m l d. member-word s k m l)))
+      ∙ ap (λ (xs : List ℕ). xs ++ filter (in-set s) (row-from ts a (k + 1)))
+      (filter-bits 64 (64 * k) w (getD s k 0) (in-set s) (λ m l d. member-word s k m l)))
       ∙ map-append (link-of a) (set-bits 64 (64 * k) (bitAnd w (getD s k 0))) (filter (in-set s) (row-from ts a (k + 1)))
 
   words-none : (k : ℕ) → 8 ≤ k → links-to a (filter (in-set s) (row-from ts a k)) ≡ []
@@ -94,7 +96,12 @@ module _ (ts : List ℕ) (bytes : (j : ℕ) → getD ts j 0 < 256) (s : List ℕ
       past l x i =
           let row = in-filter (in-set s) (row-from ts a k) x i .0 in
           let place = in-filter (λ b. marked ts a b) (range (64 * k) (max-radios - 64 * k)) x row .0 in
-          omega (arith, range-in (64 * k) (max-radios - 64 * k) x place .0, t .inside (link-of a x) (in-links-to a x (filter (in-set s) (row-from ts a k)) i) .1)
+          omega (
+            arith,
+            range-in (64 * k) (max-radios - 64 * k) x place .0,
+            t .inside (link-of a x)
+                (in-links-to a x (filter (in-set s) (row-from ts a k)) i) .1,
+          )
 
       go : (ltb k 8 ≡ true) ⊎ (ltb k 8 ≡ false) → links-to a (filter (in-set s) (row-from ts a k)) ≡ []
       go (inl e) = let l = ltb-true k 8 e in no-links a (filter (in-set s) (row-from ts a k)) (past (omega arith))

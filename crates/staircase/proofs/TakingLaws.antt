@@ -46,7 +46,11 @@ module _ (a b : ℕ) (ps old : List ℕ) (c : ℕ) where
   -- its ends are of one part; ways may have become shorter
   taken-joined : (qs : List ℕ) → Parents qs → roots qs ≡ roots ps → getD (roots ps) a 0 ≡ getD (roots ps) b 0 → Taken (l ∷ []) ps old c qs old c
   unfolding grown-all grown-one
-  taken-joined qs up e same = record { parents = up; is = ap (λ (xs : List ℕ). growing xs old c) e ∙ rw (eq-eqb (getD (roots ps) a 0) (getD (roots ps) b 0) same) }
+  taken-joined qs up e same = record {
+    parents = up;
+    is = ap (λ (xs : List ℕ). growing xs old c) e ∙ rw
+        (eq-eqb (getD (roots ps) a 0) (getD (roots ps) b 0) same);
+  }
 
   -- they have one parent
   pub taken-near : Parents ps → a < length ps → b < length ps → getD ps a 0 ≡ getD ps b 0 → Taken (l ∷ []) ps old c ps old c
@@ -86,7 +90,8 @@ module _ (a b : ℕ) (ps old : List ℕ) (c : ℕ) where
           record {
             parents = parents-set vs (two .parents) hi lo top (omega arith);
             is =
-                ap (λ (xs : List ℕ). growing xs new (c + 1)) (roots-joined vs (two .parents) lo hi less top (own .0) (own .1) ∙ ap (map (relabelled lo hi)) same-roots)
+                ap (λ (xs : List ℕ). growing xs new (c + 1))
+                (roots-joined vs (two .parents) lo hi less top (own .0) (own .1) ∙ ap (map (relabelled lo hi)) same-roots)
                 ∙ rw (ne-eqb (getD (roots ps) a 0) (getD (roots ps) b 0) differ, en, ef, el, eh, one .found, other-root);
           }
         where

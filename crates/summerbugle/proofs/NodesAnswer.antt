@@ -22,7 +22,8 @@ use Rattle.calls.specs.{Chains.{tree-refusal, nodes-length}, Questions.{by-numb
 abbrev nowhere : Node
 nowhere = node 0 0 0
 
-getD-front-map : (f : Node → ℕ) (xs : List Node) (d : List ℕ) (i : ℕ) → f nowhere ≡ 0 → i < length xs → getD (overwrite (map f xs) d) i 0 ≡ f (getD xs i nowhere)
+getD-front-map : (f : Node → ℕ) (xs : List Node) (d : List ℕ) (i : ℕ) → f nowhere ≡ 0 → i < length xs → getD (overwrite (map f xs) d) i 0 ≡ f
+    (getD xs i nowhere)
 unfolding overwrite
 getD-front-map f xs d i e l =
     List·getD-append (map f xs) (drop (length (map f xs)) d) 0 i (omega (arith, length-map f xs))
@@ -33,7 +34,8 @@ node-same x {i} {j} {k} p q r = ap (λ (a : ℕ). node a j k) p ∙ ap (λ (a : 
 
 module _ (xs : List Node) (a b c : List ℕ) where
   abbrev front-nodes : (k : ℕ) → List Node
-  front-nodes k = nodes-in (overwrite (map (λ (x : Node). x .name) xs) a) (overwrite (map (λ (x : Node). x .level) xs) b) (overwrite (map (λ (x : Node). x .parent) xs) c) k
+  front-nodes k = nodes-in (overwrite (map (λ (x : Node). x .name) xs) a) (overwrite (map (λ (x : Node). x .level) xs) b)
+      (overwrite (map (λ (x : Node). x .parent) xs) c) k
 
   front-nodes-take : (k : ℕ) → k ≤ length xs → front-nodes k ≡ take k xs
   unfolding nodes-in

@@ -43,7 +43,8 @@ unfolding digits-in
 decimal-more zero h = absurd (omega arith)
 decimal-more (suc x) h =
     decimal-digits-in (suc x) (omega arith)
-    ∙ ap (λ (ds : List ℕ). ds ++ (digit-byte (suc x % 10) ∷ [])) (digits-in-turns x (suc x / 10) (suc x / 10) (omega arith) (omega arith) ∙ sym (decimal-digits-in (suc x / 10) (omega arith)))
+    ∙ ap (λ (ds : List ℕ). ds ++ (digit-byte (suc x % 10) ∷ []))
+    (digits-in-turns x (suc x / 10) (suc x / 10) (omega arith) (omega arith) ∙ sym (decimal-digits-in (suc x / 10) (omega arith)))
 
 -- a digit put after a number's
 pub decimal-append : (v d : ℕ) → 0 < v → d < 10 → decimal (10 * v + d) ≡ decimal v ++ (digit-byte d ∷ [])

@@ -45,7 +45,8 @@ pub record Putting (b : Buffer) (whole : List ℕ) (c : Buffer) (left : List ℕ
 pub putting-none : {b : Buffer} {whole : List ℕ} → Putting b whole b whole
 putting-none = record { is = refl }
 
-pub putting-piece : {b c d : Buffer} {whole piece : List ℕ} (left more : List ℕ) → left ≡ piece ++ more → Putting b whole c left → Puts c piece d → Putting b whole d more
+pub putting-piece : {b c d : Buffer} {whole piece : List ℕ} (left more : List ℕ) → left ≡ piece ++ more → Putting b whole c left → Puts c piece d → Putting b
+    whole d more
 putting-piece {b} {c} {d} {whole} {piece} left more e p q =
     record { is = ap (λ (a : Buffer). put a more) (q .is) ∙ sym (put-append c piece more) ∙ ap (put c) (sym e) ∙ p .is }
 

@@ -9,7 +9,8 @@ use Rattle.calls.{specs.Heard.{comes-up, heard-switches}, specs.Outcomes.{linke
 use Rattle.calls.specs.Questions.{by-number}
 
 unfoldable compute-heard : Unit {0}
-unfolding compute neighbours-in put-digit put-bit put-link row-links graph-in site-refusal switched tables-after agreed agreed-degree heard-alone one-sided one-sided-count heard-lengths heard-proper agreed-few hear-refusal row-switches switches-where goes-down comes-up heard-switches
+unfolding compute neighbours-in put-digit put-bit put-link row-links graph-in site-refusal switched tables-after agreed agreed-degree heard-alone one-sided
+    one-sided-count heard-lengths heard-proper agreed-few hear-refusal row-switches switches-where goes-down comes-up heard-switches
 compute-heard = tt
 
 -- the triangle 0 1 2, taken up link by link of a cleared site

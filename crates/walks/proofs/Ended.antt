@@ -41,13 +41,15 @@ module _ (most : ℕ) (a b : ℕ) (g : Graph) (xs : List ℕ) (valid : Valid mos
 
     pub stopped-order : 1 ≤ front → length taken ≡ front → new-order true a b g xs ≡ ps ++ (taken ++ (drop front part ++ high))
     stopped-order l q =
-        walk-call.order-walked most a b g xs valid ok ps e qs at is-end no-end (taken ++ drop front part) [] (turns-stop (linked after) K high part pos P h q (rest-few l))
+        walk-call.order-walked most a b g xs valid ok ps e qs at is-end no-end (taken ++ drop front part) []
+        (turns-stop (linked after) K high part pos P h q (rest-few l))
         ∙ ap (λ (z : List ℕ). ps ++ z) (append-assoc taken (drop front part) high)
 
     pub stopped-changed : 1 ≤ front → length taken ≡ front → (v : ℕ) → v < g .n → member v (changed true a b g) ≡ false
     unfolding member
     stopped-changed l q v lv =
-        walk-call.changed-walked most a b g xs valid ok ps e qs at is-end no-end (taken ++ drop front part) [] (turns-stop (linked after) K high part pos P h q (rest-few l)) v lv
+        walk-call.changed-walked most a b g xs valid ok ps e qs at is-end no-end (taken ++ drop front part) []
+        (turns-stop (linked after) K high part pos P h q (rest-few l)) v lv
 
     -- the level is at its end, and no place is due
     module _ (none : (p : ℕ) → p < front → due p ≡ false) (whole : front ≡ length part) where

@@ -82,6 +82,7 @@ module _ (f : ℕ → ℕ → Bool) (most : ℕ) (above : List ℕ) where
       record { takes = takes-then t (rw (append-nil rest) at (takes-front rest [] h)); full = λ v m. absurd m }
 
   -- the part is at its end: the candidates are stuck
-  pub walk-end : {part taken : List ℕ} (held : List ℕ) → Takes f most above part taken (held ++ []) → ((v : ℕ) → In v held → most < count (f v) held + count (f v) above)
+  pub walk-end : {part taken : List ℕ} (held : List ℕ) → Takes f most above part taken (held ++ []) →
+      ((v : ℕ) → In v held → most < count (f v) held + count (f v) above)
       → Peels f most above part taken held
   walk-end held t h = record { takes = rw (append-nil held) at t; full = h }

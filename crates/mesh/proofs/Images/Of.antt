@@ -113,7 +113,11 @@ module _ (g : Graph) (xs : List ℕ) where
   pub whole-blocks-image-of : whole-blocks (image-of g xs) ≡ true
   unfolding whole-blocks block-count
   whole-blocks-image-of =
-      rw (ne-eqb (length (image-of g xs)) 0 (λ e. omega (arith, length-image-of)), eq-eqb (length (image-of g xs) % block-bytes) 0 (omega (arith, length-image-of)))
+      rw (
+        ne-eqb (length (image-of g xs)) 0 (λ e. omega (arith, length-image-of)),
+        eq-eqb (length (image-of g xs) % block-bytes) 0
+            (omega (arith, length-image-of)),
+      )
 
   pub checks-good-image-of : checks-good (image-of g xs) ≡ true
   unfolding checks-good block-check

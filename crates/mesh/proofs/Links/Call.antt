@@ -20,13 +20,15 @@ use Rattle.mesh.proofs.Links.LevelCut.{stretch-length-is, take-below, t
 
 pub linked-positive : (g : Graph) (a b : ℕ) → a < g .n → b < g .n → linked g a b ≡ true → 1 ≤ number g a
 unfolding Group neighbours-in radios
-linked-positive g a b la lb h = number-core g a la .largest 1 pair (λ v l q. one v (or-cases (eqb v a) (eqb v b) q)) (or-left (eqb a a) (eqb a b) (eq-eqb a a refl))
+linked-positive g a b la lb h = number-core g a la .largest 1 pair (λ v l q. one v (or-cases (eqb v a) (eqb v b) q))
+    (or-left (eqb a a) (eqb a b) (eq-eqb a a refl))
   where
     pair : ℕ → Bool
     pair v = eqb v a || eqb v b
 
     has : (v w : ℕ) → w < g .n → linked g v w ≡ true → pair w ≡ true → 1 ≤ neighbours-in g v pair
-    has v w l k q = count-pos (λ x. linked g v x && pair x) w (range 0 (g .n)) (in-range 0 (g .n) w (omega arith) (omega arith)) (and-both (linked g v w) (pair w) k q)
+    has v w l k q = count-pos (λ x. linked g v x && pair x) w (range 0 (g .n)) (in-range 0 (g .n) w (omega arith) (omega arith))
+        (and-both (linked g v w) (pair w) k q)
 
     one : (v : ℕ) → (eqb v a ≡ true) ⊎ (eqb v b ≡ true) → 1 ≤ neighbours-in g v pair
     one v (inl e) = has v b lb (rw (eqb-true v a e) h) (or-right (eqb b a) (eqb b b) (eq-eqb b b refl))
@@ -43,7 +45,11 @@ module _ (u : Bool) (a b : ℕ) (g : Graph) (v : ℕ) where
   pub changed-below : member v (changed u a b g) ≡ true → v < g .n
   unfolding changed radios
   changed-below m =
-      omega (arith, range-in 0 (g .n) v (in-filter (λ v. not (eqb (number g v) (number (relinked u a b g) v))) (range 0 (g .n)) v (member-in v (changed u a b g) m) .0))
+      omega (
+        arith,
+        range-in 0 (g .n) v (in-filter (λ v. not (eqb (number g v) (number (relinked u a b g) v))) (range 0 (g .n)) v
+            (member-in v (changed u a b g) m) .0),
+      )
 
   pub changed-differs : member v (changed u a b g) ≡ true → number g v ≡ number (relinked u a b g) v → ⊥
   changed-differs m =

@@ -121,7 +121,8 @@ module _ (most : ℕ) (u : Bool) (a b : ℕ) (g : Graph) (xs : List ℕ) (valid 
   old-cut = cut most u a b g xs valid ok
 
   new-cut : new-order u a b g xs ≡ lows (number g) K xs ++ (fresh ++ high-part)
-  new-cut = new-order-is most u a b g xs valid ok peel ∙ ap (λ (z : List ℕ). lows (number g) K xs ++ z) (sym (append-assoc (peel .taken) (peel .stuck) high-part))
+  new-cut = new-order-is most u a b g xs valid ok peel ∙ ap (λ (z : List ℕ). lows (number g) K xs ++ z)
+      (sym (append-assoc (peel .taken) (peel .stuck) high-part))
 
   start-at : start ≡ length (lows (number g) K xs)
   start-at = start-is most u a b g xs valid ok peel

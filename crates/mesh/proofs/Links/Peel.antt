@@ -1,4 +1,5 @@
--- Laws of the peel: what is taken and what is left, in which order, and when it ends. A loop grows `Takes` at its end (takes-more) and ends with `Peels`; document 01's rule is the same peel (laid-out-is).
+-- Laws of the peel: what is taken and what is left, in which order, and when it ends. A loop grows `Takes` at its end (takes-more) and ends with `Peels`;
+-- document 01's rule is the same peel (laid-out-is).
 use Rattle.lists.{specs.Kit.{_≡_, refl, sym, ap, _∙_, _⊎_, inl, inr, Bool, true, false, not, List, [], _∷_, _++_, append-assoc, ℕ, zero, suc, _+_, _≤_, _<_}}
 use Rattle.lists.{specs.Kit.{arith, leb, length, length-append, leb-true, leb-false, le-leb, lt-leb, eq-eqb, ne-eqb}, specs.Lists.{count, filter, member, In}}
 use Rattle.lists.{specs.Facts.{Distinct, Permutation}, proofs.Tests.{bool-cases, bit-false}, proofs.Member.{in-left, in-right, in-member, not-member}}
@@ -88,7 +89,15 @@ module _ (f : ℕ → ℕ → Bool) (most : ℕ) (others : List ℕ) where
       go : Fits left rest ⊎ ((v : ℕ) → In v rest → most < count (f v) left + count (f v) others)
           → (leb (count (f y) left + count (f y) others) most ≡ true) ⊎ (leb (count (f y) left + count (f y) others) most ≡ false)
           → Fits left (y ∷ rest) ⊎ ((v : ℕ) → In v (y ∷ rest) → most < count (f v) left + count (f v) others)
-      go r (inl e) = inl (record { x = y; ps = []; qs = rest; cut = refl; fit = leb-true (count (f y) left + count (f y) others) most e; before = λ w m. absurd m })
+      go r (inl e) = inl (record {
+        x = y;
+        ps = [];
+        qs = rest;
+        cut = refl;
+        fit = leb-true (count (f y) left + count (f y) others) most e;
+        before = λ w m. absurd
+            m;
+      })
       go (inl r) (inr e) =
           inl (record { x = r .x; ps = y ∷ r .ps; qs = r .qs; cut = ap {B = List ℕ} (λ z. y ∷ z) (r .cut); fit = r .fit; before = both (r .ps) e (r .before) })
       go (inr r) (inr e) = inr (both rest e r)
@@ -161,7 +170,8 @@ module _ (f : ℕ → ℕ → Bool) (most : ℕ) (others : List ℕ) where
       omega (arith, counts x, fit, ap (count (f x)) c, count-mid (f x) x ps qs, bit-false (f x x) (irr x)) in
       let one : first-fitting f most (filter p left) (stuck ++ others) (filter p left) ≡ x =
       ap (first-fitting f most (filter p left) (stuck ++ others)) cut
-      ∙ first-fitting-is (filter p left) (stuck ++ others) (filter p ps) x (filter p qs) (λ w m. omega (arith, counts w, before w (in-filter p ps w m .0))) fits in
+      ∙ first-fitting-is (filter p left) (stuck ++ others) (filter p ps) x (filter p qs) (λ w m. omega (arith, counts w, before w (in-filter p ps w m .0)))
+      fits in
       laid-out-step (length taken) (filter p left) (stuck ++ others) x one
       ∙ ap {B = List ℕ} (λ z. x ∷ z)
       (ap (λ (z : List ℕ). laid-out (length taken) f most z (stuck ++ others))

@@ -162,7 +162,8 @@ module _ (p : Peeled-level) where
   new-few : Few-later (linked (p .t)) new-number new-list
   new-few =
       let old-behind = few-later-right (linked (p .s)) (p .num) (p .below) (p .level ++ p .above) (p .certified .few) in
-      few-later-front (linked (p .s)) (linked (p .t)) (p .num) new-number (p .below) (p .level ++ p .above) (p .taken ++ (p .stuck ++ p .above)) behind distinct-new
+      few-later-front (linked (p .s)) (linked (p .t)) (p .num) new-number (p .below) (p .level ++ p .above) (p .taken ++ (p .stuck ++ p .above)) behind
+      distinct-new
       (λ v ws m d q. omega (
         arith,
         q,

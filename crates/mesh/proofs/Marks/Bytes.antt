@@ -109,7 +109,8 @@ module _ (ps : List (List ℕ)) (s : Sized ps) (few : length ps ≤ places) wher
       let rest = take (place-bytes * length ps - place-bytes * r) (drop (place-bytes * r) bs) ++ drop (place-bytes * length ps + place-bytes) bs in
       let long : length front ≡ place-bytes * r + place-bytes = length-take-le (place-bytes * r + place-bytes) bs (omega (arith, store-long)) in
       ap₂ {C = List ℕ} (λ xs ys. xs ++ (p ++ ys))
-      (take-append-le (place-bytes * r) front rest (omega arith) ∙ take-take (place-bytes * r) (place-bytes * r + place-bytes) bs (omega arith) ∙ first-part r l)
+      (take-append-le (place-bytes * r) front rest (omega arith) ∙ take-take (place-bytes * r) (place-bytes * r + place-bytes) bs (omega arith) ∙ first-part r
+      l)
       (drop-at front rest (place-bytes * r + place-bytes) long ∙ ap₂ {C = List ℕ} (λ xs ys. xs ++ ys) (used-part r l) (less-zeros m))
       ∙ store-with r (places - suc (length ps)) p (drop r ps) l (omega (arith, length-drop r ps))
 
@@ -141,7 +142,8 @@ module _ (ps : List (List ℕ)) (s : Sized ps) (few : length ps ≤ places) wher
       let X = drop (place-bytes * length ps - place-bytes) bs in
       let i : place-bytes * suc r - place-bytes ≡ place-bytes * r = omega arith in
       let j : place-bytes * length ps - place-bytes + place-bytes ≡ place-bytes * length ps = omega arith in
-      let ds : take (place-bytes * suc r - place-bytes) bs ++ (take (place-bytes * length ps - place-bytes * suc r) (drop (place-bytes * suc r) bs) ++ X) ≡ (A ++ C) ++ X =
+      let ds : take (place-bytes * suc r - place-bytes) bs ++ (take (place-bytes * length ps - place-bytes * suc r) (drop (place-bytes * suc r) bs) ++ X) ≡
+      (A ++ C) ++ X =
       ap₂ {C = List ℕ} (λ xs ys. xs ++ (ys ++ X)) (ap (λ (m : ℕ). take m bs) i ∙ first-part r (omega arith)) (used-part (suc r) (omega arith))
       ∙ sym (append-assoc A C X) in
       let long : length (A ++ C) ≡ place-bytes * k = omega (arith, length-append A C, first-long r (omega arith), later-long (suc r)) in

@@ -64,12 +64,14 @@ unfolding flatMap
 length-joined n x [] r = omega arith
 length-joined n x (p ∷ ps) r = omega (arith, length-append p (joined ps), r .0, length-joined n (name-in p) ps (r .3))
 
-places-joined : (n : ℕ) (x : List ℕ) (ps : List (List ℕ)) (zs : List ℕ) (j : ℕ) → Rising-marks n x ps → places-of (length ps + j) (joined ps ++ zs) ≡ ps ++ places-of j zs
+places-joined : (n : ℕ) (x : List ℕ) (ps : List (List ℕ)) (zs : List ℕ) (j : ℕ) → Rising-marks n x ps → places-of (length ps + j) (joined ps ++ zs) ≡ ps ++
+    places-of j zs
 unfolding flatMap places-of
 places-joined n x [] zs j r = ap (λ (k : ℕ). places-of k zs) (zero-add j)
 places-joined n x (p ∷ ps) zs j r =
     ap₂ places-of (suc-add (length ps) j) (append-assoc p (joined ps) zs)
-    ∙ ap₂ {C = List (List ℕ)} (λ q qs. q ∷ places-of (length ps + j) qs) (take-at p (joined ps ++ zs) place-bytes (r .0)) (drop-at p (joined ps ++ zs) place-bytes (r .0))
+    ∙ ap₂ {C = List (List ℕ)} (λ q qs. q ∷ places-of (length ps + j) qs) (take-at p (joined ps ++ zs) place-bytes (r .0))
+    (drop-at p (joined ps ++ zs) place-bytes (r .0))
     ∙ ap {B = List (List ℕ)} (λ qs. p ∷ qs) (places-joined n (name-in p) ps zs j (r .3))
 
 used-append : (n : ℕ) (x : List ℕ) (ps qs : List (List ℕ)) → Rising-marks n x ps → used (ps ++ qs) ≡ ps ++ used qs
@@ -275,5 +277,6 @@ mark-place n p l h =
     let e : length zs ≡ place-bytes - (name-bytes + length bs) = omega (arith, length-drop name-bytes p, length-append bs zs, ap length parts) in (
       and-left (is-name (take name-bytes p)) (i && is-zeros zs) h,
       and-left i (is-zeros zs) k,
-      sym (take-append-drop name-bytes p) ∙ ap (λ (xs : List ℕ). take name-bytes p ++ xs) (parts ∙ ap (λ (xs : List ℕ). bs ++ xs) (z ∙ ap (λ (j : ℕ). replicate j 0) e)),
+      sym (take-append-drop name-bytes p) ∙ ap (λ (xs : List ℕ). take name-bytes p ++ xs)
+          (parts ∙ ap (λ (xs : List ℕ). bs ++ xs) (z ∙ ap (λ (j : ℕ). replicate j 0) e)),
     )

@@ -80,7 +80,8 @@ module _ (n : ℕ) (x : List ℕ) where
       go (equal a b d) e k = rw (a, b)
       go (higher a b d) e k = never (has-mark x (q ∷ qs)) e (rw b (none-after q qs (r .3) d))
 
-  pub without-at : (last : List ℕ) (ps : List (List ℕ)) → Rising-marks n last ps → has-mark x ps ≡ true → without-mark x ps ≡ take (rank x ps) ps ++ drop (suc (rank x ps)) ps
+  pub without-at : (last : List ℕ) (ps : List (List ℕ)) → Rising-marks n last ps → has-mark x ps ≡ true → without-mark x ps ≡ take (rank x ps) ps ++ drop
+      (suc (rank x ps)) ps
   unfolding rank has-mark without-mark
   without-at last [] r h = never false h refl
   without-at last (q ∷ qs) r h = go (compared x (name-in q)) h (without-at (name-in q) qs (r .3))
@@ -96,18 +97,21 @@ module _ (n : ℕ) (p : List ℕ) where
   abbrev x : List ℕ
   x = name-in p
 
-  pub with-at : (last : List ℕ) (ps : List (List ℕ)) → Rising-marks n last ps → has-mark x ps ≡ true → with-mark p ps ≡ take (rank x ps) ps ++ (p ∷ drop (suc (rank x ps)) ps)
+  pub with-at : (last : List ℕ) (ps : List (List ℕ)) → Rising-marks n last ps → has-mark x ps ≡ true → with-mark p ps ≡ take (rank x ps) ps ++
+      (p ∷ drop (suc (rank x ps)) ps)
   unfolding rank has-mark with-mark
   with-at last [] r h = never false h refl
   with-at last (q ∷ qs) r h = go (compared x (name-in q)) h (with-at (name-in q) qs (r .3))
     where
-      go : Compared x (name-in q) → has-mark x (q ∷ qs) ≡ true → (has-mark x qs ≡ true → with-mark p qs ≡ take (rank x qs) qs ++ (p ∷ drop (suc (rank x qs)) qs)) →
+      go : Compared x (name-in q) → has-mark x (q ∷ qs) ≡ true →
+          (has-mark x qs ≡ true → with-mark p qs ≡ take (rank x qs) qs ++ (p ∷ drop (suc (rank x qs)) qs)) →
           with-mark p (q ∷ qs) ≡ take (rank x (q ∷ qs)) (q ∷ qs) ++ (p ∷ drop (suc (rank x (q ∷ qs))) (q ∷ qs))
       go (lower a b d) e k = rw (a, b, d) (ap {B = List (List ℕ)} (λ zs. q ∷ zs) (k (rw b at e)))
       go (equal a b d) e k = rw (a, b, d)
       go (higher a b d) e k = never (has-mark x (q ∷ qs)) e (rw b (none-after n x q qs (r .3) d))
 
-  pub with-new : (last : List ℕ) (ps : List (List ℕ)) → Rising-marks n last ps → has-mark x ps ≡ false → with-mark p ps ≡ take (rank x ps) ps ++ (p ∷ drop (rank x ps) ps)
+  pub with-new : (last : List ℕ) (ps : List (List ℕ)) → Rising-marks n last ps → has-mark x ps ≡ false → with-mark p ps ≡ take (rank x ps) ps ++
+      (p ∷ drop (rank x ps) ps)
   unfolding rank has-mark with-mark
   with-new last [] r h = refl
   with-new last (q ∷ qs) r h = go (compared x (name-in q)) h (with-new (name-in q) qs (r .3))

@@ -124,7 +124,8 @@ module _ (u : Bool) (a b : ℕ) (g : Graph) (links-proper : proper (g .n) (g .li
   unfolding linked relinked new-links
   linked-relinked v w = go u (proper-new-links u a b (g .n) (g .links) a-radio b-radio differ (proper-of (g .n) (g .links) links-proper))
     where
-      go : (t : Bool) → Proper (g .n) (new-links t a b (g .links)) → linked-by (new-links t a b (g .links)) v w ≡ cond (ends a b v w) t (linked-by (g .links) v w)
+      go : (t : Bool) → Proper (g .n) (new-links t a b (g .links)) → linked-by (new-links t a b (g .links)) v w ≡ cond (ends a b v w) t
+          (linked-by (g .links) v w)
       go true p = linked-by-with-link a b (g .links) v w
       go false p = linked-by-without-link (g .n) a b (g .links) v w p (sorted-of (g .links) links-ascending)
 

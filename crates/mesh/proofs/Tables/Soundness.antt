@@ -170,6 +170,7 @@ sound-valid most g xs small p asc h =
       links-proper = p;
       links-ascending = asc;
       degrees = λ v l. le-trans (le-of-eq (sym (row-degree-links-table g small p v l)))
-          (few-of most (g .n) (links-table g) (and-right (within (g .n) (links-table g)) (few most (g .n) (links-table g)) (and-right first second (r .rows))) v l);
+          (few-of most (g .n) (links-table g) (and-right (within (g .n) (links-table g)) (few most (g .n) (links-table g)) (and-right first second (r .rows))) v
+          l);
       k-order = rw back at (r .k-order);
     }

@@ -107,7 +107,13 @@ module _ (g : Graph) where
       (p .lowest b (q .in-set) (q .level) (q .is-radio)) (q .lowest a (p .in-set) (p .level) (p .is-radio))
 
   pub named-same : {k : ℕ} {s t : ℕ → Bool} {a : ℕ} → Contains g t s → Contains g s t → Named g k s a → Named g k t a
-  named-same into out p = record { is-radio = p .is-radio; in-set = into _ (p .is-radio) (p .in-set); level = p .level; lowest = λ w q e l. p .lowest w (out w l q) e l }
+  named-same into out p = record {
+    is-radio = p .is-radio;
+    in-set = into _ (p .is-radio) (p .in-set);
+    level = p .level;
+    lowest = λ w q e l. p .lowest w
+        (out w l q) e l;
+  }
 
   -- ---- parents
 

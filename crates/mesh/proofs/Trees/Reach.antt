@@ -86,8 +86,11 @@ module _ (g : Graph) (over : ℕ → Bool) where
       new w = near g over xs w && not (member w xs)
 
       bigger : (x : ℕ) → In x (range 0 (g .n)) → new x ≡ true → length xs < length (round g over xs)
-      bigger x m p = length-sub (x ∷ xs) (round g over xs)
-          (λ i. never (member x xs) (in-member x xs i) (not-true (member x xs) (and-right (near g over xs x) (not (member x xs)) p)), ascending-below-distinct (g .n) xs a) sub
+      bigger x m p = length-sub (x ∷ xs) (round g over xs) (
+        λ i. never (member x xs) (in-member x xs i) (not-true (member x xs) (and-right (near g over xs x) (not (member x xs)) p)),
+        ascending-below-distinct
+            (g .n) xs a,
+      ) sub
         where
           sub : (w : ℕ) → In w (x ∷ xs) → In w (round g over xs)
           sub w (inl q) = rw (← q) (filter-in (near g over xs) (range 0 (g .n)) x m (and-left (near g over xs x) (not (member x xs)) p))

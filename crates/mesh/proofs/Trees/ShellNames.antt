@@ -112,7 +112,8 @@ module _ (g : Graph) where
         where
           go : (i < K) ⊎ ((i ≡ K) ⊎ (K < i)) → i < K
           go (inl a) = a
-          go (inr (inl a)) = never (s (st .extra)) (core-set-contains g (omega arith) c (nd .core) v l (st .contains v l p) p (st .extra) (st .is-radio) (st .in-outer)) (st .not-inner)
+          go (inr (inl a)) = never (s (st .extra)) (core-set-contains g (omega arith) c (nd .core) v l (st .contains v l p) p (st .extra) (st .is-radio)
+              (st .in-outer)) (st .not-inner)
           go (inr (inr a)) = absurd (omega (arith, core-set-level g (nd .core) v l (st .contains v l p)))
 
   -- ---- names alike
