@@ -18,7 +18,8 @@ use Rattle.lists.{specs.Lists.{overwrite, In, Ascending, Entries-below}, proofs
 use Rattle.lists.{proofs.Filter.{member-filter}, proofs.Range.{length-range, in-range, once-below}, proofs.Overwrite.{take-overwrite, drop-overwrite}}
 use Rattle.mesh.{specs.Limits.{max-neighbours}, specs.Graph.{Graph, linked, radios, relinked, Allowed}, specs.Cores.{Core, number, numbers}}
 use Rattle.mesh.{specs.Orders.{is-k-order, nobody}, specs.Levels.{changed}, specs.Tables.{Tables, graph-in, tables-of, Tables-of-size}, specs.Sound.{sound}}
-use Rattle.mesh.{specs.Connected.{In-core, In-backbone, core-of, backbone}, specs.Tree.{tree, node-name, node-names}, specs.Image.{block-bytes, image-of, image-graph, image-order}}
+use Rattle.mesh.{specs.Connected.{In-core, In-backbone, core-of, backbone}, specs.Tree.{tree, node-name, node-names}, specs.Image.{block-bytes, image-of}}
+use Rattle.mesh.{specs.Image.{image-graph, image-order}}
 use Rattle.mesh.{specs.Image.{is-image, payload-at}, specs.declared.Node.{Node}, proofs.Cores.Peeling.{number-core, number-unique, length-numbers}}
 use Rattle.mesh.{proofs.Cores.Peeling.{getD-numbers}, proofs.Cores.KOrders.{k-order-certificate}, proofs.Cores.Later.{first-is-first, nobody-none}}
 use Rattle.mesh.{proofs.Tables.ReadBack.{graph-in-links-table}, proofs.Tables.Soundness.{sound-iff, valid-sound}, proofs.Tables.Sites.{image-valid}}

@@ -3,7 +3,8 @@
 --   Stepped o      what one call keeps, where o is the book's outcome of it
 --   step           every call keeps it
 -- A further call takes a lemma and a clause of `step` here: that its links are allowed in turn, and what it answers.
-use Rattle.lists.{specs.Kit.{_≡_, refl, ap, sym, subst, _∙_, Bool, true, List, [], _∷_, Option, none, some, ℕ, zero, suc, length, replicate, length-replicate, take-nil}}
+use Rattle.lists.{specs.Kit.{_≡_, refl, ap, sym, subst, _∙_, Bool, true, List, [], _∷_, Option, none, some, ℕ, zero, suc, length, replicate, length-replicate}}
+use Rattle.lists.{specs.Kit.{take-nil}}
 use Rattle.lists.{specs.Kit.{ℤ, pos}, specs.Lists.{overwrite}, proofs.Overwrite.{take-overwrite}}
 use Rattle.mesh.specs.{Limits.{max-neighbours}, Graph.{Link, Graph, graph}, Levels.{changed, step-of}, Tables.{Tables, graph-in}, Sound.{sound}}
 use Rattle.mesh.specs.{Image.{image-links}}
@@ -13,7 +14,8 @@ use Rattle.calls.specs.{Batches.{batch-switches, batch-stop}, Heard.{hea
 use Rattle.calls.specs.{Heard.{heard-switches}, Marks.{store-length, marks-good, is-marked, has-place, mark-refusal, set-refusal, named-refusal}}
 use Rattle.calls.specs.{Marks.{mark-image}, Book.{Call, clearing, reading, linking, committing, batching, hearing, setting, removing, returning, other}}
 use Rattle.calls.specs.{Book.{Outcome, Answer, reported, committed, counted, image-under, Beginning, from-clearing, from-image, Marking, no-mark}}
-use Rattle.calls.specs.{Book.{sets, removes, returns, outcome-of, outcome-with, unless-refused, outcome, beginning-pairs, first-pairs, pairs-of, site-size}}
+use Rattle.calls.specs.{Book.{sets, removes, returns, outcome-of, outcome-with, unless-refused, outcome, beginning-pairs, first-pairs, pairs-of}}
+use Rattle.calls.specs.{Book.{site-size}}
 use Rattle.calls.specs.{Book.{beginning-tables}, Outcomes.{links-taken, clear-outcome, read-outcome, link-outcome, commit-outcome}}
 use Rattle.calls.specs.{Outcomes.{batch-outcome, hear-outcome}, MarkOutcomes.{store-outcome, set-outcome, remove-outcome, return-outcome}}
 use Rattle.calls.specs.{Runs.{answer-of, Done, done}, Demand.{ended, Call-kept, Start, cleared, read, By-history}, declared.Reply.{Reply}}

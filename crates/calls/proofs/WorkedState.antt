@@ -19,7 +19,8 @@ use Rattle.mesh.specs.{Image.{image-links, image-graph, whole-blocks, block-che
 use Rattle.calls.specs.{Questions.{ask, Lengths, lengths-of, size-good, site-lengths, is-radio, are-radios, ends-differ, can-switch, has-room, has-level}}
 use Rattle.calls.specs.{Questions.{same-step, image-length, lent-refusal, tables-refusal, ends-refusal, blocks-refusal, image-refusal}}
 use Rattle.calls.specs.{Questions.{read-refusal, site-refusal}, Script.{up-line, script-of}, Switches.{Switch}}
-use Rattle.calls.specs.{Outcomes.{value-outcome, check-outcome}, Book.{Answer, counted, reported}, Replay.{step-text, link-line, numbers-line, order-line}}
+use Rattle.calls.specs.{Outcomes.{value-outcome, check-outcome}, Book.{Answer, counted, reported}, Replay.{step-text, link-line, numbers-line}}
+use Rattle.calls.specs.{Replay.{order-line}}
 use Rattle.calls.specs.{Replay.{closing-lines, bad-line, answer-line, lines}, Worked.{risen, fallen, unchanged, refused, Want, last-answers, all-numbers}}
 use Rattle.calls.specs.{Worked.{whole-order, shell-tree, connected-core, backbone-radios, image-checks, printed, soundness, staircase-list, formerly}}
 use Rattle.calls.specs.{Worked.{script, bad-text, image-reading, same-answers, same-nodes, block-checks, put-in, is-value, Row}}

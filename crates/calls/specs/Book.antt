@@ -16,9 +16,11 @@
 -- Definitions only.
 use Rattle.lists.specs.{Kit.{Bool, true, false, _&&_, _||_, not, cond, List, [], _∷_, _++_, Option, none, some, ℕ, ℤ, pos, length}, Lists.{range}}
 use Rattle.lists.specs.{Lists.{same}}
-use Rattle.mesh.specs.{Limits.{max-neighbours}, Graph.{Link, graph}, Levels.{changed, step-of}, Tables.{Tables, tables-of, graph-in}, Image.{image-links, image-graph, image-order}}
+use Rattle.mesh.specs.{Limits.{max-neighbours}, Graph.{Link, graph}, Levels.{changed, step-of}, Tables.{Tables, tables-of, graph-in}, Image.{image-links}}
+use Rattle.mesh.specs.{Image.{image-graph, image-order}}
 use Rattle.mesh.specs.{Image.{image-of}}
-use Rattle.calls.specs.{Questions.{by-number, Lengths, tables-refusal, link-refusal-within, commit-refusal, read-refusal}, Switches.{Switch, switch, pairs-after}}
+use Rattle.calls.specs.{Questions.{by-number, Lengths, tables-refusal, link-refusal-within, commit-refusal, read-refusal}, Switches.{Switch, switch}}
+use Rattle.calls.specs.{Switches.{pairs-after}}
 use Rattle.calls.specs.{Switches.{tables-after}, Batches.{batch-refusal, batch-switches, batch-stop}, Heard.{hear-refusal, one-sided-count}}
 use Rattle.calls.specs.{Heard.{heard-switches}, Marks.{set-refusal, named-refusal, is-marked, mark-image}}
 

@@ -5,7 +5,8 @@
 --   set-store, removed-store             the store after an accepted call on marks
 -- No statement cites them. Definitions only.
 use Rattle.lists.specs.Kit.{Bool, true, _&&_, not, List, ℕ, _+_, _*_, leb}
-use Rattle.mesh.specs.{Limits.{max-neighbours}, Graph.{Graph}, Tables.{Tables, graph-in}, Image.{image-of, other-size, is-image}, Marks.{place-of, marks-in, store-of}}
+use Rattle.mesh.specs.{Limits.{max-neighbours}, Graph.{Graph}, Tables.{Tables, graph-in}, Image.{image-of, other-size, is-image}, Marks.{place-of, marks-in}}
+use Rattle.mesh.specs.{Marks.{store-of}}
 use Rattle.mesh.specs.Marks.{with-mark, without-mark}
 use Rattle.calls.specs.{Questions.{Lengths, ask, is-radio, has-level, answer-length, image-length, site-refusal, blocks-refusal, link-refusal-within}}
 use Rattle.calls.specs.{Lift.{lifting, is-lifted}, Sheet.{sheet-length}, Script.{script-length}}

@@ -11,7 +11,8 @@ use Rattle.mesh.specs.{Graph.{Link, Graph, graph, relinked, new-links}, Cores.{
 use Rattle.mesh.specs.{Levels.{stretch-start, stretch-length, new-stretch}, Tables.{Tables, put-link, links-table, graph-in}, Sound.{sound, number-in}}
 use Rattle.mesh.specs.{Connected.{Reachable}, Image.{image-links}}
 use Rattle.calls.specs.{Outcomes.{tabled, clear-outcome, read-outcome}, Switches.{Switch, pairs-after, tables-after}, Book.{Call, linking, Answer}}
-use Rattle.calls.specs.{Book.{reported, Outcome, given, booked, book-answers, book-after, Beginning, from-clearing, from-image, beginning-pairs, site-size}}
+use Rattle.calls.specs.{Book.{reported, Outcome, given, booked, book-answers, book-after, Beginning, from-clearing, from-image, beginning-pairs}}
+use Rattle.calls.specs.{Book.{site-size}}
 use Rattle.calls.specs.{Book.{beginning-tables, History, history}, Questions.{lengths-of}, Runs.{Event, event, events, after, givens, answers}}
 
 -- ---- an accepted link call

@@ -1,9 +1,11 @@
 -- The loops of a hearing, on plain values: the links of a row, and the rows of a phase.
-use Rattle.lists.{specs.Kit.{_≡_, refl, sym, ap, subst, _∙_, Bool, true, false, _&&_, not, cond, List, _∷_, ℕ, suc, _+_, _*_, _-_, _≤_, _<_, arith, add-one, leb}}
+use Rattle.lists.{specs.Kit.{_≡_, refl, sym, ap, subst, _∙_, Bool, true, false, _&&_, not, cond, List, _∷_, ℕ, suc, _+_, _*_, _-_, _≤_, _<_, arith, add-one}}
+use Rattle.lists.{specs.Kit.{leb}}
 use Rattle.lists.{specs.Kit.{length, getD, take, drop, drop-of-length-le, drop-cons, length-take-le, leb-true}, specs.Lists.{range, count, filter, In}}
 use Rattle.lists.{proofs.Tests.{and-left, and-right}, proofs.Count.{count-mono, count-append}, proofs.Range.{range-in, range-append}, proofs.All.{all-below}}
 use Rattle.lists.{proofs.Filter.{filter-all, filter-ext, in-filter, length-filter}, proofs.Ascending.{ascending-range, ascending-filter}}
-use Rattle.mesh.{specs.Limits.{max-radios, max-neighbours, row-bytes}, specs.Tables.{Tables, marked, graph-in}, specs.Sound.{sound, within, row-degree, rows-proper, few}}
+use Rattle.mesh.{specs.Limits.{max-radios, max-neighbours, row-bytes}, specs.Tables.{Tables, marked, graph-in}, specs.Sound.{sound, within, row-degree}}
+use Rattle.mesh.{specs.Sound.{rows-proper, few}}
 use Rattle.mesh.{specs.Sound.{symmetric, irreflexive}, proofs.Tables.Rows.{few-of}, proofs.Tables.Soundness.{sound-certificate}}
 use Rattle.calls.{specs.Questions.{lengths-of, ends-refusal}, specs.Switches.{switch, switched}, specs.Heard.{agreed, agreed-degree, agreed-few}}
 use Rattle.calls.{specs.Hearing.{Phase, Rows-left, Row-left}, proofs.SoundSwitches.{Good}, proofs.HearingLaws.{row-first, row-next, row-end}}

@@ -17,7 +17,8 @@ use Rattle.machine.specs.Cells.{Form, unsigned, signed, Mode, to-read, to-write
 use Rattle.machine.specs.Cells.{Of-inputs, pointer, passes, Call}
 use Rattle.mesh.specs.{Tables.{Tables, tables}, declared.Node.{Node}}
 use Rattle.calls.specs.{declared.Reply.{Reply}, declared.Value.{Value}, declared.Later.{Later}, declared.Pair.{Pair}, declared.Block.{Block}}
-use Rattle.calls.specs.{Outcomes.{Tabled, Linked, Listing, clear-outcome, read-outcome, link-outcome, ask-outcome, commit-outcome, batch-outcome, hear-outcome, check-outcome}}
+use Rattle.calls.specs.{Outcomes.{Tabled, Linked, Listing, clear-outcome, read-outcome, link-outcome, ask-outcome, commit-outcome, batch-outcome, hear-outcome}}
+use Rattle.calls.specs.{Outcomes.{check-outcome}}
 use Rattle.calls.specs.{Outcomes.{number-outcome, neighbours-outcome, linked-outcome, first-outcome, later-outcome, core-outcome, backbone-outcome}}
 use Rattle.calls.specs.{Outcomes.{tree-outcome, staircase-outcome, write-outcome, sheet-outcome, script-length-outcome, script-outcome, block-outcome}}
 use Rattle.calls.specs.{MarkOutcomes.{set-outcome, remove-outcome, return-outcome}, LiftOutcome.{lift-outcome}}

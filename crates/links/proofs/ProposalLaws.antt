@@ -7,7 +7,8 @@ use mir.{Syntax.{w8}, Val.{SFits, toZ, ofZ}, Facts.{toZ-ofZ}}
 use Rattle.mesh.specs.{Limits.{max-radios}, Graph.{Graph}, Levels.{changed, step-of}, Tables.{Tables, graph-in}, Sound.{sound}}
 use Rattle.calls.{specs.Questions.{ask, lengths-of, same-step, is-proposal, commit-refusal}, specs.Outcomes.{Linked, tabled, ask-outcome}}
 use Rattle.calls.{specs.Outcomes.{commit-outcome}, specs.Contracts.{Ask-contract, Commit-contract}, specs.declared.Reply.{Reply}, proofs.QuestionLaws.{ask-yes}}
-use Rattle.calls.{proofs.QuestionLaws.{ask-no}, proofs.ContractLaws.{asking-is, by-accepted, by-refused}, proofs.Proposals.{commit-numbered, proposal-iff, same-step-eq}}
+use Rattle.calls.{proofs.QuestionLaws.{ask-no}, proofs.ContractLaws.{asking-is, by-accepted, by-refused}, proofs.Proposals.{commit-numbered, proposal-iff}}
+use Rattle.calls.{proofs.Proposals.{same-step-eq}}
 use Rattle.calls.{proofs.Proposals.{same-step-refl}}
 use Rattle.tables.specs.Steps.{all-stepped}
 use Rattle.calls.specs.Chains.{link-refusal}

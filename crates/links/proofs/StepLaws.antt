@@ -9,7 +9,8 @@ use Rattle.mesh.{specs.Levels.{changed}, specs.Tables.{Tables, tables, marked, 
 use Rattle.mesh.{proofs.Cores.Peeling.{getD-numbers}, proofs.Cores.KOrders.{k-order-certificate}, proofs.Links.Call.{changed-below, unchanged-number}}
 use Rattle.mesh.{proofs.Tables.Rows.{symmetric-of, within-of, few-of}}
 use Rattle.calls.{specs.Questions.{lengths-of, size-good, site-lengths, ends-refusal}, specs.Switches.{switch, switched}, specs.declared.Reply.{Reply}}
-use Rattle.calls.{proofs.QuestionLaws.{size-good-true, site-lengths-true}, proofs.ChainLaws.{site-zero, ends-zero}, specs.Outcomes.{Linked}, proofs.SoundSwitches.{Good}}
+use Rattle.calls.{proofs.QuestionLaws.{size-good-true, site-lengths-true}, proofs.ChainLaws.{site-zero, ends-zero}, specs.Outcomes.{Linked}}
+use Rattle.calls.{proofs.SoundSwitches.{Good}}
 use Rattle.calls.{proofs.SoundSwitches.{good-valid, switched-good}}
 use Rattle.rows.{specs.Rows.{neighbours-of}, proofs.RowListLaws.{in-neighbours-of, member-neighbours-of, length-neighbours-of}}
 use Rattle.conditions.specs.Conditions.{Placed, Not-lower, high-count}

@@ -12,7 +12,8 @@ use mir.Val.{Val}
 use prog.{Memory.{Memory}, Machine.{done}, Routine.{Routine}}
 use Rattle.machine.specs.{Cells.{Param, place, entries, Input, Inputs, Stands, span, Ready, Ran, Runs, passed, outcome-of}, Made.{Fitting, blocks, placed}}
 use Rattle.hosts.specs.{Public.{Public, reader-step, bytes, a-reader, call}, Hosts.{Hosts-demand, Standing-demand}, Made.{Hosts-exist}}
-use Rattle.mesh.specs.{Limits.{max-radios}, Graph.{Link, link-of, Graph, graph}, Cores.{Core, number}, Tables.{Tables, graph-in}, Connected.{In-core, In-backbone}}
+use Rattle.mesh.specs.{Limits.{max-radios}, Graph.{Link, link-of, Graph, graph}, Cores.{Core, number}, Tables.{Tables, graph-in}, Connected.{In-core}}
+use Rattle.mesh.specs.{Connected.{In-backbone}}
 use Rattle.mesh.specs.{Image.{whole-blocks, checks-good, Other-size, Image-of-none}, Marks.{store-bytes, is-store, Store-rules}, Sound.{sound}}
 use Rattle.mesh.specs.{declared.Node.{Node}}
 use Rattle.calls.specs.{Questions.{lengths-of, size-good, site-lengths, image-refusal, radio-refusal}, Batches.{batch-refusal, batch-switches}}

@@ -11,7 +11,8 @@ use Rattle.site_program.specs.{declared.verbs.Text.{Text}, declared.name
 use Rattle.site_program.specs.{declared.names.Verb.the-variants.{Script, Image, Backbone, Staircase, Tree, Core, Lift, Unknown}, Texts.{Text-by}}
 use Rattle.site_program.specs.{Said.{value-of, Backbone-said, Core-said, Lift-said, Staircase-said, Tree-said, Said}, Room.{text-room, Held}}
 use Rattle.calls.specs.Questions.{by-number}
-use Rattle.calls.specs.Chains.{level-refusal, core-refusal, backbone-refusal, tree-refusal, staircase-refusal, write-refusal, sheet-refusal, script-refusal, lift-refusal}
+use Rattle.calls.specs.Chains.{level-refusal, core-refusal, backbone-refusal, tree-refusal, staircase-refusal, write-refusal, sheet-refusal, script-refusal}
+use Rattle.calls.specs.Chains.{lift-refusal}
 use Rattle.calls.specs.declared.Value.{Value}
 use Rattle.calls.specs.Chains.{holds-image, holds-sheet, holds-script}
 

@@ -13,7 +13,8 @@ use Rattle.calls.specs.{Contracts.{Link-contract, Ask-contract, Commit-contract
 use Rattle.calls.specs.{Contracts.{Neighbours-contract, Linked-contract, First-contract, Later-contract, Lift-contract, Core-contract, Backbone-contract}}
 use Rattle.calls.specs.{Contracts.{Staircase-contract, Write-contract, Sheet-contract, Script-length-contract, Script-contract, Tree-contract, Set-contract}}
 use Rattle.calls.specs.{Contracts.{Remove-contract, Block-contract}, Outcomes.{Listing}, declared.Value.{Value}}
-use Rattle.hosts.specs.{Public.{Public, of-book, this-version, call, the-tables, with-tables, with-both, with-list}, Public.Known.{clear, image-read, link, commit, link-batch, hear}}
+use Rattle.hosts.specs.{Public.{Public, of-book, this-version, call, the-tables, with-tables, with-both, with-list}, Public.Known.{clear, image-read, link}}
+use Rattle.hosts.specs.{Public.Known.{commit, link-batch, hear}}
 use Rattle.hosts.specs.{Public.Known.{mark-set, mark-remove, mark-return}, Public.Public.{ask, check, number, neighbours, linked, first, later-of, lift, core}}
 use Rattle.hosts.specs.{Public.Public.{backbone, tree, staircase, image-write, sheet, script-length, script-write, image-block, reader-open, reader-step}}
 use Rattle.hosts.specs.{Public.Public.{reader-moved, version}}
