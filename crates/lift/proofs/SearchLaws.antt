@@ -81,7 +81,7 @@ module _ (n v : ℕ) (t : Tables) (places not-lower : List ℕ) (q : ℕ) (asked
       record {
         order = t .order;
         is-sound = is-sound;
-        highs-long = omega (arith, asked-radios, good .lent .most);
+        not-lower-long = omega (arith, asked-radios, good .lent .most);
         counted = λ w l. counts-neighbours-in n t (good .is-sound) (good .lent .most) not-lower (asked .counts none) w (omega (arith, asked-radios))
             ∙ ap (λ (m : ℕ). neighbours-in (graph-in m (t .links)) w (λ u. leb (getD (t .numbers) w 0) (getD (t .numbers) u 0))) rows;
       },

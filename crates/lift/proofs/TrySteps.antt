@@ -40,7 +40,7 @@ ruled-passed true true false e q = never true refl q
 ruled-passed true false u e q = never true refl q
 ruled-passed false l u e q = never false e refl
 
-module _ (links numbers highs : List ℕ) (s : Search-site links numbers highs) where
+module _ (links numbers not-lower : List ℕ) (s : Search-site links numbers not-lower) where
   abbrev g : Graph
   g = graph-of links
 
@@ -66,7 +66,7 @@ module _ (links numbers highs : List ℕ) (s : Search-site links numbers highs) 
   few-high : (v : ℕ) (f : ℕ → Bool) → v < length numbers → neighbours-in g v f ≤ max-neighbours
   few-high v f l = omega (arith, neighbours-in-subset g v f (λ b. true) (λ w lw q. refl), degree-in g v, valid .degrees v (omega (arith, graph-radios)))
 
-  high-is : (v : ℕ) → v < length numbers → getD highs v 0 ≡ neighbours-in g v (λ w. leb (number g v) (number g w))
+  high-is : (v : ℕ) → v < length numbers → getD not-lower v 0 ≡ neighbours-in g v (λ w. leb (number g v) (number g w))
   high-is v l =
       s .counted v l
       ∙ le-antisymm
@@ -92,10 +92,10 @@ module _ (links numbers highs : List ℕ) (s : Search-site links numbers highs) 
     level-low =
         omega (arith, level-is, core-enough g (number g) (number-core g) r lr-graph, few-high r (λ w. leb (number g r) (number g w)) lr)
 
-    module _ (cs : List ℕ) (long : length cs ≡ max-radios) (st : Started k numbers highs cs) where
+    module _ (cs : List ℕ) (long : length cs ≡ max-radios) (st : Started k numbers not-lower cs) where
       own-start : (v : ℕ) → v < length numbers → number g v ≡ k → getD cs v 255 ≡ neighbours-in g v (λ w. leb k (number g w))
       own-start v l e =
-          st v (omega (arith, site-small)) ∙ sym (start-own k numbers highs v l (number-is v l ∙ e)) ∙ high-is v l
+          st v (omega (arith, site-small)) ∙ sym (start-own k numbers not-lower v l (number-is v l ∙ e)) ∙ high-is v l
           ∙ ap (λ (x : ℕ). neighbours-in g v (λ w. leb x (number g w))) e
 
       left-start : (v : ℕ) → v < length numbers → number g v ≡ k → left cs v ≡ true
@@ -112,14 +112,14 @@ module _ (links numbers highs : List ℕ) (s : Search-site links numbers highs) 
       past-start v l = by-test (bool-cases (ltb v max-radios))
         where
           by-test : (ltb v max-radios ≡ true) ⊎ (ltb v max-radios ≡ false) → getD cs v 255 ≡ 255
-          by-test (inl q) = st v (ltb-true v max-radios q) ∙ sym (start-past k numbers highs v (omega (arith, graph-radios)))
+          by-test (inl q) = st v (ltb-true v max-radios q) ∙ sym (start-past k numbers not-lower v (omega (arith, graph-radios)))
           by-test (inr q) = List·getD-eq-default cs 255 {n = v} (omega (arith, long, ltb-false v max-radios q))
 
       pub started : (a : ℕ) → a < length numbers → k ≤ number g a → Peeling g k a cs
       started a la ka =
           peeling-starts g (s .order) valid k a cs (omega (arith, graph-radios)) ka (λ v lv e. own-start v (omega (arith, graph-radios)) e)
           (λ v lv ne. st v (omega (arith, graph-radios, site-small))
-          ∙ sym (start-other k numbers highs v (omega (arith, graph-radios)) (λ e. ne (sym (number-is v (omega (arith, graph-radios))) ∙ e))))
+          ∙ sym (start-other k numbers not-lower v (omega (arith, graph-radios)) (λ e. ne (sym (number-is v (omega (arith, graph-radios))) ∙ e))))
           past-start
 
       -- what the peels of a's pairs begin with
@@ -141,7 +141,7 @@ module _ (links numbers highs : List ℕ) (s : Search-site links numbers highs) 
                   omega (
                     arith,
                     level-low,
-                    st a (omega (arith, site-small)) ∙ sym (start-other k numbers highs a la (λ e. omega
+                    st a (omega (arith, site-small)) ∙ sym (start-other k numbers not-lower a la (λ e. omega
                         (arith, number-is a la, ltb-true k (number g a) q))),
                   )
               by-test (inr q) =

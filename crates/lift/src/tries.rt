@@ -14,9 +14,9 @@ use super::peel::NO_COUNTER;
 use mesh::Site;
 
 // The counter of radio v before the peel.
-fn counter_of(v: usize, level: u8, numbers: &[u8], highs: &[u8]) -> u8
-    requires { ⌜ length (now numbers) ≤ length (now highs) ⌝ }
-    ensures { λ r. ⌜ r ≡ counter-start level (now (numbers .entry)) (now (highs .entry)) v ⌝ }
+fn counter_of(v: usize, level: u8, numbers: &[u8], not_lower: &[u8]) -> u8
+    requires { ⌜ length (now numbers) ≤ length (now «not_lower») ⌝ }
+    ensures { λ r. ⌜ r ≡ counter-start level (now (numbers .entry)) (now («not_lower» .entry)) v ⌝ }
 {
     if numbers.len() <= v {
         return NO_COUNTER;
@@ -24,17 +24,17 @@ fn counter_of(v: usize, level: u8, numbers: &[u8], highs: &[u8]) -> u8
     if numbers[v] != level {
         return NO_COUNTER;
     }
-    highs[v]
+    not_lower[v]
 }
 
 // The counters before the peel.
-pub(crate) fn start(level: u8, numbers: &[u8], highs: &[u8], counters: &mut [u8])
-    requires { ⌜ (length (now numbers) ≤ length (now highs)) × (length (now counters) ≡ max-radios) ⌝ }
-    ensures { λ _. ⌜ Started level (now (numbers .entry)) (now (highs .entry)) (now (counters .exit)) ⌝ }
+pub(crate) fn start(level: u8, numbers: &[u8], not_lower: &[u8], counters: &mut [u8])
+    requires { ⌜ (length (now numbers) ≤ length (now «not_lower»)) × (length (now counters) ≡ max-radios) ⌝ }
+    ensures { λ _. ⌜ Started level (now (numbers .entry)) (now («not_lower» .entry)) (now (counters .exit)) ⌝ }
 {
     let mut v: usize = 0;
     while v < Site::RADIOS as usize {
-        counters[v] = counter_of(v, level, numbers, highs);
+        counters[v] = counter_of(v, level, numbers, not_lower);
         v += 1;
     }
 }

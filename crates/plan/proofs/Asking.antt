@@ -50,7 +50,7 @@ ready-of up n a b t others good ps hs placed counts lp lh z =
       is-sound = good .is-sound;
       allowed = ends-zero max-neighbours up a b g z;
       places-length = omega (arith, good .lent .most);
-      highs-length = omega (arith, good .lent .most);
+      not-lower-length = omega (arith, good .lent .most);
       placed = λ i l low high. placed .at i l;
       counted = λ v l e.
           counts-neighbours-in n t (good .is-sound) (good .lent .most) hs counts v l ∙ high-numbers g (t .numbers) (right .core-numbers) v l;

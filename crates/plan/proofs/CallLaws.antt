@@ -42,8 +42,8 @@ module _ (up : Bool) (n a b : ℕ) (t : Tables) (w : ℕ) (before ps hs : List �
 
 -- ---- going up or down
 
-pub ready-as : {up u : Bool} {n a b : ℕ} {t : Tables} {places highs : List ℕ} → up ≡ u → Ready up n a b t places highs → Ready u n a b t places highs
-ready-as {n = n} {a = a} {b = b} {t = t} {places = places} {highs = highs} e r = subst (λ (w : Bool). Ready w n a b t places highs) e r
+pub ready-as : {up u : Bool} {n a b : ℕ} {t : Tables} {places not-lower : List ℕ} → up ≡ u → Ready up n a b t places not-lower → Ready u n a b t places not-lower
+ready-as {n = n} {a = a} {b = b} {t = t} {places = places} {not-lower = not-lower} e r = subst (λ (w : Bool). Ready w n a b t places not-lower) e r
 
 pub planned-for : {up u : Bool} {a b : ℕ} {g : Graph} {order : List ℕ} {start size taken : ℕ} {stretch : List ℕ} → up ≡ u
     → Planned u a b g order (plan-of start size taken) stretch → Planned up a b g order (plan-of start size taken) stretch

@@ -9,9 +9,9 @@ use Rattle.mesh.specs.{Limits.{max-radios, max-neighbours, row-bytes}, Graph.{G
 use Rattle.mesh.specs.{Levels.{lower-level, stretch-start, stretch-length, new-order}, Tables.{Tables, graph-in}, Sound.{sound}, Valid.{Valid}}
 use Rattle.plan.specs.{Planned.{changed-part}, declared.planned.Plan.{Plan}}
 
--- places and highs have where each radio of the lower end's level stands, and how many neighbours it has that are not below it; of
+-- places and not-lower have where each radio of the lower end's level stands, and how many neighbours it has that are not below it; of
 -- other radios they hold anything. The soundness check finds them for all radios.
-pub record Ready (up : Bool) (n a b : ℕ) (t : Tables) (places highs : List ℕ) : Type 0 where
+pub record Ready (up : Bool) (n a b : ℕ) (t : Tables) (places not-lower : List ℕ) : Type 0 where
   pub small : n ≤ max-radios
   pub links-length : length (t .links) ≡ row-bytes * n
   pub numbers-length : length (t .numbers) ≡ n
@@ -19,7 +19,7 @@ pub record Ready (up : Bool) (n a b : ℕ) (t : Tables) (places highs : List ℕ
   pub is-sound : sound n t ≡ true
   pub allowed : Allowed max-neighbours up a b (graph-in n (t .links))
   pub places-length : n ≤ length places
-  pub highs-length : n ≤ length highs
+  pub not-lower-length : n ≤ length not-lower
   pub placed :
       (i : ℕ) → i < n → stretch-start (graph-in n (t .links)) (lower-level (graph-in n (t .links)) a b) ≤ i →
       i < stretch-start (graph-in n (t .links)) (lower-level (graph-in n (t .links)) a b)
@@ -27,7 +27,7 @@ pub record Ready (up : Bool) (n a b : ℕ) (t : Tables) (places highs : List ℕ
       getD places (getD (t .order) i 0) 0 ≡ i
   pub counted :
       (v : ℕ) → v < n → number (graph-in n (t .links)) v ≡ lower-level (graph-in n (t .links)) a b →
-      getD highs v 0
+      getD not-lower v 0
       ≡ neighbours-in (graph-in n (t .links)) v (λ w. leb (number (graph-in n (t .links)) v) (number (graph-in n (t .links)) w))
 
 abbrev pub plan-of : (start size taken : ℕ) → Plan

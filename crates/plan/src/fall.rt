@@ -20,10 +20,10 @@ pub(crate) fn plan_down(
     numbers: &[u8],
     order: &[u16],
     places: &[u16],
-    highs: &mut [u8; Site::RADIOS as usize],
+    not_lower: &mut [u8; Site::RADIOS as usize],
     stretch: &mut [u16; Site::RADIOS as usize],
 ) -> Plan
-    requires ready { ⌜ Ready false (length (now order)) a b (tables (now links) (now numbers) (now order)) (now places) (now highs) ⌝ }
+    requires ready { ⌜ Ready false (length (now order)) a b (tables (now links) (now numbers) (now order)) (now places) (now «not_lower») ⌝ }
     requires room { ⌜ length (now stretch) ≡ max-radios ⌝ }
     ensures { λ r. ⌜ Planned false a b (graph-in (length (now (order .entry))) (now (links .entry))) (now (order .entry)) r
         (now (stretch .exit)) ⌝ }
@@ -38,7 +38,7 @@ pub(crate) fn plan_down(
         call.most,
         numbers,
         places,
-        highs,
+        not_lower,
         &mut fits,
     );
     let taken = peel::peel(
@@ -47,7 +47,7 @@ pub(crate) fn plan_down(
         numbers,
         order,
         places,
-        highs,
+        not_lower,
         &mut fits,
         stretch,
     );
@@ -59,7 +59,7 @@ pub(crate) fn plan_down(
         };
     }
     let at = stretch::stretch_of(numbers, call.level);
-    stuck::list_stuck(at.start, at.size, call.most, taken, order, highs, stretch);
+    stuck::list_stuck(at.start, at.size, call.most, taken, order, not_lower, stretch);
     Plan {
         start: at.start,
         size: at.size,

@@ -119,10 +119,10 @@ pub(crate) fn plan_peel(
     numbers: &[u8],
     order: &[u16],
     places: &[u16],
-    highs: &mut [u8; Site::RADIOS as usize],
+    not_lower: &mut [u8; Site::RADIOS as usize],
     stretch: &mut [u16; Site::RADIOS as usize],
 ) -> Plan
-    requires ready { ⌜ Ready true (length (now order)) a b (tables (now links) (now numbers) (now order)) (now places) (now highs) ⌝ }
+    requires ready { ⌜ Ready true (length (now order)) a b (tables (now links) (now numbers) (now order)) (now places) (now «not_lower») ⌝ }
     requires room { ⌜ length (now stretch) ≡ max-radios ⌝ }
     ensures { λ r. ⌜ Planned true a b (graph-in (length (now (order .entry))) (now (links .entry))) (now (order .entry)) r
         (now (stretch .exit)) ⌝ }
@@ -130,18 +130,18 @@ pub(crate) fn plan_peel(
     let call = call_at(true, a, b, numbers);
     let at = stretch::stretch_of(numbers, call.level);
     let mut fits = [0u64; 8];
-    begin(call, at.start, at.size, numbers, order, highs, &mut fits);
+    begin(call, at.start, at.size, numbers, order, not_lower, &mut fits);
     let taken = peel(
         call,
         links,
         numbers,
         order,
         places,
-        highs,
+        not_lower,
         &mut fits,
         stretch,
     );
-    stuck::list_stuck(at.start, at.size, call.most, taken, order, highs, stretch);
+    stuck::list_stuck(at.start, at.size, call.most, taken, order, not_lower, stretch);
     Plan {
         start: at.start,
         size: at.size,

@@ -6,10 +6,10 @@ use Rattle.lift.proofs.{TrySteps.{site-small}, SearchSteps.{pair-some, 
 use Rattle.lift.proofs.search.first_pair.Tie as tie
 
 abbrev Inv-loop : tie.InvT-loop
-Inv-loop links numbers places highs r free tight a₀ a = None-below (graph-of links) r a × (a ≤ length numbers)
+Inv-loop links numbers places not-lower r free tight a₀ a = None-below (graph-of links) r a × (a ≤ length numbers)
 
 abbrev μ-loop : tie.MeasureT-loop
-μ-loop links numbers places highs r free tight a₀ a = length numbers - a
+μ-loop links numbers places not-lower r free tight a₀ a = length numbers - a
 
 mark-free-requires : tie.Need-mark-free-requires Inv-loop μ-loop
 mark-free-requires c κs = (site-small _ _ _ (c .before .before .before .before .before .before .pre .0), search needs)

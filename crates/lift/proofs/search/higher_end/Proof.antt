@@ -8,11 +8,11 @@ use Rattle.lift.proofs.{SearchSteps.{settling-next}, search.higher_end.
 use Rattle.lift.proofs.search.higher_end.Tie as tie
 
 abbrev Inv-loop : tie.InvT-loop
-Inv-loop links numbers places highs r a free tight untried₀ base₀ b₀ untried base b =
+Inv-loop links numbers places not-lower r a free tight untried₀ base₀ b₀ untried base b =
     Settled links (getD numbers r 0) r a untried base b × (length base ≡ max-radios) × (length untried ≡ row-bytes)
 
 abbrev μ-loop : tie.MeasureT-loop
-μ-loop links numbers places highs r a free tight untried₀ base₀ b₀ untried base b = count (marked untried 0) (range 0 max-radios)
+μ-loop links numbers places not-lower r a free tight untried₀ base₀ b₀ untried base b = count (marked untried 0) (range 0 max-radios)
 
 returns : tie.Need-returns Inv-loop μ-loop
 returns c =
@@ -42,7 +42,7 @@ returns-2 c =
 start-requires : tie.Need-start-requires Inv-loop μ-loop
 start-requires c κs = (
   c .before .before .before .before .before .before .before .before .before .before .before .before .before .before .before .before .pre .0
-      .highs-long,
+      .not-lower-long,
   search needs,
 )
 
@@ -55,7 +55,7 @@ settle-requires c κs =
     let trying = trying-start _ _ _ (start .pre .0) (start .args .r) (start .pre .1) _ (start .pre .3) _ _ (start .pre .4) (start .pre .5) _
     (start .pre .2) on _
     (c .before .before .before .before .before .before .before .before .before .before .mark-ends .ensures) in (
-      record { highs = start .args .highs .now; site = start .pre .0 },
+      record { not-lower = start .args .«not_lower» .now; site = start .pre .0 },
       start .pre .1,
       start .pre .2,
       trying,
@@ -70,7 +70,7 @@ lifts-requires : tie.Need-lifts-requires Inv-loop μ-loop
 lifts-requires c κs =
     let start = c .before .before .before .before .before .before .before .before .before .before .before .before .before .before .before .before .before
     .before .before .before .before .before .before .before .before .before .before in (
-      record { highs = start .args .highs .now; site = start .pre .0 },
+      record { not-lower = start .args .«not_lower» .now; site = start .pre .0 },
       start .pre .1,
       c .before .before .loop-test .taken,
       c .before .before .before .loop
@@ -89,7 +89,7 @@ settle-requires-2 c κs =
     let start = c .before .before .before .before .before .before .before .before .before .before .before .before .before .before .before .before .before
     .before .before .before .before .before .before .before .before .before .before .before .before .before .before .before in
     let tried = c .before .before .before .before .lifts .ensures in (
-      record { highs = start .args .highs .now; site = start .pre .0 },
+      record { not-lower = start .args .«not_lower» .now; site = start .pre .0 },
       start .pre .1,
       start .pre .2,
       tried .next (c .before .before .if3 .left),

@@ -5,10 +5,10 @@ use Rattle.lift.proofs.{TryLaws.{Starting, starting-none, starting-turn
 use Rattle.lift.proofs.tries.start.Tie as tie
 
 abbrev Inv-loop : tie.InvT-loop
-Inv-loop level numbers highs counters₀ v₀ counters v = Starting level numbers highs counters₀ v counters
+Inv-loop level numbers not-lower counters₀ v₀ counters v = Starting level numbers not-lower counters₀ v counters
 
 abbrev μ-loop : tie.MeasureT-loop
-μ-loop level numbers highs counters₀ v₀ counters v = max-radios - v
+μ-loop level numbers not-lower counters₀ v₀ counters v = max-radios - v
 
 loop-holds : tie.Need-loop-holds Inv-loop μ-loop
 loop-holds c = starting-none _ _ _ _ (c .before .before .before .pre .1)

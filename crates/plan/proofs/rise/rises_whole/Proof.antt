@@ -6,10 +6,10 @@ use Rattle.plan.proofs.{StretchLoops.{Stretch-passing, passing-none, pa
 use Rattle.plan.proofs.rise.rises_whole.Tie as tie
 
 abbrev Inv-loop : tie.InvT-loop
-Inv-loop rise start size order highs i₀ i = Stretch-passing (stays-linked (rise .a) (rise .b) (rise .most) highs) order start size i
+Inv-loop rise start size order not-lower i₀ i = Stretch-passing (stays-linked (rise .a) (rise .b) (rise .most) not-lower) order start size i
 
 abbrev μ-loop : tie.MeasureT-loop
-μ-loop rise start size order highs i₀ i = size - i
+μ-loop rise start size order not-lower i₀ i = size - i
 
 cast-fits : tie.Need-cast-fits Inv-loop μ-loop
 cast-fits c = omega (arith, c .shared-slice-known2 .given (c .before .before .before .before .args .start + c .before .before .loop .i))
