@@ -24,7 +24,7 @@ cast-put-cell c =
     let start = c .before .before .before .before .before in
     omega (arith, start .pre .0 .radios, start .pre .1 .0)
 
-read : tie.Need-shared-slice-read-wide Inv-loop μ-loop
+read : tie.Need-shared-slice-read-wide8 Inv-loop μ-loop
 read c = omega (arith, c .before .before .before .before .before .before .pre .1 .0)
 
 put-cell-requires : tie.Need-put-cell-requires Inv-loop μ-loop
@@ -34,12 +34,12 @@ put-cell-requires c κs =
     let inside = start .pre .1 .0 in
     let many = start .pre .0 .radios in
     let low = start .pre .0 .two-digits (start .args .v + at-loop .loop .i) (omega arith) in
-    (omega (arith, start .pre .1 .1, length-putting (at-loop .loop .inv .is)), omega arith, omega (arith, c .wide .ensures, low))
+    (omega (arith, start .pre .1 .1, length-putting (at-loop .loop .inv .is)), omega arith, omega (arith, c .wide8 .ensures, low))
 
 loop-again : tie.Need-loop-again Inv-loop μ-loop
 loop-again c =
     let put = c .before .before in
-    cells-next _ (omega arith) (put .before .wide .ensures) (put .before .before .before .before .before .loop .inv) (put .put-cell .ensures)
+    cells-next _ (omega arith) (put .before .wide8 .ensures) (put .before .before .before .before .before .loop .inv) (put .put-cell .ensures)
 
 returns : tie.Need-returns Inv-loop μ-loop
 returns c = cells-last (omega arith) (c .before .loop .inv)

@@ -14,27 +14,27 @@ returns-2 : tie.Need-returns-2
 unfolding read-of
 returns-2 c =
     let call = c .before .before .before .before .before .args in
-    let byte = c .before .wide in
+    let byte = c .before .wide8 in
     sym (number-zero (call .s .now) (call .p) (byte .result) (omega arith) (byte .ensures) (omega arith))
 
 returns-3 : tie.Need-returns-3
 returns-3 c =
     let call = c .before .before .before .before .before .before .before .args in
-    let byte = c .before .before .before .wide in
+    let byte = c .before .before .before .wide8 in
     read-of-none (call .s .now) (c .none2 .result) (c .none2 .ensures)
     ∙ sym (number-other (call .s .now) (call .p) (byte .result) (omega arith) (byte .ensures) (c .before .before .if2 .left) (digit-below (byte .result) (omega arith)))
 
 returns-4 : tie.Need-returns-4
 returns-4 c =
     let call = c .before .before .before .before .before .before .before .before .args in
-    let byte = c .before .before .before .before .wide in
+    let byte = c .before .before .before .before .wide8 in
     read-of-none (call .s .now) (c .none3 .result) (c .none3 .ensures)
     ∙ sym (number-other (call .s .now) (call .p) (byte .result) (omega arith) (byte .ensures) (c .before .before .before .if2 .left) (digit-above (byte .result) (omega arith)))
 
 returns-5 : tie.Need-returns-5
 returns-5 c =
     let call = c .before .before .before .before .before .before .before .before .args in
-    let byte = c .before .before .before .before .wide in
+    let byte = c .before .before .before .before .wide8 in
     c .read-digits .ensures
     ∙ sym (number-digit (call .s .now) (call .p) (byte .result) (omega arith) (byte .ensures) (c .before .before .before .if2 .left) (omega arith) (omega arith))
 
