@@ -12,11 +12,11 @@ abbrev μ-loop : tie.MeasureT-loop
 cast-v : tie.Need-cast-v Inv-loop μ-loop
 cast-v c = omega (arith, c .shared-slice-known3 .given (c .before .before .loop .i))
 
-mul-larger : tie.Need-mul-larger Inv-loop μ-loop
-mul-larger c = omega (arith, c .shared-slice-known3 .given (c .before .before .loop .i))
+mul-larger16 : tie.Need-mul-larger16 Inv-loop μ-loop
+mul-larger16 c = omega (arith, c .shared-slice-known3 .given (c .before .before .loop .i))
 
-shared-slice-read-larger : tie.Need-shared-slice-read-larger Inv-loop μ-loop
-shared-slice-read-larger c =
+shared-slice-read-larger16 : tie.Need-shared-slice-read-larger16 Inv-loop μ-loop
+shared-slice-read-larger16 c =
     let in-loop = c .before .before in
     let start = in-loop .before .before .before .before .before in
     entry-room (start .args .order .now) (start .pre .0) _ (in-loop .loop-test .taken) _ _ (start .pre .1) refl
@@ -34,11 +34,11 @@ loop-again : tie.Need-loop-again Inv-loop μ-loop
 loop-again c =
     let in-loop = c .before .before .before in
     let start = in-loop .before .before .before .before .before in
-    running-turn (in-loop .before .loop .inv) (start .pre .0) (omega arith) (start .pre .2) _ (c .larger .ensures)
+    running-turn (in-loop .before .loop .inv) (start .pre .0) (omega arith) (start .pre .2) _ (c .larger16 .ensures)
 
 pub run-maxima-spec : {M : Type 1} → statement M
 run-maxima-spec =
     tie.close (
-    tie.spec Inv-loop μ-loop (λ c. running-none _ _ _) (λ c. search needs) (λ c. search needs) cast-v mul-larger shared-slice-read-larger
+    tie.spec Inv-loop μ-loop (λ c. running-none _ _ _) (λ c. search needs) (λ c. search needs) cast-v mul-larger16 shared-slice-read-larger16
     (λ c κs. search needs) mul-cores slice-write-cores (λ c. search needs) (λ c. search needs) loop-again (λ c. c .before .loop .inv .long)
     (λ c. running-end _ _ _ _ _ _ (c .before .loop .inv) (omega arith)))
