@@ -193,7 +193,13 @@ fn higher_end(
 }
 
 // The first pair that lifts r, by lower radio and then higher.
-pub(crate) fn first_pair(links: &[u8], numbers: &[u8], places: &[u16], not_lower: &[u8], r: u32) -> Ends
+pub(crate) fn first_pair(
+    links: &[u8],
+    numbers: &[u8],
+    places: &[u16],
+    not_lower: &[u8],
+    r: u32,
+) -> Ends
     requires { ⌜ Search-site (now links) (now numbers) (now «not_lower») × (r < length (now numbers)) × Search-places (now links) (now numbers) (now places) ⌝ }
     ensures { λ x. ⌜ Pair-found (now (links .entry)) r (x .low) (x .high) ⌝ }
 {
@@ -203,7 +209,16 @@ pub(crate) fn first_pair(links: &[u8], numbers: &[u8], places: &[u16], not_lower
     mark_tight(r, links, numbers, places, &mut tight);
     let mut a: usize = 0;
     while a < numbers.len() {
-        let b = higher_end(links, numbers, places, not_lower, r, a as u32, &free, &tight);
+        let b = higher_end(
+            links,
+            numbers,
+            places,
+            not_lower,
+            r,
+            a as u32,
+            &free,
+            &tight,
+        );
         if b < Site::RADIOS {
             return Ends {
                 low: a as u32,

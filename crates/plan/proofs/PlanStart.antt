@@ -128,13 +128,13 @@ module _ {u : Bool} {a b : ℕ} {ts ns os ps cs : List ℕ} (r : Ready u (length
   unfolding ends-counted
   counter-a e =
       getD-end-other u k ns b (end-counted u k ns a cs) a (r .allowed .differ)
-      ∙ getD-end-same u k ns a cs (omega (arith, a-below r, r .highs-length)) (number-is r a (a-below r) ∙ e)
+      ∙ getD-end-same u k ns a cs (omega (arith, a-below r, r .not-lower-length)) (number-is r a (a-below r) ∙ e)
 
   pub counter-b : num b ≡ k → getD cs1 b 0 ≡ cond u (getD cs b 0 + 1) (getD cs b 0 - 1)
   unfolding ends-counted
   counter-b e =
       let kept = getD-end-other u k ns a cs b (λ q. r .allowed .differ (sym q)) in
-      getD-end-same u k ns b (end-counted u k ns a cs) (omega (arith, b-below r, r .highs-length, length-end-counted u k ns a cs)) (number-is r b (b-below r) ∙ e)
+      getD-end-same u k ns b (end-counted u k ns a cs) (omega (arith, b-below r, r .not-lower-length, length-end-counted u k ns a cs)) (number-is r b (b-below r) ∙ e)
       ∙ rw kept
 
   pub counter-other : (v : ℕ) → (v ≡ a → ⊥) → (v ≡ b → ⊥) → getD cs1 v 0 ≡ getD cs v 0
@@ -268,7 +268,7 @@ module _ {u : Bool} {a b : ℕ} {ts ns os ps cs : List ℕ} (r : Ready u (length
       fitting = fitting;
       standing = λ p l h. (let i = range-in start size p (member-in p (range start size) (and-left (member p (range start size)) (leb (getD cs1 (getD os p 0) 0) m) (sym (marks p l) ∙ h))) in (i .0, i .1));
       spent = λ v i. absurd i;
-      counters-long = omega (arith, r .highs-length, length-end-counted u k ns b (end-counted u k ns a cs), length-end-counted u k ns a cs);
+      counters-long = omega (arith, r .not-lower-length, length-end-counted u k ns b (end-counted u k ns a cs), length-end-counted u k ns a cs);
       fits-long = length-places-fitting os cs1 m (range start size) fs0 ∙ long;
     }
       where

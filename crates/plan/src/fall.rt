@@ -59,7 +59,15 @@ pub(crate) fn plan_down(
         };
     }
     let at = stretch::stretch_of(numbers, call.level);
-    stuck::list_stuck(at.start, at.size, call.most, taken, order, not_lower, stretch);
+    stuck::list_stuck(
+        at.start,
+        at.size,
+        call.most,
+        taken,
+        order,
+        not_lower,
+        stretch,
+    );
     Plan {
         start: at.start,
         size: at.size,

@@ -130,7 +130,15 @@ pub(crate) fn plan_peel(
     let call = call_at(true, a, b, numbers);
     let at = stretch::stretch_of(numbers, call.level);
     let mut fits = [0u64; 8];
-    begin(call, at.start, at.size, numbers, order, not_lower, &mut fits);
+    begin(
+        call,
+        at.start,
+        at.size,
+        numbers,
+        order,
+        not_lower,
+        &mut fits,
+    );
     let taken = peel(
         call,
         links,
@@ -141,7 +149,15 @@ pub(crate) fn plan_peel(
         &mut fits,
         stretch,
     );
-    stuck::list_stuck(at.start, at.size, call.most, taken, order, not_lower, stretch);
+    stuck::list_stuck(
+        at.start,
+        at.size,
+        call.most,
+        taken,
+        order,
+        not_lower,
+        stretch,
+    );
     Plan {
         start: at.start,
         size: at.size,

@@ -137,5 +137,14 @@ pub(crate) fn plan_up(
             }
         }
     }
-    plan_on(rise, first, links, numbers, order, places, not_lower, stretch)
+    plan_on(
+        rise,
+        first,
+        links,
+        numbers,
+        order,
+        places,
+        not_lower,
+        stretch,
+    )
 }

@@ -44,13 +44,6 @@ fn none() -> Number
     }
 }
 
-// A byte as a number.
-fn wide(x: u8) -> u32
-    ensures { λ r. ⌜ r ≡ x ⌝ }
-{
-    x as u32
-}
-
 // Whether s starts with the word.
 fn starts_with(s: &[u8], word: &[u8]) -> bool
     ensures { λ r. ⌜ r ≡ starts (now (word .entry)) (now (s .entry)) ⌝ }
@@ -76,7 +69,7 @@ fn read_digits(s: &[u8], p: usize, v: u32) -> Number
     let mut v = v;
     let mut i = p;
     while i < s.len() {
-        let b = wide(s[i]);
+        let b = tables::numbers::wide8(s[i]);
         if b < ZERO {
             return Number {
                 ok: true,
@@ -112,7 +105,7 @@ fn read_number(s: &[u8], p: usize) -> Number
     if s.len() <= p {
         return none();
     }
-    let b = wide(s[p]);
+    let b = tables::numbers::wide8(s[p]);
     if b == ZERO {
         return Number {
             ok: true,

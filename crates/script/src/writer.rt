@@ -79,13 +79,6 @@ fn put_up(buffer: &mut [u8], at: usize, a: u32, b: u32) -> usize
     feed + 1
 }
 
-// A radio as it is printed. As an argument it brings its range along, which the cast needs.
-fn wide(x: u16) -> u32
-    ensures { λ r. ⌜ r ≡ x ⌝ }
-{
-    x as u32
-}
-
 // Puts a line for each link of a to the listed radios.
 fn put_row(buffer: &mut [u8], at: usize, a: u32, list: &[u16]) -> usize
     requires radios { ⌜ (a < max-radios) × Entries-below max-radios (now list) ⌝ }
@@ -96,7 +89,7 @@ fn put_row(buffer: &mut [u8], at: usize, a: u32, list: &[u16]) -> usize
     let mut place = at;
     let mut i: usize = 0;
     while i < list.len() {
-        place = put_up(buffer, place, a, wide(list[i]));
+        place = put_up(buffer, place, a, tables::numbers::wide16(list[i]));
         i += 1;
     }
     place

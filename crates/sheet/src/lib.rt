@@ -65,13 +65,6 @@ fn put_cell(page: &mut [u8], at: usize, v: u32, x: u32)
     page[at + 7] = b' ';
 }
 
-// A number as it is printed.
-fn wide(x: u8) -> u32
-    ensures { λ r. ⌜ r ≡ x ⌝ }
-{
-    x as u32
-}
-
 // Puts the cells of k radios from v on.
 fn put_cells(page: &mut [u8], at: usize, numbers: &[u8], v: usize, k: usize)
     requires fit { ⌜ Cells-fit (now numbers) ⌝ }
@@ -83,7 +76,12 @@ fn put_cells(page: &mut [u8], at: usize, numbers: &[u8], v: usize, k: usize)
     let mut i: usize = 0;
     while i < k {
         let w = v + i;
-        put_cell(page, at + CELL * i, w as u32, wide(numbers[w]));
+        put_cell(
+            page,
+            at + CELL * i,
+            w as u32,
+            tables::numbers::wide8(numbers[w]),
+        );
         i += 1;
     }
 }

@@ -17,9 +17,9 @@ put-cells-spec = close (spec (λ page₀ at numbers v k _ page i. Cells page₀ 
     let inside = start .pre .1 .0 in
     let many = start .pre .0 .radios in
     let low = start .pre .0 .two-digits (start .args .v + at-loop .loop .i) (omega arith) in
-    (omega (arith, start .pre .1 .1, length-putting (at-loop .loop .inv .is)), omega arith, omega (arith, c .wide .ensures, low)))
+    (omega (arith, start .pre .1 .1, length-putting (at-loop .loop .inv .is)), omega arith, omega (arith, c .wide8 .ensures, low)))
     (λ c. omega arith) (λ c. omega arith)
     (λ c.
     let put = c .before .before in
-    cells-next _ (omega arith) (put .before .wide .ensures) (put .before .before .before .before .before .loop .inv) (put .put-cell .ensures))
+    cells-next _ (omega arith) (put .before .wide8 .ensures) (put .before .before .before .before .before .loop .inv) (put .put-cell .ensures))
     (λ c. length-putting (c .before .loop .inv .is)) (λ c. cells-last (omega arith) (c .before .loop .inv)))

@@ -21,5 +21,5 @@ run-maxima-spec = close (spec (λ order counts cores₀ _ _ cores top i. Running
     (λ c.
     let in-loop = c .before .before .before in
     let start = in-loop .before .before .before .before .before in
-    running-turn (in-loop .before .loop .inv) (start .pre .0) (omega arith) (start .pre .2) _ (c .larger .ensures))
+    running-turn (in-loop .before .loop .inv) (start .pre .0) (omega arith) (start .pre .2) _ (c .larger16 .ensures))
     (λ c. c .before .loop .inv .long) (λ c. running-end _ _ _ _ _ _ (c .before .loop .inv) (omega arith)))

@@ -28,17 +28,14 @@ returns-4 c =
 
 pub parse-spec : {M : Type 1} → statement M
 parse-spec = tie.close (tie.spec (λ c. search needs) (λ c κs. search needs) (λ c κs. search needs)
-    (λ c.
-    let text = c .before .before .before .before .before .args .s .now in
-    c .read-link .ensures ∙ line-up text (sym (c .before .before .starts-with .ensures) ∙ c .before .if1 .taken))
+    (λ c. let text = c .before .before .before .before .before .args .s .now in c .read-link .ensures ∙ line-up text
+    (sym (c .before .before .starts-with .ensures) ∙ c .before .if1 .taken))
     (λ c. search needs) (λ c κs. search needs) (λ c κs. search needs)
-    (λ c.
-    let text = c .before .before .before .before .before .before .before .before .args .s .now in
-    c .read-link2 .ensures ∙ line-down text (sym (c .before .before .before .before .before .starts-with .ensures) ∙
-    c .before .before .before .before .if1 .left) (sym (c .before .before .starts-with2 .ensures) ∙ c .before .if2 .taken))
+    (λ c. let text = c .before .before .before .before .before .before .before .before .args .s .now in c .read-link2 .ensures ∙ line-down text
+    (sym (c .before .before .before .before .before .starts-with .ensures) ∙ c .before .before .before .before .if1 .left)
+    (sym (c .before .before .starts-with2 .ensures) ∙ c .before .if2 .taken))
     (λ c. search needs) (λ c κs. search needs) (λ c κs. search needs) returns-3 returns-4
-    (λ c.
-    let text = c .before .before .before .before .before .before .before .before .before .before .args .s .now in
-    line-other text (sym (c .before .before .before .before .before .before .before .starts-with .ensures) ∙
-    c .before .before .before .before .before .before .if1 .left) (sym (c .before .before .before .before .starts-with2 .ensures) ∙
-    c .before .before .before .if2 .left) (sym (c .before .starts-with3 .ensures) ∙ c .if3 .left)))
+    (λ c. let text = c .before .before .before .before .before .before .before .before .before .before .args .s .now in line-other text
+    (sym (c .before .before .before .before .before .before .before .starts-with .ensures) ∙ c .before .before .before .before .before .before .if1 .left)
+    (sym (c .before .before .before .before .starts-with2 .ensures) ∙ c .before .before .before .if2 .left)
+    (sym (c .before .starts-with3 .ensures) ∙ c .if3 .left)))

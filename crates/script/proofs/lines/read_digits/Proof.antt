@@ -17,7 +17,7 @@ unfolding read-of
 returns c =
     let at-loop = c .before .before .before .before in
     let s = at-loop .before .before .args .s .now in
-    let byte = c .before .wide in
+    let byte = c .before .wide8 in
     sym (digits-other s (at-loop .loop .v) (at-loop .loop .i) (byte .result) (omega arith) (byte .ensures) (digit-below (byte .result) (omega arith))) ∙
     at-loop .loop .inv .2
 
@@ -26,7 +26,7 @@ unfolding read-of
 returns-2 c =
     let at-loop = c .before .before .before .before .before in
     let s = at-loop .before .before .args .s .now in
-    let byte = c .before .before .wide in
+    let byte = c .before .before .wide8 in
     sym (digits-other s (at-loop .loop .v) (at-loop .loop .i) (byte .result) (omega arith) (byte .ensures) (digit-above (byte .result) (omega arith))) ∙
     at-loop .loop .inv .2
 
@@ -43,7 +43,7 @@ read-digits-spec = tie.close (tie.spec Inv-loop μ-loop (λ c. (omega arith, ome
     (λ c.
     let at-loop = c .before .before .before .before .before .before .before in
     let s = at-loop .before .before .args .s .now in
-    let byte = c .before .before .before .before .wide in
+    let byte = c .before .before .before .before .wide8 in
     read-of-none s (c .none .result) (c .none .ensures)
     ∙ sym (digits-large s (at-loop .loop .v) (at-loop .loop .i) (byte .result) (omega arith) (byte .ensures) (omega arith) (omega arith) (omega arith)) ∙
     at-loop .loop .inv .2)
@@ -51,7 +51,7 @@ read-digits-spec = tie.close (tie.spec Inv-loop μ-loop (λ c. (omega arith, ome
     (λ c.
     let at-loop = c .before .before .before .before .before .before in
     let s = at-loop .before .before .args .s .now in
-    let byte = c .before .before .before .wide in (
+    let byte = c .before .before .before .wide8 in (
       omega arith,
       omega arith,
       sym (digits-step s (at-loop .loop .v) (at-loop .loop .i) (byte .result) (omega arith) (byte .ensures) (omega arith)

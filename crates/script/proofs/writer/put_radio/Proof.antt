@@ -32,7 +32,5 @@ returns c =
 
 pub put-radio-spec : {M : Type 1} → statement M
 put-radio-spec = tie.close (tie.spec (λ c. search needs) (λ c κs. search needs) (λ c. search needs) (λ c. search needs)
-    (λ c.
-    let listed = c .before .before .before in
-    sym (length-take-le _ _ (omega (arith, listed .row-above .ensures .0, listed .row-above .kept .1 .1 .0))))
+    (λ c. let listed = c .before .before .before in sym (length-take-le _ _ (omega (arith, listed .row-above .ensures .0, listed .row-above .kept .1 .1 .0))))
     put-row-requires (λ c. search needs) returns)

@@ -11,16 +11,16 @@ put-row-spec = close (spec (λ buffer₀ at a list _ _ buffer place i. Ends a li
     let at-loop = c .before .before .before .before in
     let start = at-loop .before .before .before in
     let entry = start .pre .0 .1 (at-loop .loop .i) (omega arith) in
-    let room = ends-room (at-loop .loop .inv) (c .wide .result) (omega arith) (c .wide .ensures) in (
+    let room = ends-room (at-loop .loop .inv) (c .wide16 .result) (omega arith) (c .wide16 .ensures) in (
       omega (arith, start .pre .0 .0),
-      omega (arith, c .wide .ensures, entry),
+      omega (arith, c .wide16 .ensures, entry),
       omega (arith, room, start .pre .1, length-putting (at-loop .loop .inv .is .is)),
     ))
     (λ c. omega arith) (λ c. omega arith)
     (λ c.
     let put = c .before .before in
     let at-loop = put .before .before .before .before .before in
-    let entry = put .before .wide in
+    let entry = put .before .wide16 in
     let room = at-loop .before .before .before .pre .1 in
     ends-next (at-loop .loop .inv) (entry .result) (omega arith) (entry .ensures) (omega (arith, room)) (put .put-up .ensures))
     (λ c. length-putting (c .before .loop .inv .is .is)) (λ c. ends-last (c .before .loop .inv) (omega arith)))

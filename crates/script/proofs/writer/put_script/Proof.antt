@@ -12,11 +12,11 @@ returns c = puts-append (c .before .before .before .before .before .before .put-
 
 pub put-script-spec : {M : Type 1} → statement M
 put-script-spec = tie.close (tie.spec (λ c κs. search needs)
-    (λ c κs.
-    let first = c .before .before .before in
-    let start = first .before .before .before .before in
-    let n = start .args .n in
-    let whole = length-script n (links-from n (start .args .links .now) 0 0) in
-    let place = puts-place (first .put-first .ensures) (omega (arith, length-radios n, whole, start .pre .1)) in
-    (start .pre .0, omega (arith, length-radios n, whole, start .pre .1, place, first .put-first .kept .0)))
+    (λ c κs. let first = c .before .before .before in let start = first .before .before .before .before in let n = start .args .n in let whole = length-script n
+    (links-from n (start .args .links .now) 0 0) in let place = puts-place (first .put-first .ensures)
+    (omega (arith, length-radios n, whole, start .pre .1)) in (
+      start .pre .0,
+      omega
+          (arith, length-radios n, whole, start .pre .1, place, first .put-first .kept .0),
+    ))
     (λ c. search needs) returns)

@@ -18,14 +18,8 @@ returns c =
 
 pub radio-length-spec : {M : Type 1} → statement M
 radio-length-spec = tie.close (tie.spec (λ c. search needs) (λ c κs. search needs) (λ c. search needs) (λ c. search needs) (λ c. search needs)
-    (λ c.
-    let listed = c .before .before in
-    sym (length-take-le _ _ (omega (arith, listed .row-above .ensures .0, listed .row-above .kept .1 .1 .0))))
-    (λ c κs.
-    let listed = c .before .before in
-    let start = listed .before .before .before in
-    let s = start .args in
-    let is = above-front (s .links .now) (s .a) (replicate max-neighbours 0) _ _ (listed .row-above .ensures .0) (listed .row-above .ensures .1)
-    (omega (arith, start .pre .1)) in
+    (λ c. let listed = c .before .before in sym (length-take-le _ _ (omega (arith, listed .row-above .ensures .0, listed .row-above .kept .1 .1 .0))))
+    (λ c κs. let listed = c .before .before in let start = listed .before .before .before in let s = start .args in let is = above-front (s .links .now) (s .a)
+    (replicate max-neighbours 0) _ _ (listed .row-above .ensures .0) (listed .row-above .ensures .1) (omega (arith, start .pre .1)) in
     ((start .pre .0, rw is (above-radios (s .links .now) (s .a))), omega (arith, start .pre .1, ap length is)))
     returns)
