@@ -55,7 +55,7 @@ settle-requires c κs =
     let trying = trying-start _ _ _ (start .pre .0) (start .args .r) (start .pre .1) _ (start .pre .3) _ _ (start .pre .4) (start .pre .5) _
     (start .pre .2) on _
     (c .before .before .before .before .before .before .before .before .before .before .mark-ends .ensures) in (
-      record { not-lower = start .args .«not_lower» .now; site = start .pre .0 },
+      record { not-lower = start .args .not-lower .now; site = start .pre .0 },
       start .pre .1,
       start .pre .2,
       trying,
@@ -70,7 +70,7 @@ lifts-requires : tie.Need-lifts-requires Inv-loop μ-loop
 lifts-requires c κs =
     let start = c .before .before .before .before .before .before .before .before .before .before .before .before .before .before .before .before .before
     .before .before .before .before .before .before .before .before .before .before in (
-      record { not-lower = start .args .«not_lower» .now; site = start .pre .0 },
+      record { not-lower = start .args .not-lower .now; site = start .pre .0 },
       start .pre .1,
       c .before .before .loop-test .taken,
       c .before .before .before .loop
@@ -89,7 +89,7 @@ settle-requires-2 c κs =
     let start = c .before .before .before .before .before .before .before .before .before .before .before .before .before .before .before .before .before
     .before .before .before .before .before .before .before .before .before .before .before .before .before .before .before in
     let tried = c .before .before .before .before .lifts .ensures in (
-      record { not-lower = start .args .«not_lower» .now; site = start .pre .0 },
+      record { not-lower = start .args .not-lower .now; site = start .pre .0 },
       start .pre .1,
       start .pre .2,
       tried .next (c .before .before .if3 .left),
