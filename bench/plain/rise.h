@@ -4,7 +4,7 @@
 #include "wide.h"
 
 #define SMALL 16 /* radios of a level that is peeled in any case */
-#define WIDE 8   /* from this level on the walk goes by words */
+#define WIDE 6   /* from this level on the walk goes by words */
 
 /* The plan of a level that rises whole, as it stands: no radio of it fits with the link. Else 0. */
 static int c_whole(const struct lent *t, uint32_t a, uint32_t b, unsigned level, const uint8_t *counters, struct c_plan *plan) {

@@ -22,7 +22,7 @@ use mesh::Site;
 const SMALL: usize = 16;
 
 // From this level on radios have so many neighbours that the walk goes by words.
-const WIDE: u8 = 8;
+const WIDE: u8 = 6;
 
 // Plans the link from the beginning end, at place `first`, on. Where that end has at most K later neighbours with the link, nothing moves
 // and nothing rises. A small level is peeled; elsewhere the walk goes from that end on.

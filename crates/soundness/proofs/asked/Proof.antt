@@ -45,7 +45,5 @@ returns-3 c =
     asked-yes (call .n) t (call .others) _ (sized .with-others .ensures) (passed .if1 .left) _ _ _ (tested .is-sound .ensures) (not-false _ (c .if2 .left))
 
 pub asked-spec : {M : Type 1} → statement M
-asked-spec =
-    tie.close (
-    tie.spec (λ c κs. search needs) returns is-sound-requires (λ c. search needs) (λ c. search needs) returns-2 (λ c. search needs)
+asked-spec = tie.close (tie.spec (λ c κs. search needs) returns is-sound-requires (λ c. search needs) (λ c. search needs) returns-2 (λ c. search needs)
     (λ c. search needs) returns-3)

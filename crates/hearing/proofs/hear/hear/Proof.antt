@@ -66,8 +66,6 @@ returns-3 c =
     (proper .if2 .left) (search needs) (search needs) _ _ (marked .mark .ensures) _ (brought .bring .ensures)
 
 pub hear-spec : {M : Type 1} → statement M
-hear-spec =
-    tie.close (
-    tie.spec (λ c. search needs) (λ c. search needs) (λ c. search needs) (λ c κs. search needs) (λ c. search needs) (λ c. search needs) (λ c. search needs)
-    returns refusal-requires (λ c. search needs) (λ c. search needs) (λ c. search needs) returns-2 mark-requires bring-requires (λ c. search needs)
-    (λ c. search needs) (λ c. search needs) (λ c. search needs) returns-3)
+hear-spec = tie.close (tie.spec (λ c. search needs) (λ c. search needs) (λ c. search needs) (λ c κs. search needs) (λ c. search needs) (λ c. search needs)
+    (λ c. search needs) returns refusal-requires (λ c. search needs) (λ c. search needs) (λ c. search needs) returns-2 mark-requires bring-requires
+    (λ c. search needs) (λ c. search needs) (λ c. search needs) (λ c. search needs) returns-3)

@@ -19,13 +19,17 @@ loop-holds : tie.Need-loop-holds Inv-loop μ-loop
 unfolding above-from
 loop-holds c = words-listing-none _ _ _ _
 
-list-above-requires : tie.Need-list-above-requires Inv-loop μ-loop
-list-above-requires c κs =
+pub list-spec : {M : Type 1} → statement M
+list-spec = tie.close (tie.spec Inv-loop μ-loop (λ c. search needs) (λ c. search needs) (λ c. search needs) (λ c. search needs)
+    (λ c. omega (arith, c .before .before .before .before .pre .0)) (λ c. search needs) (λ c. search needs)
+    (λ c. omega (arith, c .before .before .before .before .before .pre .1)) (λ c. search needs) (λ c. search needs)
+    (λ c. omega (arith, c .before .before .before .before .before .before .pre .2)) loop-holds (λ c κs. search needs) (λ c κs. search needs)
+    (λ c κs. search needs) (λ c κs. search needs) (λ c. search needs)
+    (λ c κs.
     let turn = c .before .before .before .before .before in
-    (omega (arith, turn .loop-test .taken), omega (arith, turn .before .loop .inv .inside, turn .before .loop .inv .long))
-
-loop-again : tie.Need-loop-again Inv-loop μ-loop
-loop-again c =
+    (omega (arith, turn .loop-test .taken), omega (arith, turn .before .loop .inv .inside, turn .before .loop .inv .long)))
+    (λ c. search needs) (λ c. search needs)
+    (λ c.
     let listed = c .before .before in
     let told = listed .before .before in
     let links-word = told .before in
@@ -45,14 +49,5 @@ loop-again c =
     (one-sided-word .word-of2 .ensures ∙ word-of-row (x .one-sided .now) (x .a) (at-loop .loop .k) long same (start .pre .1) l)
     (links-word .word-of3 .ensures ∙ word-of-row (x .links .now) (x .a) (at-loop .loop .k) long same (start .pre .2) l)
     (told .wanted-word .ensures))
-    (search needs) (listed .list-above .ensures)
-
-pub list-spec : {M : Type 1} → statement M
-list-spec =
-    tie.close (
-    tie.spec Inv-loop μ-loop (λ c. search needs) (λ c. search needs) (λ c. search needs) (λ c. search needs)
-    (λ c. omega (arith, c .before .before .before .before .pre .0)) (λ c. search needs) (λ c. search needs)
-    (λ c. omega (arith, c .before .before .before .before .before .pre .1)) (λ c. search needs) (λ c. search needs)
-    (λ c. omega (arith, c .before .before .before .before .before .before .pre .2)) loop-holds (λ c κs. search needs) (λ c κs. search needs)
-    (λ c κs. search needs) (λ c κs. search needs) (λ c. search needs) list-above-requires (λ c. search needs) (λ c. search needs) loop-again
+    (search needs) (listed .list-above .ensures))
     (λ c. c .before .loop .inv .long) (λ c. words-listing-end _ _ (c .before .loop .inv) (c .loop-test .left)))

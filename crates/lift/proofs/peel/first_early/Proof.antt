@@ -1,31 +1,20 @@
 -- `peel::first_early` meets its contract: a bit of a masked word is one of the word. The measure is the words that are left.
 use Rattle.lists.specs.Kit.{_≤_, _-_, arith, bitAnd, trailing-le, needs}
-use Rattle.lift.proofs.{PeelSteps.{early-due}, peel.first_early.Statement.{statement}}
-use Rattle.lift.proofs.peel.first_early.Tie as tie
+use Rattle.lift.proofs.{PeelSteps.{early-due}, peel.first_early.{Statement.{statement}, Tie.{close, spec}}}
 
-abbrev Inv-loop : tie.InvT-loop
-Inv-loop due late k₀ k = k ≤ 8
-
-abbrev μ-loop : tie.MeasureT-loop
-μ-loop due late k₀ k = 8 - k
-
-add-result : tie.Need-add-result Inv-loop μ-loop
-add-result c = omega (
-  arith,
-  c .before .before .before .loop-test .taken,
-  trailing-le 64 (bitAnd (c .before .before .word-of .result)
-      (18446744073709551615 - c .before .word-of2 .result)),
-)
-
-returns : tie.Need-returns Inv-loop μ-loop
-returns c l =
+pub first-early-spec : {M : Type 1} → statement M
+first-early-spec = close (spec (λ _ _ _ k. k ≤ 8) (λ _ _ _ k. 8 - k) (λ c. omega arith) (λ c κs. search needs) (λ c κs. search needs)
+    (λ c. search needs)
+    (λ c.
+    omega (
+      arith,
+      c .before .before .before .loop-test .taken,
+      trailing-le 64 (bitAnd (c .before .before .word-of .result)
+          (18446744073709551615 - c .before .word-of2 .result)),
+    ))
+    (λ c l.
     let at-loop = c .before .before .before .before in
     let start = at-loop .before .before .before in
     early-due _ (λ j. at-loop .before .before .shared-slice-known .given j .fits) (start .pre) (at-loop .loop .k) (c .before .before .word-of .result) _
-    (c .before .before .before .loop-test .taken) (c .before .before .word-of .ensures) (c .if1 .taken)
-
-pub first-early-spec : {M : Type 1} → statement M
-first-early-spec =
-    tie.close (
-    tie.spec Inv-loop μ-loop (λ c. omega arith) (λ c κs. search needs) (λ c κs. search needs) (λ c. search needs) add-result returns
+    (c .before .before .before .loop-test .taken) (c .before .before .word-of .ensures) (c .if1 .taken))
     (λ c. search needs) (λ c. search needs) (λ c. search needs) (λ c l. absurd (omega arith)))

@@ -1,18 +1,14 @@
 -- `apply::apply` meets its contract: the answer table is written by one call, the other tables by another.
 use Rattle.lists.specs.Kit.{needs}
-use Rattle.links.proofs.{ChangeLaws.{stepped-held}, apply.apply.Statement.{statement}}
-use Rattle.links.proofs.apply.apply.Tie as tie
+use Rattle.links.proofs.{ChangeLaws.{stepped-held}, apply.apply.{Statement.{statement}, Tie.{close, spec}}}
 
-report-requires : tie.Need-report-requires
-report-requires c κs = let fit = c .before .before .before .before .before .before .pre in (fit .taken-fits, fit .long)
-
-write-requires : tie.Need-write-requires
-write-requires c κs =
+pub apply-spec : {M : Type 1} → statement M
+apply-spec = close (spec (λ c κs. let fit = c .before .before .before .before .before .before .pre in (fit .taken-fits, fit .long))
+    (λ c κs.
     let told = c .before .before .before .before .before .before .before in
-    told .before .before .before .before .before .before .before .pre
-
-returns : tie.Need-returns
-returns c =
+    told .before .before .before .before .before .before .before .pre)
+    (λ c. search needs) (λ c. search needs) (λ c. search needs) (λ c. search needs)
+    (λ c.
     let put = c .before .before .before .before .before .before in
     let told = put .before .before .before .before .before .before .before .before in
     let reported = told .report .ensures in
@@ -25,9 +21,4 @@ returns c =
       answer-is = reported .answer-is;
       numbers = stepped-held _ _ _ _ _ _ (reported .step) (done .numbers);
       order = done .order;
-    }
-
-pub apply-spec : {M : Type 1} → statement M
-apply-spec =
-    tie.close (
-    tie.spec report-requires write-requires (λ c. search needs) (λ c. search needs) (λ c. search needs) (λ c. search needs) returns)
+    }))

@@ -1,15 +1,14 @@
 -- `apply::write` meets its contract: each table is written by one call.
 use Rattle.lists.specs.Kit.{needs}
-use Rattle.links.proofs.{ChangeLaws.{stepped-fits}, apply.write.Statement.{statement}}
-use Rattle.links.proofs.apply.write.Tie as tie
+use Rattle.links.proofs.{ChangeLaws.{stepped-fits}, apply.write.{Statement.{statement}, Tie.{close, spec}}}
 
-put-stretch-requires : tie.Need-put-stretch-requires
-put-stretch-requires c κs =
+pub write-spec : {M : Type 1} → statement M
+write-spec = close (spec (λ c κs. search needs) (λ c κs. search needs)
+    (λ c κs.
     let fit = c .before .before .before .before .before .before .before .before .before .before .before .before .before .before .pre in
-    (fit .fits, fit .long, fit .taken-fits)
-
-returns : tie.Need-returns
-returns c =
+    (fit .fits, fit .long, fit .taken-fits))
+    (λ c. search needs) (λ c. search needs) (λ c. search needs)
+    (λ c.
     let stretched = c .before .before in
     let numbered = stretched .before .before .before .before in
     let linked = numbered .before .before .before .before in
@@ -18,9 +17,4 @@ returns c =
       links = linked .put-link .ensures;
       numbers = stepped-fits _ _ _ _ (s .fits .step) (numbered .step-numbers .ensures);
       order = stretched .put-stretch .ensures;
-    }
-
-pub write-spec : {M : Type 1} → statement M
-write-spec =
-    tie.close (
-    tie.spec (λ c κs. search needs) (λ c κs. search needs) put-stretch-requires (λ c. search needs) (λ c. search needs) (λ c. search needs) returns)
+    }))

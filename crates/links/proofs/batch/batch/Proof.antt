@@ -32,7 +32,5 @@ returns-2 c =
     _ _ (taken .take-links .ensures)
 
 pub batch-spec : {M : Type 1} → statement M
-batch-spec =
-    tie.close (
-    tie.spec (λ c. search needs) (λ c. search needs) (λ c κs. search needs) (λ c. search needs) (λ c. search needs) (λ c. search needs) returns
-    take-links-requires (λ c. search needs) (λ c. search needs) (λ c. search needs) returns-2)
+batch-spec = tie.close (tie.spec (λ c. search needs) (λ c. search needs) (λ c κs. search needs) (λ c. search needs) (λ c. search needs) (λ c. search needs)
+    returns take-links-requires (λ c. search needs) (λ c. search needs) (λ c. search needs) returns-2)

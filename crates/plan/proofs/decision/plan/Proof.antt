@@ -58,6 +58,5 @@ returns-3 c =
     (allowed .before .ends-refusal .ensures) (search needs) (search needs) (allowed .if2 .left) _ _ _ _ (c .plan-link .ensures)
 
 pub plan-spec : {M : Type 1} → statement M
-plan-spec =
-    tie.close (
-    tie.spec (λ c. search needs) (λ c. search needs) (λ c κs. search needs) returns ends-refusal-requires returns-2 plan-link-requires returns-3)
+plan-spec = tie.close (tie.spec (λ c. search needs) (λ c. search needs) (λ c κs. search needs) returns ends-refusal-requires returns-2 plan-link-requires
+    returns-3)
