@@ -104,4 +104,5 @@ module _ (n v : ℕ) (t : Tables) (places not-lower : List ℕ) (q : ℕ) (asked
           → Lift-contract n v t (pair 0 a b)
       answer-some a b h =
           lift-answered n v t asked-all a b
-          (subst (λ (m : ℕ). (is-lifted (lifting (graph-in m (t .links)) v) ≡ true) × (first-pair (lifting (graph-in m (t .links)) v) ≡ link-of a b)) (sym rows) h)
+          (subst (λ (m : ℕ). (is-lifted (lifting (graph-in m (t .links)) v) ≡ true) × (first-pair (lifting (graph-in m (t .links)) v) ≡ link-of a b)) (sym rows)
+          h)

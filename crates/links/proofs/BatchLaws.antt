@@ -20,7 +20,8 @@ pub record Same-lengths (t : Tables) (p : ℕ) (hs : List ℕ) (u : Tables) (q :
   pub places : q ≡ p
   pub not-lower : length is ≡ length hs
 
-pub same-lengths : {n : ℕ} {t : Tables} {ps hs : List ℕ} {u : Tables} {qs is : List ℕ} → Prepared n t ps hs → Prepared n u qs is → Same-lengths t (length ps) hs u (length qs) is
+pub same-lengths : {n : ℕ} {t : Tables} {ps hs : List ℕ} {u : Tables} {qs is : List ℕ} → Prepared n t ps hs → Prepared n u qs is → Same-lengths t (length ps) hs
+    u (length qs) is
 unfolding lengths-of
 same-lengths {n} {t} {ps} {hs} {u} {qs} {is} k j =
     let s = fits-good n t (k .good) .lent .lengths in

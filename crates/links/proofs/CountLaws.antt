@@ -154,7 +154,8 @@ module _ (a b : ℕ) (cs ts : List ℕ) where
   pub touched-around : (v w : ℕ) → w < max-radios → In v cs → In w (around ts v) → member w (touched a b cs ts) ≡ true
   touched-around v w l i j =
       member-touched w l
-      ∙ or-right (eqb b w) (eqb a w || member w (all-around ts cs)) (or-right (eqb a w) (member w (all-around ts cs)) (in-member w (all-around ts cs) (in-around v w cs i j)))
+      ∙ or-right (eqb b w) (eqb a w || member w (all-around ts cs))
+      (or-right (eqb a w) (member w (all-around ts cs)) (in-member w (all-around ts cs) (in-around v w cs i j)))
 
   -- and no others
   touched-of : (w : ℕ) → In w (touched a b cs ts) → ((w ≡ a) ⊎ (w ≡ b)) ⊎ ((v : ℕ) × In v cs × In w (around ts v))
@@ -196,7 +197,8 @@ module _ (a b : ℕ) (cs ts : List ℕ) where
 -- ---- counts anew
 
 module _ (ts ns : List ℕ) (v : ℕ) where
-  pub getD-recounted : (vs hs : List ℕ) → v < length hs → getD (recounted ts ns vs hs) v 0 ≡ cond (member v vs) (high-count ns v (neighbours-of ts v)) (getD hs v 0)
+  pub getD-recounted : (vs hs : List ℕ) → v < length hs → getD (recounted ts ns vs hs) v 0 ≡ cond (member v vs) (high-count ns v (neighbours-of ts v))
+      (getD hs v 0)
   unfolding recounted folded member
   getD-recounted [] hs l = refl
   getD-recounted (x ∷ vs) hs l =

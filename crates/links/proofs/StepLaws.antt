@@ -105,7 +105,8 @@ module _ {up : Bool} {n a b : ℕ} {t : Tables} {places not-lower : List ℕ} (k
   step-fits start size taken stretch plan =
       record { taken-fits = plan .taken-fits; long = plan .long; fits = omega (arith, plan .fits, good .lent .lengths .order) }
 
-  pub step-changed : (start size taken : ℕ) (stretch : List ℕ) → Planned up a b g (t .order) (plan-of start size taken) stretch → (answer : List ℕ) → length answer ≡ max-radios
+  pub step-changed : (start size taken : ℕ) (stretch : List ℕ) → Planned up a b g (t .order) (plan-of start size taken) stretch → (answer : List ℕ) → length
+      answer ≡ max-radios
       → (r : Reply) (v : Tables) (x : List ℕ) → Applied up a b start size taken stretch t answer r v x → Changed-by up n a b t v (r .count) x start size
   unfolding switched lengths-of graph-in
   step-changed start size taken stretch plan answer room r v x d =
@@ -139,7 +140,8 @@ module _ {up : Bool} {n a b : ℕ} {t : Tables} {places not-lower : List ℕ} (k
       → high-count (t .numbers) v (neighbours-of (t .links) v) ≡ high-count (after .numbers) v (neighbours-of (after .links) v)
   unfolding high-count switched graph-in relinked
   kept-count v l na nb far =
-      count-ext (λ w. leb (number-in (t .numbers) v) (number-in (t .numbers) w)) (λ w. leb (number-in (after .numbers) v) (number-in (after .numbers) w)) (neighbours-of (t .links) v)
+      count-ext (λ w. leb (number-in (t .numbers) v) (number-in (t .numbers) w)) (λ w. leb (number-in (after .numbers) v) (number-in (after .numbers) w))
+      (neighbours-of (t .links) v)
       (λ w i. rw (same v l (λ m. far v m (inl refl)), same w (near w i) (λ m. far w m (inr (mirrored w i)))))
       ∙ ap (count (λ w. leb (number-in (after .numbers) v) (number-in (after .numbers) w))) rows
     where
@@ -209,11 +211,13 @@ module _ {up : Bool} {n a b : ℕ} {t : Tables} {places not-lower : List ℕ} (k
     numbers-length = ap (λ (o : Tables). length (o .numbers)) (d .tables) ∙ site-after .numbers-long
 
     -- what counting anew wants
-    pub renew-ready : Rows-known (length (v .numbers)) (v .links) (v .numbers) × (length (v .numbers) ≤ length not-lower) × (a < length (v .numbers)) × (b < length (v .numbers))
+    pub renew-ready : Rows-known (length (v .numbers)) (v .links) (v .numbers) × (length (v .numbers) ≤ length not-lower) × (a < length (v .numbers)) ×
+        (b < length (v .numbers))
         × (length (take many list) ≡ many) × ((i : ℕ) → i < length (take many list) → getD (take many list) i 0 < length (v .numbers))
     unfolding graph-in
     renew-ready =
-        let rows : Rows-known n (v .links) (v .numbers) = subst (λ (o : Tables). Rows-known n (o .links) (o .numbers)) (sym (d .tables)) (rows-known n after site-after) in (
+        let rows : Rows-known n (v .links) (v .numbers) = subst (λ (o : Tables). Rows-known n (o .links) (o .numbers)) (sym (d .tables))
+        (rows-known n after site-after) in (
           subst (λ (m : ℕ). Rows-known m (v .links) (v .numbers)) (sym numbers-length) rows,
           omega (arith, numbers-length, k .prepared .not-lower-length, site .small),
           omega (arith, numbers-length, allowed .a-radio),
@@ -225,7 +229,8 @@ module _ {up : Bool} {n a b : ℕ} {t : Tables} {places not-lower : List ℕ} (k
     order-once : Each-once n (v .order)
     unfolding graph-in
     order-once =
-        rw (ap (λ (o : Tables). o .order) (d .tables)) (k-order-certificate (graph-in n (after .links)) (after .order) (good-valid n after good-after .k-order) .once)
+        rw (ap (λ (o : Tables). o .order) (d .tables))
+        (k-order-certificate (graph-in n (after .links)) (after .order) (good-valid n after good-after .k-order) .once)
 
     order-length : length (v .order) ≡ n
     unfolding lengths-of
@@ -244,7 +249,8 @@ module _ {up : Bool} {n a b : ℕ} {t : Tables} {places not-lower : List ℕ} (k
         → (h : List ℕ) → h ≡ recounted (v .links) (v .numbers) (touched a b (take many list) (v .links)) not-lower → Carried up n a b t v p h
     step-carried p f h e =
         let again : Placed n (v .order) p =
-        rw f (placed-again n (t .order) (v .order) places start size (once-distinct n (v .order) order-once) order-length (d .part-fits) (λ q l. omega (arith, order-known q l, k .prepared .places-length)) (d .unmoved) (k .prepared .placed)) in
+        rw f (placed-again n (t .order) (v .order) places start size (once-distinct n (v .order) order-once) order-length (d .part-fits)
+        (λ q l. omega (arith, order-known q l, k .prepared .places-length)) (d .unmoved) (k .prepared .placed)) in
         let is : h ≡ recounted (after .links) (after .numbers) (touched a b cs (after .links)) not-lower =
         e ∙ rw (list-is, d .tables) in
         record {

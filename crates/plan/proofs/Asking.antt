@@ -36,7 +36,8 @@ high-numbers g ns e v l =
 -- ---- what a plan is made from: places and not-lower counts of every radio are in ps and hs
 
 pub ready-of : (up : Bool) (n a b : ℕ) (t : Tables) (others : Bool) → Site-good n (lengths-of t) others (sound n t) → (ps hs : List ℕ) → Placed n (t .order) ps
-    → Not-lower n (t .links) (t .numbers) hs → max-radios ≤ length ps → max-radios ≤ length hs → ends-refusal max-neighbours up n a b (graph-in n (t .links)) ≡ 0
+    → Not-lower n (t .links) (t .numbers) hs → max-radios ≤ length ps → max-radios ≤ length hs → ends-refusal max-neighbours up n a b (graph-in n (t .links)) ≡
+    0
     → Ready up n a b t ps hs
 unfolding lengths-of graph-in
 ready-of up n a b t others good ps hs placed counts lp lh z =

@@ -32,7 +32,8 @@ module _ (up : Bool) (n a b : ℕ) (t : Tables) (w : ℕ) (before ps hs : List �
       pub plan-ready : Ready up (length (t .order)) a b t ps hs
       plan-ready = subst (λ (k : ℕ). Ready up k a b t ps hs) (sym (ready .order-length)) ready
 
-      pub plan-made : (start size taken : ℕ) (stretch : List ℕ) → Planned up a b (graph-in (length (t .order)) (t .links)) (t .order) (plan-of start size taken) stretch
+      pub plan-made : (start size taken : ℕ) (stretch : List ℕ) → Planned up a b (graph-in (length (t .order)) (t .links)) (t .order) (plan-of start size taken)
+          stretch
           → Plan-contract up n a b t w before r start size taken stretch
       plan-made start size taken stretch d = record {
         number = number-is;
@@ -42,7 +43,8 @@ module _ (up : Bool) (n a b : ℕ) (t : Tables) (w : ℕ) (before ps hs : List �
 
 -- ---- going up or down
 
-pub ready-as : {up u : Bool} {n a b : ℕ} {t : Tables} {places not-lower : List ℕ} → up ≡ u → Ready up n a b t places not-lower → Ready u n a b t places not-lower
+pub ready-as : {up u : Bool} {n a b : ℕ} {t : Tables} {places not-lower : List ℕ} → up ≡ u → Ready up n a b t places not-lower → Ready u n a b t places
+    not-lower
 ready-as {n = n} {a = a} {b = b} {t = t} {places = places} {not-lower = not-lower} e r = subst (λ (w : Bool). Ready w n a b t places not-lower) e r
 
 pub planned-for : {up u : Bool} {a b : ℕ} {g : Graph} {order : List ℕ} {start size taken : ℕ} {stretch : List ℕ} → up ≡ u

@@ -42,8 +42,20 @@ module _ {a b : ℕ} {ts ns os ps cs : List ℕ} (r : Ready false (length os) a 
         apart (inr e) = e
 
         known : (v : ℕ) → In v near → (v < length ns) × (v < length ps) × (v < length cs) × (v < max-radios)
-        known v (inl e) = (omega (arith, a-below r, r .numbers-length), omega (arith, a-below r, r .places-length), omega (arith, a-below r, r .not-lower-length), omega (arith, a-below r, r .small))
-        known v (inr (inl e)) = (omega (arith, b-below r, r .numbers-length), omega (arith, b-below r, r .places-length), omega (arith, b-below r, r .not-lower-length), omega (arith, b-below r, r .small))
+        known v (inl e) = (
+          omega (arith, a-below r, r .numbers-length),
+          omega (arith, a-below r, r .places-length),
+          omega
+              (arith, a-below r, r .not-lower-length),
+          omega (arith, a-below r, r .small),
+        )
+        known v (inr (inl e)) = (
+          omega (arith, b-below r, r .numbers-length),
+          omega (arith, b-below r, r .places-length),
+          omega
+              (arith, b-below r, r .not-lower-length),
+          omega (arith, b-below r, r .small),
+        )
         known v (inr (inr e)) = absurd e
 
         above : (v : ℕ) → In v near → getD ns v 0 ≡ k → 1 ≤ getD cs v 0

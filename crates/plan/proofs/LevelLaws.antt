@@ -50,7 +50,8 @@ module _ {f : ℕ → ℕ → Bool} {ns os ps : List ℕ} {k start size : ℕ} (
   pub place-level : (p : ℕ) → start ≤ p → p < start + size → In (getD os p 0) (stretch os start size)
   place-level p low high =
       let i : start + (p - start) ≡ p = omega arith in
-      let at : getD (stretch os start size) (p - start) 0 ≡ getD os p 0 = getD-stretch os start size (p - start) (omega arith) ∙ ap (λ (x : ℕ). getD os x 0) i in
+      let at : getD (stretch os start size) (p - start) 0 ≡ getD os p 0 = getD-stretch os start size (p - start) (omega arith) ∙ ap (λ (x : ℕ). getD os x 0)
+      i in
       rw (← at) (in-getD (stretch os start size) (p - start) (omega (arith, length-stretch os start size (lv .fits))))
 
   pub level-stretch : (v : ℕ) → v < length os → getD ns v 0 ≡ k → In v (stretch os start size)

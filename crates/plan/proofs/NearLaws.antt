@@ -16,7 +16,8 @@ neighbours-of-ext ts us v w h =
     filter-ext (λ x. marked ts v x) (λ x. marked us w x) (range 0 max-radios) (λ x m. h x (omega (arith, range-in 0 max-radios x m)))
 
 -- what `row_neighbours` writes, where there is room
-pub lists-row : (ts : List ℕ) (v r : ℕ) (old new : List ℕ) → row-bytes * v + row-bytes ≤ length ts → length (neighbours-of ts v) ≤ min (length old) (suc max-neighbours)
+pub lists-row : (ts : List ℕ) (v r : ℕ) (old new : List ℕ) → row-bytes * v + row-bytes ≤ length ts → length (neighbours-of ts v) ≤ min (length old)
+    (suc max-neighbours)
     → r ≡ min (length old) (row-count max-neighbours ts v)
     → new ≡ overwrite (take (min (length old) (suc max-neighbours)) (row-listed ts v)) old → Lists-neighbours ts v r new
 lists-row ts v r old new whole room e f =
@@ -25,7 +26,8 @@ lists-row ts v r old new whole room e f =
     record { counted = all .0 ∙ ap length is; listed = all .1 ∙ is }
 
 -- other rows that mark alike
-pub lists-same : {ts us : List ℕ} {v w : ℕ} (r : ℕ) (new : List ℕ) → neighbours-of ts v ≡ neighbours-of us w → Lists-neighbours ts v r new → Lists-neighbours us w r new
+pub lists-same : {ts us : List ℕ} {v w : ℕ} (r : ℕ) (new : List ℕ) → neighbours-of ts v ≡ neighbours-of us w → Lists-neighbours ts v r new → Lists-neighbours us
+    w r new
 lists-same r new e h = record { counted = h .counted ∙ ap length e; listed = h .listed ∙ e }
 
 -- the same radios, listed another way
@@ -75,7 +77,8 @@ module _ (ts : List ℕ) (v m : ℕ) (long : m ≡ row-bytes) (whole : row-bytes
       → row1 ≡ overwrite (take (length row0) part) row0 → row2 ≡ put-bit u 0 w row1 → neighbours-of row2 0 ≡ neighbours-of (put-bit u v w ts) v
   row-copied u w row0 row1 row2 small l e f =
       let is : row1 ≡ part =
-      e ∙ ap (λ (z : List ℕ). overwrite z row0) (take-all (length row0) part (omega (arith, length-part))) ∙ overwrite-all part row0 (omega (arith, length-part)) in
+      e ∙ ap (λ (z : List ℕ). overwrite z row0) (take-all (length row0) part (omega (arith, length-part))) ∙ overwrite-all part row0
+      (omega (arith, length-part)) in
       ap (λ (z : List ℕ). neighbours-of z 0) (f ∙ ap (put-bit u 0 w) is) ∙ neighbours-of-put u w small
 
 -- a row that marks as another does, listed

@@ -67,7 +67,8 @@ module _ {f : ℕ → ℕ → Bool} {ns os ps : List ℕ} {k start size : ℕ} (
           let at = left-in v i in
           let s = stretch-stands lv v at in
           leb-false (getD cs v 0) m
-          (sym (ap (λ (b : Bool). b && leb (getD cs v 0) m) (in-member v left i)) ∙ sym (h .fitting v at) ∙ none (place v) (omega (arith, s .high, lv .fits, lv .small)))
+          (sym (ap (λ (b : Bool). b && leb (getD cs v 0) m) (in-member v left i)) ∙ sym (h .fitting v at) ∙ none (place v)
+          (omega (arith, s .high, lv .fits, lv .small)))
 
       left-is : left ≡ filter (λ v. ltb m (getD cs v 0)) level
       left-is =
@@ -137,7 +138,8 @@ module _ {f : ℕ → ℕ → Bool} {ns os ps : List ℕ} {k start size : ℕ} (
             (cond (eqb p (place w)) false (in-set fs (place w)) || (member w near && eqb (getD cs1 w 0) m))
         place-marked-after w i =
             let s = stretch-stands lv w i in
-            marked-released-place ns ps k m (place-small lv) (place-apart lv) near cs fs0 long-fs0 may w (omega (arith, s .below, lv .numbers-length)) (s .level)
+            marked-released-place ns ps k m (place-small lv) (place-apart lv) near cs fs0 long-fs0 may w (omega (arith, s .below, lv .numbers-length))
+            (s .level)
             ∙ rw (place-out p (place w) fs (h .fits-long) some)
 
         -- what is left, cut at v
@@ -173,7 +175,8 @@ module _ {f : ℕ → ℕ → Bool} {ns os ps : List ℕ} {k start size : ℕ} (
                   omega (
                     arith,
                     h .counted w in-left-now,
-                    leb-false (getD cs w 0) m (sym (ap (λ (b : Bool). b && leb (getD cs w 0) m) (in-member w left in-left-now)) ∙ sym (h .fitting w at) ∙ unmarked),
+                    leb-false (getD cs w 0) m (sym (ap (λ (b : Bool). b && leb (getD cs w 0) m) (in-member w left in-left-now)) ∙ sym (h .fitting w at) ∙
+                        unmarked),
                   )
 
           still-left : (w : ℕ) → In w (xs ++ ys) → In w left
@@ -212,7 +215,8 @@ module _ {f : ℕ → ℕ → Bool} {ns os ps : List ℕ} {k start size : ℕ} (
               s : Stands lv w
               s = stretch-stands lv w i
 
-              others : (v ≡ w → ⊥) → (t : Bool) → member w left ≡ t → ((t && leb (getD cs w 0) m) || (member w near && eqb (getD cs1 w 0) m)) ≡ (t && leb (getD cs1 w 0) m)
+              others : (v ≡ w → ⊥) → (t : Bool) → member w left ≡ t → ((t && leb (getD cs w 0) m) || (member w near && eqb (getD cs1 w 0) m)) ≡
+                  (t && leb (getD cs1 w 0) m)
               others ne true e = fits-released m (member w near) (getD cs w 0) (getD cs1 w 0) (counter-after w i)
               others ne false e = used (level-cases w i)
                 where

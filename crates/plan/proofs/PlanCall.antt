@@ -58,5 +58,6 @@ module _ {u : Bool} {a b : ℕ} {ts ns os ps cs : List ℕ} (r : Ready u (length
         → list2 ≡ sets list1 taken (filter (λ v. ltb m (getD cs2 v 0)) (stretch os from many))
         → Planned u a b (graph-in (length os) ts) os (plan-of from many taken) list2
     plan-done taken cs2 list1 list2 done room written =
-        plan-end r w x y k m from many taken cs2 list1 list2 (call .0) (call .1) (call .2) (call .3 ∙ level-is r) (call .4 ∙ ap (bound u) (level-is r)) (at .0) (at .1)
+        plan-end r w x y k m from many taken cs2 list1 list2 (call .0) (call .1) (call .2) (call .3 ∙ level-is r) (call .4 ∙ ap (bound u) (level-is r)) (at .0)
+        (at .1)
         done room written

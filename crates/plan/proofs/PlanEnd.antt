@@ -106,7 +106,8 @@ module _ {u : Bool} {a b : ℕ} {ts ns os ps cs : List ℕ} (r : Ready u (length
       taken-fits = done .fits;
       laid = rw (← start-is r K, ← size-is r K, ← stretch-laid) (append-assoc (take start os) (take size list2) (drop (start + size) os));
       changed-is = λ v l. link-call.changed-part max-neighbours u a b g os (is-valid r) (r .allowed) peel v l ∙ ap (member v) (part-is u);
-      radios = λ i l. rw (sym (getD-take size list2 i 0 l) ∙ ap (λ (xs : List ℕ). getD xs i 0) front) (front-in (getD (first ++ stuck) i 0) (in-getD (first ++ stuck) i (omega (arith, both-length))));
+      radios = λ i l. rw (sym (getD-take size list2 i 0 l) ∙ ap (λ (xs : List ℕ). getD xs i 0) front)
+          (front-in (getD (first ++ stuck) i 0) (in-getD (first ++ stuck) i (omega (arith, both-length))));
     }
 
     -- ---- nothing taken going down: nothing moves, nothing falls

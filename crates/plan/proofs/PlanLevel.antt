@@ -39,19 +39,23 @@ module _ {u : Bool} {a b : ℕ} {ts ns os ps cs : List ℕ} (r : Ready u (length
 
   pub is-symmetric : symmetric n ts ≡ true
   unfolding rows-proper
-  is-symmetric = and-left (symmetric n ts) (irreflexive n ts) (and-left (symmetric n ts && irreflexive n ts) (within n ts && few max-neighbours n ts) (right .rows))
+  is-symmetric = and-left (symmetric n ts) (irreflexive n ts)
+      (and-left (symmetric n ts && irreflexive n ts) (within n ts && few max-neighbours n ts) (right .rows))
 
   pub is-irreflexive : irreflexive n ts ≡ true
   unfolding rows-proper
-  is-irreflexive = and-right (symmetric n ts) (irreflexive n ts) (and-left (symmetric n ts && irreflexive n ts) (within n ts && few max-neighbours n ts) (right .rows))
+  is-irreflexive = and-right (symmetric n ts) (irreflexive n ts)
+      (and-left (symmetric n ts && irreflexive n ts) (within n ts && few max-neighbours n ts) (right .rows))
 
   pub is-within : within n ts ≡ true
   unfolding rows-proper
-  is-within = and-left (within n ts) (few max-neighbours n ts) (and-right (symmetric n ts && irreflexive n ts) (within n ts && few max-neighbours n ts) (right .rows))
+  is-within = and-left (within n ts) (few max-neighbours n ts)
+      (and-right (symmetric n ts && irreflexive n ts) (within n ts && few max-neighbours n ts) (right .rows))
 
   is-few : few max-neighbours n ts ≡ true
   unfolding rows-proper
-  is-few = and-right (within n ts) (few max-neighbours n ts) (and-right (symmetric n ts && irreflexive n ts) (within n ts && few max-neighbours n ts) (right .rows))
+  is-few = and-right (within n ts) (few max-neighbours n ts)
+      (and-right (symmetric n ts && irreflexive n ts) (within n ts && few max-neighbours n ts) (right .rows))
 
   pub is-valid : Valid max-neighbours g os
   unfolding graph-in
@@ -169,7 +173,8 @@ module _ {u : Bool} {a b : ℕ} {ts ns os ps cs : List ℕ} (r : Ready u (length
       placed = placed-at ek;
       numbered = numbered-at;
       stands = λ v l e. (
-          let m = getD-of-in v (stretch os start size) (rw stretch-is (filter-in (λ v. eqb (num v) k) os v (once-in n os is-once v l) (eq-eqb (num v) k (sym (number-is v l) ∙ e)))) in
+          let m = getD-of-in v (stretch os start size)
+          (rw stretch-is (filter-in (λ v. eqb (num v) k) os v (once-in n os is-once v l) (eq-eqb (num v) k (sym (number-is v l) ∙ e)))) in
           stands-at ek v (m .0) (omega (arith, m .1, length-stretch os start size stretch-fits)) (m .2));
       within = λ v w h. past v w h (bool-cases (ltb w n));
       irreflexive = linked-self after after-proper;
@@ -181,7 +186,8 @@ module _ {u : Bool} {a b : ℕ} {ts ns os ps cs : List ℕ} (r : Ready u (length
             let i : start + (p - start) ≡ p = omega arith in
             let at : getD (stretch os start size) (p - start) 0 ≡ getD os p 0 =
             getD-stretch os start size (p - start) (omega arith) ∙ ap (λ (x : ℕ). getD os x 0) i in
-            let m = stretch-number (getD os p 0) (rw at at (in-getD (stretch os start size) (p - start) (omega (arith, length-stretch os start size stretch-fits)))) in
+            let m = stretch-number (getD os p 0) (rw at at
+            (in-getD (stretch os start size) (p - start) (omega (arith, length-stretch os start size stretch-fits)))) in
             number-is (getD os p 0) (m .0) ∙ m .1
 
         past : (v w : ℕ) → linked after v w ≡ true → (ltb w n ≡ true) ⊎ (ltb w n ≡ false) → w < n
@@ -192,7 +198,8 @@ module _ {u : Bool} {a b : ℕ} {ts ns os ps cs : List ℕ} (r : Ready u (length
     row-is v w l lw = marked-put-link u n a b ts v w (r .small) (r .links-length) a-below b-below lw ∙ go (bool-cases (ltb w n))
       where
         relinked-is : linked after v w ≡ cond (ends a b v w) u (linked g v w)
-        relinked-is = linked-relinked u a b g (is-valid .links-proper) (is-valid .links-ascending) (r .allowed .a-radio) (r .allowed .b-radio) (r .allowed .differ) v w
+        relinked-is = linked-relinked u a b g (is-valid .links-proper) (is-valid .links-ascending) (r .allowed .a-radio) (r .allowed .b-radio)
+            (r .allowed .differ) v w
 
         not-ends : n ≤ w → (t : Bool) → ends a b v w ≡ t → cond t u (marked ts v w) ≡ false
         not-ends h true e = absurd (no (ends-of a b v w e))

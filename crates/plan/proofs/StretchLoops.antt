@@ -39,7 +39,8 @@ module _ (f : ℕ → Bool) (os : List ℕ) (start size taken : ℕ) (old : List
         → Stretch-listed f os start size taken old new to (i + 1)
     unfolding filter
     stretch-passed e d k =
-        let cut : filter f (drop i (stretch os start size)) ≡ getD os (start + i) 0 ∷ filter f (drop (i + 1) (stretch os start size)) = ap (filter f) next ∙ rw e in
+        let cut : filter f (drop i (stretch os start size)) ≡ getD os (start + i) 0 ∷ filter f (drop (i + 1) (stretch os start size)) = ap (filter f) next ∙ rw
+        e in
         record {
           low = omega arith;
           few = omega (arith, h .few);

@@ -67,7 +67,8 @@ module _ (ns : List ℕ) (k : ℕ) where
           rw ne (rec ∙ counter-kept v w cs (inl (λ e. eqb-false v w ne (sym e))))
       go rec (inl e) (inr q) =
           let same = eqb-true v w e in
-          rw (e, q) (let zero-bit : getD (released ns k vs (counter-less ns k v cs)) w 0 + 0 ≡ getD (counter-less ns k v cs) w 0 = ap (λ (x : ℕ). getD (released ns k vs (counter-less ns k v cs)) w 0 + x) (sym (none q (member w vs))) ∙ rec in
+          rw (e, q) (let zero-bit : getD (released ns k vs (counter-less ns k v cs)) w 0 + 0 ≡ getD (counter-less ns k v cs) w 0 = ap
+          (λ (x : ℕ). getD (released ns k vs (counter-less ns k v cs)) w 0 + x) (sym (none q (member w vs))) ∙ rec in
           zero-bit ∙ counter-kept v w cs (inr (rw same (eqb-false (getD ns w 0) k q))))
         where
           none : eqb (getD ns w 0) k ≡ false → (t : Bool) → cond {A = ℕ} (t && eqb (getD ns w 0) k) 1 0 ≡ 0
@@ -151,7 +152,8 @@ module _ (ns ps : List ℕ) (k m : ℕ) (small : (v : ℕ) → v < length ns →
     marked-released-place [] cs fs e h w lw kw = sym (or-false (in-set fs (getD ps w 0)))
     marked-released-place (v ∷ vs) cs fs e h w lw kw =
         let less = counter-less ns k v cs in
-        marked-released-place vs less (place-marked ns ps k m v less fs) (length-place-marked ns ps k m v less fs ∙ e) (releasable-tail ns ps k v vs cs h) w lw kw
+        marked-released-place vs less (place-marked ns ps k m v less fs) (length-place-marked ns ps k m v less fs ∙ e) (releasable-tail ns ps k v vs cs h) w lw
+        kw
         ∙ go (bool-cases (eqb v w))
       where
         less : List ℕ

@@ -171,7 +171,8 @@ module _ (ns ps : List ℕ) (k m : ℕ) (near old fold : List ℕ) where
   releasing-part [] rest cs fs cs1 fs1 f g h = rw (f, g) h
   releasing-part (v ∷ xs) rest cs fs cs1 fs1 f g h =
       let less = counter-less ns k v cs in
-      releasing-part xs rest less (place-marked ns ps k m v less fs) cs1 fs1 f g (releasing-one v (xs ++ rest) cs fs less (place-marked ns ps k m v less fs) refl refl h)
+      releasing-part xs rest less (place-marked ns ps k m v less fs) cs1 fs1 f g
+      (releasing-one v (xs ++ rest) cs fs less (place-marked ns ps k m v less fs) refl refl h)
 
   pub releasing-end : (rest cs fs : List ℕ) → rest ≡ [] → Releasing ns ps k m near old fold rest cs fs
       → (cs ≡ released ns k near old) × (fs ≡ places-released ns ps k m near old fold)
@@ -286,7 +287,8 @@ module _ (row : List ℕ) (long : length row ≡ row-bytes) (bytes : (i : ℕ) �
   left-split set =
       filter-filter (in-set set) (λ x. marked row 0 x) (range (64 * j) (max-radios - 64 * j))
       ∙ words-from (λ x. marked row 0 x && in-set set x) j (bitAnd w (getD set j 0)) l tells
-      ∙ ap (_++_ (set-bits 64 (64 * j) (bitAnd w (getD set j 0)))) (sym (filter-filter (in-set set) (λ x. marked row 0 x) (range (64 * (j + 1)) (max-radios - 64 * (j + 1)))))
+      ∙ ap (_++_ (set-bits 64 (64 * j) (bitAnd w (getD set j 0))))
+      (sym (filter-filter (in-set set) (λ x. marked row 0 x) (range (64 * (j + 1)) (max-radios - 64 * (j + 1)))))
     where
       tells : (b : ℕ) → b < 64 → (marked row 0 (64 * j + b) && digit (getD set ((64 * j + b) / 64) 0) ((64 * j + b) % 64)) ≡ digit (bitAnd w (getD set j 0)) b
       tells b h =

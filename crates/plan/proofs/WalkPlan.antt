@@ -305,13 +305,15 @@ module _ {a b : ℕ} {ts ns os ps cs : List ℕ} (r : Ready true (length os) a b
         where
           moved : (stuck ≡ []) ⊎ (old ≡ []) → take first os ++ (new ++ stuck) ++ (old ++ high) ≡ take first os ++ ((new ++ old) ++ (stuck ++ high))
           moved (inl q) =
-              rw (q, append-nil new) (append-assoc (take first os) new (old ++ high) ∙ ap (λ (z : List ℕ). take first os ++ z) (sym (append-assoc new old high)))
+              rw (q, append-nil new) (append-assoc (take first os) new (old ++ high) ∙ ap (λ (z : List ℕ). take first os ++ z)
+              (sym (append-assoc new old high)))
           moved (inr q) =
               rw (q, append-nil new)
               (append-assoc (take first os) (new ++ stuck) high ∙ ap (λ (z : List ℕ). take first os ++ z) (append-assoc new stuck high))
 
       walked-in : (v : ℕ) → In v (new ++ stuck) → v < n
-      walked-in v m = part-below v (permutation-in ((new ++ old) ++ stuck) part (λ h. sym (takes-permutation (linked after) k high (peels .takes) h)) v (go (in-cases v new stuck m)))
+      walked-in v m = part-below v (permutation-in ((new ++ old) ++ stuck) part (λ h. sym (takes-permutation (linked after) k high (peels .takes) h)) v
+          (go (in-cases v new stuck m)))
         where
           go : In v new ⊎ In v stuck → In v ((new ++ old) ++ stuck)
           go (inl i) = in-left v (new ++ old) stuck (in-left v new old i)
@@ -331,7 +333,8 @@ module _ {a b : ℕ} {ts ns os ps cs : List ℕ} (r : Ready true (length os) a b
         taken-fits = done .passed;
         laid = laid;
         changed-is = λ v l.
-            beginning.changed-walked max-neighbours a b g os (is-valid r) (r .allowed) (take first os) e rest cut (pick .end) no-end (new ++ old) stuck peels-level v l;
+            beginning.changed-walked max-neighbours a b g os (is-valid r) (r .allowed) (take first os) e rest cut (pick .end) no-end (new ++ old) stuck
+            peels-level v l;
         radios = entry-below;
       }
 

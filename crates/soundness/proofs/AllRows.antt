@@ -28,7 +28,8 @@ module _ (n : ℕ) (links numbers places before : List ℕ) where
       let e : n - a ≡ suc (n - suc a) = omega arith in ap (λ (k : ℕ). all good (range a k)) e
 
   module _ (not-lower : List ℕ) (a : ℕ) (l : a < n) (s : Rows-so-far n links numbers places before not-lower a) where
-    pub rows-bad : (row : Bool) (high : ℕ) → Row-checked n links numbers places a row high → row ≡ false → Rows-checked n links numbers places before not-lower false
+    pub rows-bad : (row : Bool) (high : ℕ) → Row-checked n links numbers places a row high → row ≡ false → Rows-checked n links numbers places before not-lower
+        false
     rows-bad row high r e = record {
       answer = sym (sym (s .left) ∙ all-next a l ∙ ap (λ (b : Bool). b && all good (range (suc a) (n - suc a))) (sym (r .answer) ∙ e));
       counts = λ f. never false f refl;
@@ -49,7 +50,8 @@ module _ (n : ℕ) (links numbers places before : List ℕ) where
         next v (inr (inl q)) _ = rw q (getD-set-same not-lower a high 0 (omega (arith, s .long)) ∙ r .high-is e)
         next v (inr (inr k)) m = absurd (omega arith)
 
-  pub rows-end : (not-lower : List ℕ) (a : ℕ) → n ≤ a → Rows-so-far n links numbers places before not-lower a → Rows-checked n links numbers places before not-lower true
+  pub rows-end : (not-lower : List ℕ) (a : ℕ) → n ≤ a → Rows-so-far n links numbers places before not-lower a → Rows-checked n links numbers places before
+      not-lower true
   unfolding all range
   rows-end not-lower a l s =
       let e : n - a ≡ 0 = omega (arith, s .low) in

@@ -128,9 +128,11 @@ module _ (n : ℕ) (t : Tables) (q : ℕ) (asked : q ≡ site-refusal n (lengths
 
   pub check-refused : (q ≡ 0 → ⊥) → (q ≡ 3 → ⊥) → Check-contract n t (record { number = q; value = 0 })
   unfolding Check-contract check-outcome sound tables-refusal site-refusal lent-refusal ask
-  check-refused h k = value-refused _ _ q (asked ∙ go (size-good n) (site-lengths n (lengths-of t) && true) (sound n t) (λ z. h (asked ∙ z)) (λ z. k (asked ∙ z))) h
+  check-refused h k = value-refused _ _ q (asked ∙ go (size-good n) (site-lengths n (lengths-of t) && true) (sound n t) (λ z. h (asked ∙ z))
+      (λ z. k (asked ∙ z))) h
     where
-      go : (a b c : Bool) → (ask 1 a (ask 2 b (ask 3 c 0)) ≡ 0 → ⊥) → (ask 1 a (ask 2 b (ask 3 c 0)) ≡ 3 → ⊥) → ask 1 a (ask 2 b (ask 3 c 0)) ≡ ask 1 a (ask 2 b 0)
+      go : (a b c : Bool) → (ask 1 a (ask 2 b (ask 3 c 0)) ≡ 0 → ⊥) → (ask 1 a (ask 2 b (ask 3 c 0)) ≡ 3 → ⊥) → ask 1 a (ask 2 b (ask 3 c 0)) ≡ ask 1 a
+          (ask 2 b 0)
       go false b c z w = refl
       go true false c z w = refl
       go true true false z w = absurd (w refl)

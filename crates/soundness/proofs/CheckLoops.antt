@@ -84,7 +84,8 @@ module _ (order before part : List ℕ) (pre : (length order ≤ length before) 
     low = omega arith;
     long = refl;
     at = λ j l. absurd (omega arith);
-    from = λ v l. inl (ap (λ (xs : List ℕ). getD (xs ++ drop (length order) before) v 0) many ∙ getD-replicated (length order) v l (drop (length order) before));
+    from = λ v l. inl (ap (λ (xs : List ℕ). getD (xs ++ drop (length order) before) v 0) many ∙ getD-replicated (length order) v l
+        (drop (length order) before));
   }
 
   module _ (places : List ℕ) (i : ℕ) (l : i < length order) (s : Placing-so-far order (length filled) places i) where
@@ -96,10 +97,12 @@ module _ (order before part : List ℕ) (pre : (length order ≤ length before) 
     pub placing-again : getD order i 0 < length order → (getD places (getD order i 0) 0 ≡ nowhere → ⊥) → each-once (length order) order ≡ false
     placing-again h some = pick (s .from (getD order i 0) h)
       where
-        pick : (getD places (getD order i 0) 0 ≡ nowhere) ⊎ ((getD places (getD order i 0) 0 < i) × (getD order (getD places (getD order i 0) 0) 0 ≡ getD order i 0))
+        pick : (getD places (getD order i 0) 0 ≡ nowhere) ⊎
+            ((getD places (getD order i 0) 0 < i) × (getD order (getD places (getD order i 0) 0) 0 ≡ getD order i 0))
             → each-once (length order) order ≡ false
         pick (inl e) = absurd (some e)
-        pick (inr r) = not-once (length order) order (λ o. distinct-twice order (getD places (getD order i 0) 0) i (r .0) l (r .1) (once-distinct (length order) order o))
+        pick (inr r) = not-once (length order) order
+            (λ o. distinct-twice order (getD places (getD order i 0) 0) i (r .0) l (r .1) (once-distinct (length order) order o))
 
     pub placing-room : getD order i 0 < length order → getD order i 0 < length places
     placing-room h = omega (arith, s .long, size)
@@ -152,7 +155,8 @@ module _ (order before part : List ℕ) (pre : (length order ≤ length before) 
     long = s .long ∙ size;
   }
 
-  pub placing-not : (places : List ℕ) (i : ℕ) → Placing-so-far order (length filled) places i → each-once (length order) order ≡ false → Placing order before places false
+  pub placing-not : (places : List ℕ) (i : ℕ) → Placing-so-far order (length filled) places i → each-once (length order) order ≡ false → Placing order before
+      places false
   placing-not places i s h = record { answer = sym h; placed = λ f. never false f refl; long = s .long ∙ size }
 
   pub placing-long : (places : List ℕ) (i : ℕ) → Placing-so-far order (length filled) places i → length places ≡ length before

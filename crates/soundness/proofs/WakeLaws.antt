@@ -90,7 +90,10 @@ module _ (n v : ℕ) (t : Tables) where
     pub later-radio : Sound-radio (length (t .order)) v t
     later-radio =
         let r = radio-zero n v (lengths-of t) (sound n t) e in
-        record { is-sound = subst (λ (m : ℕ). fits-sound m t ≡ true) (sym order-long) (site-good-fits n t true (r .0)); radio = omega (arith, r .1, order-long) }
+        record {
+          is-sound = subst (λ (m : ℕ). fits-sound m t ≡ true) (sym order-long) (site-good-fits n t true (r .0));
+          radio = omega (arith, r .1, order-long);
+        }
 
     pub later-answered : (k w : ℕ) → Later-counted (length (t .order)) v t k w → Later-contract n v t (later 0 k w)
     unfolding Later-contract later-outcome sound
