@@ -1,5 +1,5 @@
 -- How a program is started: each way through `words::descriptor` and `words::start_of`.
-use Rattle.lists.specs.{Kit.{_≡_, refl, ap, List, [], _∷_, ℕ, _-_, _≤_, _<_, arith, ℤ, pos, negsuc, length, getD, lt-ltb, le-ltb}, Lists.{same}}
+use Rattle.lists.specs.{Kit.{_≡_, refl, ap, true, false, List, [], _∷_, ℕ, _-_, _≤_, _<_, arith, ℤ, pos, negsuc, length, getD, lt-ltb, le-ltb}, Lists.{same}}
 use Rattle.text.specs.Text.{bytes-of}
 use Rattle.player.specs.Words.{digit-of, descriptor-of, start-of}
 

@@ -54,7 +54,7 @@ fn words(word: &[u8]) {
     say::text(b"replay ");
     say::text(word);
     say::text(b"\n");
-    let status = player::run_words(ends, 1, word);
+    let status = player::words::run_words(ends, 1, word);
     print_errors(errors);
     print_status(status);
 }
