@@ -11,7 +11,7 @@ use Rattle.calls.{specs.Questions.{lengths-of, lent-refusal, tables-refusal}, s
 use Rattle.calls.{proofs.ChainLaws.{lent-yes}, proofs.ContractLaws.{by-zero}}
 use Rattle.text.{specs.Print.{Buffer, buffer-at, put, Puts, max-place}, proofs.PrintLaws.{put-fits}}
 use Rattle.player.specs.{Reads.{goes-on, at-end, Found, Read, input-of, Going, Unbroken, To-end}, Lines.{Prints}, Machine.{Spot, spot, Marked, Takes}}
-use Rattle.player.specs.{Machine.{Takes-all, full, line-room, closing, ending}, Reading.{chunk-room, waiting, Writes, room-made, Room-made, broken-off}}
+use Rattle.player.specs.{Machine.{Takes-all, full, line-room, closing, ending}, Reading.{chunk-room, waiting, Writes, room-made, kept-fault, Room-made, broken-off}}
 use Rattle.player.specs.{Reading.{Ready, Site-lent, Site-cleared, Site-sized, Takes-chunk, Ended, Broken, Takes-read, Found-by, Reads-once, Reads-all}}
 use Rattle.player.specs.{Play.{lines-of, cleared}, Whole.{Lines-print, Run-from}, declared.machine.Progress.{Progress}}
 use Rattle.player.proofs.{ReadLaws.{none-found, take-none}, BytesLaws.{takes-more, takes-append}, SizeLaws.{takes-length, takes-number}}
@@ -419,3 +419,19 @@ fault-first zero new r e h = (refl, sym e ∙ h)
 fault-first (suc k) new r e h =
     let some : r ≡ suc k = e ∙ cond-false (eqb (suc k) 0) new (suc k) (ne-eqb (suc k) 0 (λ d. absurd (omega (arith, d)))) in
     absurd (omega (arith, some, h))
+
+pub kept-right : (kept : Bool) (f : ℕ) → kept ≡ true → f ≡ kept-fault kept f
+unfolding kept-fault
+kept-right true f e = refl
+kept-right false f e = absurd (true≢false (sym e))
+
+pub kept-not : (kept : Bool) (f r : ℕ) → kept ≡ false → r ≡ cond (eqb f 0) 7 f → r ≡ kept-fault kept f
+unfolding kept-fault
+kept-not true f r e h = absurd (true≢false e)
+kept-not false f r e h = h
+
+-- a fault stays
+pub kept-zero : (kept : Bool) (f r : ℕ) → r ≡ kept-fault kept f → r ≡ 0 → f ≡ 0
+unfolding kept-fault
+kept-zero true f r e h = sym e ∙ h
+kept-zero false f r e h = fault-first f 7 r e h .0

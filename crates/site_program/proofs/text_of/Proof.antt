@@ -7,7 +7,7 @@ returns : tie.Need-returns
 returns c =
     let at-answer = c .before .before in
     let start = at-answer .before .before .before .before .before .before in
-    verb-held (start .args .verb) _ _ _ _ _ _ _ (start .pre) (at-answer .answer .ensures)
+    (verb-held (start .args .verb) _ _ _ _ _ _ _ (start .pre) (at-answer .answer .ensures), at-answer .answer .ensures)
 
 pub text-of-spec : {M : Type 1} → statement M
 text-of-spec =
