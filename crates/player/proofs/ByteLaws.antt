@@ -131,7 +131,8 @@ byte-bad n b s r t v w x line {out} {mid} {after} l h f call played stop =
       text = bad-line (s .number);
       holds = takes-line (length line) n b (spot t w line s) (bad-line (s .number)) (spot v x (set line (s .held) b) r) l
           (omega (arith, length-held line (s .held) (omega arith))) f (by-none _ is-none stops);
-      puts = subst (λ (k : List ℕ). Puts (buffer-at k (s .at)) (bad-line (s .number)) (buffer-at after (r .at))) (sym (same-bytes (played .text) (passed .says) (played .puts))) (stop .puts);
+      puts = subst (λ (k : List ℕ). Puts (buffer-at k (s .at)) (bad-line (s .number)) (buffer-at after (r .at)))
+          (sym (same-bytes (played .text) (passed .says) (played .puts))) (stop .puts);
     }
   where
     by-none : {c : Bool} (k : List ℕ) {p q : Spot} {text : List ℕ} → c ≡ false → Stopped p text q → Line-ends c n k p text q

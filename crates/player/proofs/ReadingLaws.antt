@@ -11,7 +11,8 @@ use Rattle.calls.{specs.Questions.{lengths-of, lent-refusal, tables-refusal}, s
 use Rattle.calls.{proofs.ChainLaws.{lent-yes}, proofs.ContractLaws.{by-zero}}
 use Rattle.text.{specs.Print.{Buffer, buffer-at, put, Puts, max-place}, proofs.PrintLaws.{put-fits}}
 use Rattle.player.specs.{Reads.{goes-on, at-end, Found, Read, input-of, Going, Unbroken, To-end}, Lines.{Prints}, Machine.{Spot, spot, Marked, Takes}}
-use Rattle.player.specs.{Machine.{Takes-all, full, line-room, closing, ending}, Reading.{chunk-room, waiting, Writes, room-made, kept-fault, Room-made, broken-off}}
+use Rattle.player.specs.{Machine.{Takes-all, full, line-room, closing, ending}, Reading.{chunk-room, waiting, Writes, room-made, kept-fault, Room-made}}
+use Rattle.player.specs.{Reading.{broken-off}}
 use Rattle.player.specs.{Reading.{Ready, Site-lent, Site-cleared, Site-sized, Takes-chunk, Ended, Broken, Takes-read, Found-by, Reads-once, Reads-all}}
 use Rattle.player.specs.{Play.{lines-of, cleared}, Whole.{Lines-print, Run-from}, declared.machine.Progress.{Progress}}
 use Rattle.player.proofs.{ReadLaws.{none-found, take-none}, BytesLaws.{takes-more, takes-append}, SizeLaws.{takes-length, takes-number}}
@@ -108,7 +109,8 @@ chunk-more m l n chunk i x p b t v w y line kept s r d out after h e room same m
     (takes-more m n (take i chunk) (getD chunk i 0) p (spot t w line s) (spot v y kept r) (so .taken .text) (byte .text) (so .taken .takes) taken) in
     let writes : Writes b (whole ++ []) (buffer-at after (room-made (d .fault) r .at)) =
     writes-append b (buffer-at after (r .at)) (buffer-at after (room-made (d .fault) r .at)) whole []
-    (writes-append b (buffer-at out (s .at)) (buffer-at after (r .at)) (so .taken .text) (byte .text) (so .taken .writes) put) (writes-room (d .fault) r after) in
+    (writes-append b (buffer-at out (s .at)) (buffer-at after (r .at)) (so .taken .text) (byte .text) (so .taken .writes) put)
+    (writes-room (d .fault) r after) in
     let number = takes-number m n (getD chunk i 0) (spot t w line s) (byte .text) (spot v y kept r) taken in
     let rest : Chunk-to m n chunk (i + 1) p b (spot v y kept (room-made (d .fault) r)) (room-made (d .fault) r) after =
     record {
@@ -192,75 +194,77 @@ printed-over n bs t w text q l h =
 -- one read more: p and q are the spots of s and r
 module _ (n l k : ℕ) (t : Tables) (w : List ℕ) (b : Buffer) (p q : Spot) (s r : Progress) (out after : List ℕ) (some : 0 < k) (room : l ≡ line-room)
     (live : s .live ≡ true) (none : s .fault ≡ 0) (same : q .live ≡ r .live) (from : p .number ≡ s .number) (to : q .number ≡ r .number)
-    (long : length after ≡ length out) (at : r .live ≡ true → r .at < full) (so : Read-to n k t w b p s out) (read : Read) (found : Found-by (read .state) r) where
-  -- what the last read says of all
-  abbrev So-far : (text : List ℕ) → Type 0
-  So-far text = Writes b text (buffer-at after (r .at)) × (r .live ≡ true → Takes-all line-room n (input-of (so .reads) ++ read .bytes) (begin t w) text q)
-      × (r .live ≡ true → Ready (chunk-room * (k - 1)) r after) × (r .live ≡ false → Lines-print n (lines-of (input-of (so .reads) ++ read .bytes)) 2 t w text)
+    (long : length after ≡ length out) (at : r .live ≡ true → r .at < full) (so : Read-to n k t w b p s out) (read : Read) (found : Found-by (read .state) r)
+  where
+    -- what the last read says of all
+    abbrev So-far : (text : List ℕ) → Type 0
+    So-far text = Writes b text (buffer-at after (r .at)) × (r .live ≡ true → Takes-all line-room n (input-of (so .reads) ++ read .bytes) (begin t w) text q)
+        × (r .live ≡ true → Ready (chunk-room * (k - 1)) r after) × (r .live ≡ false → Lines-print n (lines-of (input-of (so .reads) ++ read .bytes)) 2 t w text)
 
-  read-to : (text : List ℕ) → So-far text → Read-to n (k - 1) t w b q r after
-  unfolding input-of Going Unbroken To-end
-  read-to text h =
-      record {
-        reads = read ∷ so .reads;
-        text = text;
-        writes = h .0;
-        takes = h .1;
-        ready = h .2;
-        going = λ e f. (found .going e f, so .going live none);
-        over = h .3;
-        unbroken = λ e. (found .over e, so .going live none);
-        to-end = λ e f. (found .ended e f, so .going live none);
-      }
+    read-to : (text : List ℕ) → So-far text → Read-to n (k - 1) t w b q r after
+    unfolding input-of Going Unbroken To-end
+    read-to text h =
+        record {
+          reads = read ∷ so .reads;
+          text = text;
+          writes = h .0;
+          takes = h .1;
+          ready = h .2;
+          going = λ e f. (found .going e f, so .going live none);
+          over = h .3;
+          unbroken = λ e. (found .over e, so .going live none);
+          to-end = λ e f. (found .ended e f, so .going live none);
+        }
 
-  read-some : length (read .bytes) ≤ chunk-room → Takes-chunk l n (read .bytes) p (buffer-at out (s .at)) q (buffer-at after (r .at))
-      → Read-to n (k - 1) t w b q r after
-  read-some few chunk =
-      let bs = read .bytes in
-      let taken : Takes-all line-room n bs p (chunk .text) q = subst (λ (m : ℕ). Takes-all m n bs p (chunk .text) q) room (chunk .takes) in
-      let all = takes-append line-room n (input-of (so .reads)) bs (begin t w) p q (so .text) (chunk .text) (so .takes live) taken in
-      let number = takes-all-number line-room n bs p (chunk .text) q taken in
-      let ready = so .ready live in
-      read-to (so .text ++ chunk .text) (
-        writes-append b (buffer-at out (s .at)) (buffer-at after (r .at)) (so .text) (chunk .text) (so .writes) (chunk .writes),
-        (λ h. all),
-        (λ h. record { at = at h; number = omega (arith, number, ready .number); room = omega (arith, ready .room) }),
-        (λ h. printed-over n (input-of (so .reads) ++ bs) t w (so .text ++ chunk .text) q (same ∙ h) all),
-      )
+    read-some : length (read .bytes) ≤ chunk-room → Takes-chunk l n (read .bytes) p (buffer-at out (s .at)) q (buffer-at after (r .at))
+        → Read-to n (k - 1) t w b q r after
+    read-some few chunk =
+        let bs = read .bytes in
+        let taken : Takes-all line-room n bs p (chunk .text) q = subst (λ (m : ℕ). Takes-all m n bs p (chunk .text) q) room (chunk .takes) in
+        let all = takes-append line-room n (input-of (so .reads)) bs (begin t w) p q (so .text) (chunk .text) (so .takes live) taken in
+        let number = takes-all-number line-room n bs p (chunk .text) q taken in
+        let ready = so .ready live in
+        read-to (so .text ++ chunk .text) (
+          writes-append b (buffer-at out (s .at)) (buffer-at after (r .at)) (so .text) (chunk .text) (so .writes) (chunk .writes),
+          (λ h. all),
+          (λ h. record { at = at h; number = omega (arith, number, ready .number); room = omega (arith, ready .room) }),
+          (λ h. printed-over n (input-of (so .reads) ++ bs) t w (so .text ++ chunk .text) q (same ∙ h) all),
+        )
 
-  -- the read brought nothing
-  same-input : (read .state ≡ goes-on → ⊥) → input-of (so .reads) ++ read .bytes ≡ input-of (so .reads)
-  same-input f = ap (λ (xs : List ℕ). input-of (so .reads) ++ xs) (read .none f) ∙ append-nil (input-of (so .reads))
+    -- the read brought nothing
+    same-input : (read .state ≡ goes-on → ⊥) → input-of (so .reads) ++ read .bytes ≡ input-of (so .reads)
+    same-input f = ap (λ (xs : List ℕ). input-of (so .reads) ++ xs) (read .none f) ∙ append-nil (input-of (so .reads))
 
-  read-over : (read .state ≡ goes-on → ⊥) → Ended p (buffer-at out (s .at)) q (buffer-at after (r .at)) → Read-to n (k - 1) t w b q r after
-  read-over f end =
-      read-to (so .text ++ ending p) (
-        writes-append b (buffer-at out (s .at)) (buffer-at after (r .at)) (so .text) (ending p) (so .writes) (end .writes),
-        (λ h. absurd (true≢false (sym h ∙ sym same ∙ end .over))),
-        (λ h. absurd (true≢false (sym h ∙ sym same ∙ end .over))),
-        (λ h. subst (λ (bs : List ℕ). Lines-print n (lines-of bs) 2 t w (so .text ++ ending p)) (sym (same-input f))
-            (printed n (input-of (so .reads)) t w (so .text) p (so .takes live))),
-      )
+    read-over : (read .state ≡ goes-on → ⊥) → Ended p (buffer-at out (s .at)) q (buffer-at after (r .at)) → Read-to n (k - 1) t w b q r after
+    read-over f end =
+        read-to (so .text ++ ending p) (
+          writes-append b (buffer-at out (s .at)) (buffer-at after (r .at)) (so .text) (ending p) (so .writes) (end .writes),
+          (λ h. absurd (true≢false (sym h ∙ sym same ∙ end .over))),
+          (λ h. absurd (true≢false (sym h ∙ sym same ∙ end .over))),
+          (λ h. subst (λ (bs : List ℕ). Lines-print n (lines-of bs) 2 t w (so .text ++ ending p)) (sym (same-input f))
+              (printed n (input-of (so .reads)) t w (so .text) p (so .takes live))),
+        )
 
-  read-broken : (read .state ≡ goes-on → ⊥) → p .live ≡ s .live → Broken p (buffer-at out (s .at)) q (buffer-at after (r .at)) → Read-to n (k - 1) t w b q r after
-  read-broken f on broken =
-      let ready = so .ready live in
-      let number = ap (λ (x : Spot). x .number) (broken .same) in
-      let lives : r .live ≡ true = sym same ∙ ap (λ (x : Spot). x .live) (broken .same) ∙ on ∙ live in
-      read-to (so .text) (
-        subst (λ (c : Buffer). Writes b (so .text) c) (sym (broken .none)) (so .writes),
-        (λ h. subst (λ (x : Spot). Takes-all line-room n (input-of (so .reads) ++ read .bytes) (begin t w) (so .text) x) (sym (broken .same))
-            (subst (λ (bs : List ℕ). Takes-all line-room n bs (begin t w) (so .text) p) (sym (same-input f)) (so .takes live))),
-        (λ h. record { at = at h; number = omega (arith, number, ready .number); room = omega (arith, ready .room) }),
-        (λ h. absurd (true≢false (sym lives ∙ h))),
-      )
+    read-broken : (read .state ≡ goes-on → ⊥) → p .live ≡ s .live → Broken p (buffer-at out (s .at)) q (buffer-at after (r .at)) → Read-to n (k - 1) t w b q r
+        after
+    read-broken f on broken =
+        let ready = so .ready live in
+        let number = ap (λ (x : Spot). x .number) (broken .same) in
+        let lives : r .live ≡ true = sym same ∙ ap (λ (x : Spot). x .live) (broken .same) ∙ on ∙ live in
+        read-to (so .text) (
+          subst (λ (c : Buffer). Writes b (so .text) c) (sym (broken .none)) (so .writes),
+          (λ h. subst (λ (x : Spot). Takes-all line-room n (input-of (so .reads) ++ read .bytes) (begin t w) (so .text) x) (sym (broken .same))
+              (subst (λ (bs : List ℕ). Takes-all line-room n bs (begin t w) (so .text) p) (sym (same-input f)) (so .takes live))),
+          (λ h. record { at = at h; number = omega (arith, number, ready .number); room = omega (arith, ready .room) }),
+          (λ h. absurd (true≢false (sym lives ∙ h))),
+        )
 
-  read-by : (state : ℕ) → read .state ≡ state → p .live ≡ s .live → length (read .bytes) ≤ chunk-room
-      → Takes-read l n (read .bytes) state p (buffer-at out (s .at)) q (buffer-at after (r .at)) → Read-to n (k - 1) t w b q r after
-  unfolding Takes-read
-  read-by zero e on few chunk = read-some few chunk
-  read-by (suc zero) e on few end = read-over (λ f. absurd (omega (arith, e, f))) end
-  read-by (suc (suc j)) e on few broken = read-broken (λ f. absurd (omega (arith, e, f))) on broken
+    read-by : (state : ℕ) → read .state ≡ state → p .live ≡ s .live → length (read .bytes) ≤ chunk-room
+        → Takes-read l n (read .bytes) state p (buffer-at out (s .at)) q (buffer-at after (r .at)) → Read-to n (k - 1) t w b q r after
+    unfolding Takes-read
+    read-by zero e on few chunk = read-some few chunk
+    read-by (suc zero) e on few end = read-over (λ f. absurd (omega (arith, e, f))) end
+    read-by (suc (suc j)) e on few broken = read-broken (λ f. absurd (omega (arith, e, f))) on broken
 
 pub read-more : (n l k : ℕ) (t : Tables) (w : List ℕ) (b : Buffer) (p q : Spot) (s r : Progress) (out after : List ℕ) → 0 < k → l ≡ line-room
     → s .live ≡ true → s .fault ≡ 0 → p .live ≡ s .live → q .live ≡ r .live → p .number ≡ s .number → q .number ≡ r .number
@@ -365,7 +369,8 @@ pub read-ended : (m n : ℕ) (bs : List ℕ) (state : ℕ) (p q : Spot) (b c : B
 unfolding Takes-read
 read-ended m n bs state p q b c e h = rw e h
 
-pub read-bytes : (m n : ℕ) (bs : List ℕ) (state : ℕ) (p q : Spot) (b c : Buffer) → state ≡ goes-on → Takes-chunk m n bs p b q c → Takes-read m n bs state p b q c
+pub read-bytes : (m n : ℕ) (bs : List ℕ) (state : ℕ) (p q : Spot) (b c : Buffer) → state ≡ goes-on → Takes-chunk m n bs p b q c → Takes-read m n bs state p b q
+    c
 unfolding Takes-read
 read-bytes m n bs state p q b c e h = rw e h
 

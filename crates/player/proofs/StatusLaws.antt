@@ -1,9 +1,11 @@
 -- The status of a run: 0 only where all is read to its end and played.
-use Rattle.lists.specs.Kit.{_≡_, refl, sym, subst, _∙_, true, false, true≢false, List, [], _∷_, ℕ, zero, suc, _≤_, _<_, arith, ℤ, pos, negsuc, take, ltb-true, leb-false, lt-ltb}
+use Rattle.lists.specs.Kit.{_≡_, refl, sym, subst, _∙_, true, false, true≢false, List, [], _∷_, ℕ, zero, suc, _≤_, _<_, arith, ℤ, pos, negsuc, take, ltb-true}
+use Rattle.lists.specs.Kit.{leb-false, lt-ltb}
 use lib.Signed.{ltZ, leZ, nonNeg}
 use Rattle.text.specs.Print.{Buffer}
 use Rattle.player.specs.{Reads.{goes-on, at-end, Found, Read, Going, Unbroken, To-end}, declared.input.Brought.{Brought}, Reading.{Reads-all}}
-use Rattle.player.specs.{Reading.{Reads-first, Concluded, Played-to-end, Lines-status, Run-status, is-keep, Copies-once, Copied}, declared.first.First.{First}}
+use Rattle.player.specs.{Reading.{Reads-first, Concluded, Played-to-end, Lines-status, Run-status, is-keep, Copies-once, Copied}}
+use Rattle.player.specs.{declared.first.First.{First}}
 use Rattle.player.specs.{declared.machine.Progress.{Progress}}
 use Rattle.player.proofs.ReadLaws.{none-found, take-none}
 

@@ -20,7 +20,8 @@ unfolding bad-line is-digit digits-on number-of ended last-number-of starts radi
 compute-lines = tt
 
 unfoldable compute-text : Unit {0}
-unfolding compute-calls compute-lines glue lines-of front rest cleared answer-line answer-of call-text line-text lines-text text-from run-text m1 bad-third no-first
+unfolding compute-calls compute-lines glue lines-of front rest cleared answer-line answer-of call-text line-text lines-text text-from run-text m1 bad-third
+    no-first
 compute-text = tt
 
 -- the text that a run computes

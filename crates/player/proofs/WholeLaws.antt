@@ -119,7 +119,8 @@ print-line n b bs p s q first more text true f e c taken after whole later =
     let empty : No-feed (s .held) = subst No-feed (sym (taken .held)) tt in
     let others : Lines-print n (lines-of bs) (p .number + 1) (s .tables) (s .answer) (more ++ ending q)
     = subst (λ (x : ℕ). Lines-print n (lines-of bs) x (s .tables) (s .answer) (more ++ ending q)) (taken .number)
-    (subst (λ (x : List ℕ). Lines-print n (lines-of (x ++ bs)) (s .number) (s .tables) (s .answer) (more ++ ending q)) (taken .held) (later (taken .live) empty)) in
+    (subst (λ (x : List ℕ). Lines-print n (lines-of (x ++ bs)) (s .number) (s .tables) (s .answer) (more ++ ending q)) (taken .held)
+    (later (taken .live) empty)) in
     subst (λ (x : List (List ℕ)). Lines-print n x (p .number) (p .tables) (p .answer) (text ++ ending q)) (sym (lines-ended (p .held) b bs f e))
     (line-good n (p .held ++ (line-feed ∷ [])) (p .number) (p .tables) (p .answer) (text ++ ending q)
     (λ v x m. Lines-print n (lines-of bs) (p .number + 1) v x m) c

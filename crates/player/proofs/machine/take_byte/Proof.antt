@@ -71,19 +71,8 @@ returns-5 c =
           (sym (played .play-line .ensures .0) ∙ not-false (played .play-line .result .ok) (tested .if4 .left)) (played .play-line .ensures .1) refl refl refl,
     )
 
-slice-write-line : tie.Need-slice-write-line
-slice-write-line c = search needs
-
-slice-reshare-prefix-play-line : tie.Need-slice-reshare-prefix-play-line
-slice-reshare-prefix-play-line c = simp length-set (omega arith)
-
-slice-aggregate-play-line : tie.Need-slice-aggregate-play-line
-slice-aggregate-play-line c = sym (length-take-le _ _ (simp length-set (omega arith)))
-
 pub take-byte-spec : {M : Type 1} → statement M
-take-byte-spec =
-    tie.close (
-    tie.spec returns (λ c κs. search needs) (λ c. search needs) returns-2 slice-write-line (λ c. search needs) (λ c. search needs) returns-3
-    slice-reshare-prefix-play-line slice-aggregate-play-line (λ c κs. search needs) (λ c κs. search needs) (λ c. search needs) (λ c. search needs) (λ c.
-    search needs) (λ c. search needs) (λ c. search needs) (λ c. search needs) returns-4 (λ c. search needs) (λ c. search needs) (λ c. search needs) (λ c.
-    search needs) (λ c. search needs) (λ c. search needs) (λ c. search needs) returns-5)
+take-byte-spec = tie.close (tie.spec returns (λ c κs. search needs) (λ c. search needs) returns-2 (λ c. search needs) (λ c. search needs) (λ c. search needs)
+    returns-3 (λ c. simp length-set (omega arith)) (λ c. sym (length-take-le _ _ (simp length-set (omega arith)))) (λ c κs. search needs)
+    (λ c κs. search needs) (λ c. search needs) (λ c. search needs) (λ c. search needs) (λ c. search needs) (λ c. search needs) (λ c. search needs) returns-4
+    (λ c. search needs) (λ c. search needs) (λ c. search needs) (λ c. search needs) (λ c. search needs) (λ c. search needs) (λ c. search needs) returns-5)

@@ -11,6 +11,4 @@ returns c =
     (refl, λ e. fault-first (start .args .s .fault) (start .args .state) _ (c .first-fault .ensures) e .1)
 
 pub broken-spec : {M : Type 1} → statement M
-broken-spec =
-    tie.close (
-    tie.spec (λ c κs. search needs) returns)
+broken-spec = tie.close (tie.spec (λ c κs. search needs) returns)

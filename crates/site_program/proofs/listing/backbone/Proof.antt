@@ -15,6 +15,5 @@ returns c =
     by-listed (λ (rs : List ℕ). radios-line (bytes-of "backbone") rs) (λ (k : ℕ). k) _ _ _ _ _ _ _ _ _ refl (asked .backbone .ensures) (put .put-list .ensures)
 
 pub backbone-spec : {M : Type 1} → statement M
-backbone-spec =
-    tie.close (
-    tie.spec (λ c. search needs) (λ c κs. search needs) (λ c. search needs) (λ c. search needs) (λ c κs. search needs) (λ c. search needs) returns)
+backbone-spec = tie.close (tie.spec (λ c. search needs) (λ c κs. search needs) (λ c. search needs) (λ c. search needs) (λ c κs. search needs)
+    (λ c. search needs) returns)

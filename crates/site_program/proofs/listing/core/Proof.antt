@@ -15,6 +15,5 @@ returns c =
     by-listed (λ (rs : List ℕ). radios-line (bytes-of "core") rs) (λ (k : ℕ). k) _ _ _ _ _ _ _ _ _ refl (asked .core .ensures) (put .put-list .ensures)
 
 pub core-spec : {M : Type 1} → statement M
-core-spec =
-    tie.close (
-    tie.spec (λ c. search needs) (λ c κs. search needs) (λ c. search needs) (λ c. search needs) (λ c κs. search needs) (λ c. search needs) returns)
+core-spec = tie.close (tie.spec (λ c. search needs) (λ c κs. search needs) (λ c. search needs) (λ c. search needs) (λ c κs. search needs) (λ c. search needs)
+    returns)

@@ -14,6 +14,5 @@ returns c =
     (puts-append (first .put-field .ensures) (puts-append (second .put-field2 .ensures) (byte .put-byte .ensures)))
 
 pub put-link-spec : {M : Type 1} → statement M
-put-link-spec =
-    tie.close (
-    tie.spec (λ c. search needs) (λ c κs. search needs) (λ c κs. search needs) (λ c κs. search needs) (λ c κs. search needs) (λ c. search needs) returns)
+put-link-spec = tie.close (tie.spec (λ c. search needs) (λ c κs. search needs) (λ c κs. search needs) (λ c κs. search needs) (λ c κs. search needs)
+    (λ c. search needs) returns)

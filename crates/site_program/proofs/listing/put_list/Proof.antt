@@ -5,12 +5,6 @@ use Rattle.site_program.specs.Texts.{radios-line}
 use Rattle.site_program.proofs.{TextLaws.{by-refused, by-put}, listing.put_list.Statement.{statement}}
 use Rattle.site_program.proofs.listing.put_list.Tie as tie
 
-returns : tie.Need-returns
-returns c = by-refused _ _ _ _ (omega arith) refl refl
-
-slice-aggregate-put-radios : tie.Need-slice-aggregate-put-radios
-slice-aggregate-put-radios c = sym (length-take-le _ _ (omega (arith, c .before .before .before .before .before .before .least .ensures)))
-
 returns-2 : tie.Need-returns-2
 unfolding radios-line printed-line
 returns-2 c =
@@ -24,7 +18,6 @@ returns-2 c =
     (puts-as (ap (λ (k : List ℕ). radios-line (call .word .now) k) front) (puts-append (told .put-text .ensures) (put .put-radios .ensures)))
 
 pub put-list-spec : {M : Type 1} → statement M
-put-list-spec =
-    tie.close (
-    tie.spec returns (λ c. search needs) (λ c κs. search needs) (λ c κs. search needs) slice-aggregate-put-radios (λ c κs. search needs) (λ c. search needs)
-    returns-2)
+put-list-spec = tie.close (tie.spec (λ c. by-refused _ _ _ _ (omega arith) refl refl) (λ c. search needs) (λ c κs. search needs) (λ c κs. search needs)
+    (λ c. sym (length-take-le _ _ (omega (arith, c .before .before .before .before .before .before .least .ensures)))) (λ c κs. search needs)
+    (λ c. search needs) returns-2)

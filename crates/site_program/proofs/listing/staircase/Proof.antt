@@ -15,6 +15,4 @@ returns c =
     by-listed (λ (xs : List ℕ). pair-lines xs) (λ (k : ℕ). 2 * k) _ _ _ _ _ _ _ _ _ (length-link-entries _) (asked .staircase .ensures) (put .put-kept .ensures)
 
 pub staircase-spec : {M : Type 1} → statement M
-staircase-spec =
-    tie.close (
-    tie.spec (λ c. search needs) (λ c κs. search needs) (λ c. search needs) (λ c κs. search needs) (λ c. search needs) returns)
+staircase-spec = tie.close (tie.spec (λ c. search needs) (λ c κs. search needs) (λ c. search needs) (λ c κs. search needs) (λ c. search needs) returns)

@@ -17,7 +17,5 @@ returns c =
     (puts-append (at-put-text3 .put-text3 .ensures) (at-put-refused .put-refused .ensures))))
 
 pub put-image-spec : {M : Type 1} → statement M
-put-image-spec =
-    tie.close (
-    tie.spec (λ c. search needs) (λ c κs. search needs) (λ c κs. search needs) (λ c κs. search needs) (λ c. search needs) (λ c κs. search needs) (λ c κs.
-    search needs) (λ c. search needs) returns)
+put-image-spec = tie.close (tie.spec (λ c. search needs) (λ c κs. search needs) (λ c κs. search needs) (λ c κs. search needs) (λ c. search needs)
+    (λ c κs. search needs) (λ c κs. search needs) (λ c. search needs) returns)

@@ -15,7 +15,5 @@ returns c =
     (puts-append (first .put-field .ensures) (puts-append (second .put-field2 .ensures) (puts-append (third .put-field3 .ensures) (byte .put-byte .ensures))))
 
 pub put-node-spec : {M : Type 1} → statement M
-put-node-spec =
-    tie.close (
-    tie.spec (λ c. search needs) (λ c κs. search needs) (λ c κs. search needs) (λ c κs. search needs) (λ c κs. search needs) (λ c κs. search needs)
-    (λ c. search needs) returns)
+put-node-spec = tie.close (tie.spec (λ c. search needs) (λ c κs. search needs) (λ c κs. search needs) (λ c κs. search needs) (λ c κs. search needs)
+    (λ c κs. search needs) (λ c. search needs) returns)
