@@ -199,7 +199,8 @@ module _ (n l k : ℕ) (t : Tables) (w : List ℕ) (b : Buffer) (p q : Spot) (s 
     -- what the last read says of all
     abbrev So-far : (text : List ℕ) → Type 0
     So-far text = Writes b text (buffer-at after (r .at)) × (r .live ≡ true → Takes-all line-room n (input-of (so .reads) ++ read .bytes) (begin t w) text q)
-        × (r .live ≡ true → Ready (chunk-room * (k - 1)) r after) × (r .live ≡ false → Lines-print n (lines-of (input-of (so .reads) ++ read .bytes)) 2 t w text)
+        × (r .live ≡ true → Ready (chunk-room * (k - 1)) r after)
+        × (r .live ≡ false → Lines-print n (lines-of (input-of (so .reads) ++ read .bytes)) 2 t w text)
 
     read-to : (text : List ℕ) → So-far text → Read-to n (k - 1) t w b q r after
     unfolding input-of Going Unbroken To-end

@@ -284,7 +284,8 @@ fn read_rest(
     numbers: &mut [u8],
     order: &mut [u16],
 ) -> Turned
-    ensures { λ r. ⌜ Reads-rest (length (now (line .entry))) n front (spot (lent (links .entry) (numbers .entry) (order .entry)) (now (line .entry)) (front .course))
+    ensures { λ r. ⌜ Reads-rest (length (now (line .entry))) n front
+        (spot (lent (links .entry) (numbers .entry) (order .entry)) (now (line .entry)) (front .course))
         r (spot (lent (links .exit) (numbers .exit) (order .exit)) (now (line .exit)) (r .course)) ⌝ }
 {
     if front.state != input::GOES_ON {

@@ -82,7 +82,8 @@ pub(crate) fn read(
     numbers: &mut [u8],
     order: &mut [u16],
 ) -> u32
-    ensures { λ r. ⌜ Image-read n (now (image .entry)) (lent (links .entry) (numbers .entry) (order .entry)) r (lent (links .exit) (numbers .exit) (order .exit)) ⌝ }
+    ensures { λ r. ⌜ Image-read n (now (image .entry)) (lent (links .entry) (numbers .entry) (order .entry)) r
+        (lent (links .exit) (numbers .exit) (order .exit)) ⌝ }
 {
     if sizes::IMAGE_BYTES < image.len() {
         return refusals::say(
