@@ -170,7 +170,8 @@ module _ (n : ℕ) (qs : List Link) (p : Past) (t : Tables) (k : Past-holds n qs
     unfolding past-after booked past-by marked-by pairs-of pairs-after first-pairs
     after-set cs =
         ap₂ (past-after cs) (ap (λ (o : Outcome). pairs-of o qs) set-is)
-        (ap (λ (o : Outcome). past-by o p) set-is ∙ ap (λ (h : History). past h (record { name = x; history = h } ∷ replacing x (image-under m x bs) (p .marks)))
+        (ap (λ (o : Outcome). past-by o p) set-is
+        ∙ ap (λ (h : History). past h (record { name = x; history = h } ∷ replacing x (image-under m x bs) (p .marks)))
         (same-calls (p .history)))
 
     -- the image that was set

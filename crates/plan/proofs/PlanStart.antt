@@ -103,7 +103,8 @@ module _ {u : Bool} {a b : ℕ} {ts ns os ps cs : List ℕ} (r : Ready u (length
             and-yes false = refl
 
     linked-is : (v w : ℕ) → linked after v w ≡ cond (ends a b v w) u (linked g v w)
-    linked-is = linked-relinked u a b g (is-valid r .links-proper) (is-valid r .links-ascending) (r .allowed .a-radio) (r .allowed .b-radio) (r .allowed .differ)
+    linked-is =
+        linked-relinked u a b g (is-valid r .links-proper) (is-valid r .links-ascending) (r .allowed .a-radio) (r .allowed .b-radio) (r .allowed .differ)
 
     -- an end v of the link, whose other end is o
     module _ (v o : ℕ) (there : ends a b v o ≡ true) (only : (x : ℕ) → (x ≡ o → ⊥) → ends a b v x ≡ false) (state : linked g v o ≡ not u)
