@@ -16,13 +16,11 @@ static void c_lose(unsigned v, unsigned level, unsigned most, const uint8_t *num
     if (numbers[v] == level && --counters[v] == most) put_in(fits, places[v]);
 }
 
-#define MASKED 8 /* from this level on a set of what is left masks the rows of a peel */
-
-/* Takes v at place p out of what is left: of the neighbours that it has after the call the ones that are left are released. */
+/* Takes v at place p: of the neighbours that it has after the call the ones that are left are released. */
 static void c_take_left(int up, uint32_t a, uint32_t b, unsigned p, unsigned v, const uint8_t *links, unsigned level, unsigned most,
-                        const uint8_t *numbers, const uint16_t *places, uint64_t *left, uint8_t *counters, uint64_t *fits) {
+                        const uint8_t *numbers, const uint16_t *places, const uint64_t *left, uint8_t *counters, uint64_t *fits) {
     uint8_t row[ROW];
-    take_out(fits, p), take_out(left, v);
+    take_out(fits, p);
     const uint8_t *own = links + ROW * v;
     if (v == a || v == b) {
         own = memcpy(row, own, ROW);
@@ -55,10 +53,8 @@ static void c_peel(int up, const struct lent *t, uint32_t a, uint32_t b, const u
     for (unsigned p; (p = first_bit(fits)) < RADIOS;) {
         unsigned v = order[p];
         stretch[taken++] = v;
-        if (level < MASKED)
-            c_take(up, a, b, p, v, links, level, most, numbers, places, counters, fits);
-        else
-            c_take_left(up, a, b, p, v, links, level, most, numbers, places, left, counters, fits);
+        c_take_left(up, a, b, p, v, links, level, most, numbers, places, left, counters, fits);
+        take_out(left, v);
     }
     if (!up && taken) c_stretch(n, numbers, level, &start, &size);
     for (unsigned p = start, j = taken; p < start + size; p++)
