@@ -1,8 +1,9 @@
 """Tables and a plot of a run of bench/run.
 
-  python3 bench/report.py FILE           print the tables
-  python3 bench/report.py FILE --write   and put them into docs/BENCHMARKS.md, a summary into README.md, the plot into
-                                         docs/benchmarks.svg
+  python3 bench/report.py [FILE]           print the tables of a run, by default that of bench/results.txt, single ratios too
+  python3 bench/report.py FILE --write     and keep the run as bench/results.txt, put the tables without single ratios into docs/BENCHMARKS.md,
+                                           a summary into README.md, the plot into docs/benchmarks.svg
+  python3 bench/report.py --check          say where these are not those of bench/results.txt
 """
 
 import statistics
@@ -14,6 +15,7 @@ from lines import Run
 from plot import plot
 
 TOP = Path(__file__).resolve().parent.parent
+RESULTS, PLOT = TOP / "bench/results.txt", TOP / "docs/benchmarks.svg"
 START, END = "<!-- measured: bench/run --write -->\n", "<!-- end -->\n"
 NEAR = ["clear", "check", "number", "neighbours", "linked", "first", "later_of", "down+up", "ask+link", "ask+commit", "batch", "hear", "new"]
 MOST_ASK, MOST_COMMIT = 1.0, 1.1  # of the single call
@@ -119,14 +121,10 @@ def stacks(run):
         yield [call, f"{count:,}", met(count <= MOST_STACK)]
 
 
-def ratio_parts(run):
+def single_ratios(run):
     sites = [words(site) for site in run.sites]
-    yield "### The ratios of each call\n"
-    yield table(["call", "to line-by-line C, mean", "worst", "at", "goal, at most", "", "to careful C, mean", "worst", "at"], worst(run))
-    yield "### Ratios to careful C\n"
-    yield table(["call", "n", *sites], ratios(run, "careful"))
-    yield "### Ratios to line-by-line C\n"
-    yield table(["call", "n", *sites], ratios(run, "plain"))
+    return "\n".join(["### Ratios to careful C\n", table(["call", "n", *sites], ratios(run, "careful")),
+                      "### Ratios to line-by-line C\n", table(["call", "n", *sites], ratios(run, "plain"))])
 
 
 def change_parts(run):
@@ -146,7 +144,8 @@ def change_parts(run):
 def report(run):
     sites = [words(site) for site in run.sites]
     stolen = f"; {run.stolen} % of its time went to other machines during the run" if run.stolen else ""
-    parts = [f"Machine: {run.machine}{stolen}.\n", *ratio_parts(run)]
+    parts = [f"Machine: {run.machine}{stolen}.\n", "### The ratios of each call\n",
+             table(["call", "to line-by-line C, mean", "worst", "at", "goal, at most", "", "to careful C, mean", "worst", "at"], worst(run))]
     parts += ["### Time of a call of the engine, in microseconds\n",
               table(["call", f"{run.sizes[0]}, sparse", *(f"{run.sizes[-1]}, {site}" for site in sites)], times(run)),
               "### Growth of a call of the engine, sparse sites of 16 and of 512 radios\n",
@@ -185,23 +184,26 @@ def summary(run):
     return textwrap.fill(" ".join(said), 132) + "\n"
 
 
-def put(page, text):
-    before, rest = page.read_text().split(START)
-    page.write_text(before + START + "\n" + text + "\n" + END + rest.split(END)[1])
+def pages(run):
+    """Each file that a run is put into, with the text that it has then."""
+    for page, text in (TOP / "docs/BENCHMARKS.md", report(run)), (TOP / "README.md", summary(run)):
+        before, rest = page.read_text().split(START)
+        yield page, before + START + "\n" + text + "\n" + END + rest.split(END, 1)[1]
+    yield PLOT, plot(run)
 
 
-def write(run):
-    put(TOP / "docs/BENCHMARKS.md", report(run))
-    put(TOP / "README.md", summary(run))
-    (TOP / "docs/benchmarks.svg").write_text(plot(run, goal))
+def main(words):
+    files = [word for word in words if not word.startswith("--")]
+    run = Run(files[0] if files else RESULTS)
+    if "--check" in words:
+        wrong = [page for page, text in pages(run) if page.read_text() != text]
+        print(*(f"{page.relative_to(TOP)}: not the tables of bench/results.txt" for page in wrong), sep="\n", end="\n" if wrong else "")
+        sys.exit(1 if wrong else 0)
+    print(report(run), single_ratios(run), summary(run), sep="\n")
+    if "--write" in words:
+        RESULTS.write_text(Path(files[0]).read_text())
+        for page, text in pages(run):
+            page.write_text(text)
 
 
-def main():
-    run = Run(sys.argv[1])
-    print(report(run))
-    print(summary(run))
-    if "--write" in sys.argv[2:]:
-        write(run)
-
-
-main()
+main(sys.argv[1:])

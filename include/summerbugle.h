@@ -24,6 +24,10 @@
  * A table of length 0 is never read or written, so its pointer may be NULL (tested, not proved): an empty list of sb_link_batch,
  * sb_commit_up and sb_commit_down is taken, and every other table of length 0 is refused.
  *
+ * "At worst" is the most instructions that a call is known to take, at 512 radios: counted on x86-64, in the archive as its compiler makes
+ * it (clang 22.1 at -O3). The inputs were looked for and are not proved to be the worst, so a watchdog needs room beside them.
+ * docs/BENCHMARKS.md has them, and how each call grows.
+ *
  * summerbugle_site.h has the same calls with fewer arguments.
  */
 #ifndef SUMMERBUGLE_H
@@ -177,11 +181,13 @@ typedef struct {
     size_t next;
 } sb_block;
 
-/* The version of the archive: SB_VERSION of the header that was made with it. */
+/* The version of the archive: SB_VERSION of the header that was made with it. At worst 7 instructions. */
 uint32_t sb_version(void);
 
 /**
  * Clear a site: zero links, zero numbers, the order 0 to n - 1.
+ *
+ * At worst 2,190 instructions.
  *
  * \return 0; or SB_SIZE, SB_LENGTH, and then every table keeps its content.
  */
@@ -190,6 +196,8 @@ uint32_t sb_clear(uint32_t n, uint8_t *links, size_t links_len,
 
 /**
  * Check whether the tables are sound. They are only read.
+ *
+ * At worst 368,000 instructions.
  *
  * \return number 0 and value 1 (sound) or 0 (not sound); or number SB_SIZE, SB_LENGTH and value 0.
  */
@@ -202,6 +210,8 @@ sb_value sb_check(uint32_t n, const uint8_t *links, size_t links_len,
  * Changed radios are the ones whose core number rises, each by one. In the order only the stretch of the lower end's level
  * is laid out anew.
  *
+ * At worst 667,000 instructions.
+ *
  * \return number 0, step +1 (or 0 when no number changed) and count: answer[0] to answer[count - 1] are the changed radios,
  *         ascending; later entries keep theirs. Or a number from SB_SIZE to SB_NO_ROOM, step and count 0, and then every table
  *         keeps its content.
@@ -212,6 +222,8 @@ sb_reply sb_link_up(uint32_t n, uint32_t a, uint32_t b, uint8_t *links, size_t l
 
 /**
  * Take the link between a and b down: as sb_link_up, with numbers that fall by one.
+ *
+ * At worst 582,000 instructions.
  *
  * \return number 0, step -1 (or 0 when no number changed) and count, with the changed radios in the answer table. Or a number from
  *         SB_SIZE to SB_LINK_STATE, step and count 0, and then every table keeps its content.
@@ -224,6 +236,8 @@ sb_reply sb_link_down(uint32_t n, uint32_t a, uint32_t b, uint8_t *links, size_t
  * Take up the links of a list, two entries each, one by one, and stop at the first that is refused. The links before it remain, and are
  * counted beside its number: the only refusal of this interface beside which a change and a count stand. The tables are checked once, so a
  * batch is quicker than its links one by one.
+ *
+ * At worst 148,000,000 instructions; a link of a batch 525,000 instructions.
  *
  * \return number 0 and value list_len / 2, the count of links done; or a number from SB_RADIO to SB_NO_ROOM, that of the link list[2 *
  *         value], list[2 * value + 1], and value the count of links before it, which are up; or SB_SIZE, SB_LENGTH (list_len may not be
@@ -243,6 +257,8 @@ sb_value sb_link_batch(uint32_t n, uint8_t *links, size_t links_len,
  * Where all links of a full site of 512 radios go down and as many others come up the call makes 20,480 links' work, which may take up to a
  * second; a call that changes no link takes about as long as sb_check.
  *
+ * At worst 231,000,000 instructions.
+ *
  * \return number 0 and value the count of one-sided pairs, which is that of bits set in one_sided; or SB_SIZE, SB_LENGTH (heard_len and
  *         one_sided_len are 64 * n, not more), SB_UNSOUND, SB_HEARD, SB_NO_ROOM, value 0, and then every table keeps its content.
  */
@@ -255,6 +271,8 @@ sb_value sb_hear(uint32_t n, uint8_t *links, size_t links_len,
  *
  * The step and the first count entries of the answer table are a proposal for sb_commit_up. Nothing is kept between the two calls.
  *
+ * At worst 667,000 instructions.
+ *
  * \return what sb_link_up would: number 0, step +1 (or 0 when no number would change) and count: answer[0] to answer[count - 1] are
  *         the radios that would change, ascending; later entries keep theirs. Or a number from SB_SIZE to SB_NO_ROOM, step and count 0,
  *         and then the answer table keeps its content.
@@ -266,6 +284,8 @@ sb_reply sb_ask_up(uint32_t n, uint32_t a, uint32_t b, const uint8_t *links, siz
 /**
  * Ask what sb_link_down would change now: as sb_ask_up, with step -1, or 0 when no number would change. Refused by SB_SIZE to
  * SB_LINK_STATE.
+ *
+ * At worst 573,000 instructions.
  */
 sb_reply sb_ask_down(uint32_t n, uint32_t a, uint32_t b, const uint8_t *links, size_t links_len,
                      const uint8_t *numbers, size_t numbers_len, const uint16_t *order, size_t order_len,
@@ -277,6 +297,8 @@ sb_reply sb_ask_down(uint32_t n, uint32_t a, uint32_t b, const uint8_t *links, s
  * The list is lent at its own length, changed_len entries, and only read; it may be empty, and then changed is not read. No answer
  * table is lent.
  *
+ * At worst 667,000 instructions.
+ *
  * \return number 0, step and count as sb_link_up. Or a number from SB_SIZE to SB_NO_ROOM, then SB_PROPOSAL when the step or the list,
  *         its length or any entry, is another, also one at n or above; step and count are 0, and every table keeps its content.
  */
@@ -287,6 +309,8 @@ sb_reply sb_commit_up(uint32_t n, uint32_t a, uint32_t b, int8_t step, uint8_t *
 /**
  * Take the link between radios a and b down: as sb_commit_up, with what sb_ask_down would give now. Refused by SB_SIZE to SB_LINK_STATE
  * and SB_PROPOSAL.
+ *
+ * At worst 585,000 instructions.
  */
 sb_reply sb_commit_down(uint32_t n, uint32_t a, uint32_t b, int8_t step, uint8_t *links, size_t links_len,
                         uint8_t *numbers, size_t numbers_len, uint16_t *order, size_t order_len,
@@ -294,6 +318,8 @@ sb_reply sb_commit_down(uint32_t n, uint32_t a, uint32_t b, int8_t step, uint8_t
 
 /**
  * The number of radio v. The tables are only read, here and in the next four calls.
+ *
+ * At worst 368,000 instructions.
  *
  * \return number 0 and the radio's number; or a number from SB_SIZE to SB_RADIO and value 0.
  */
@@ -303,6 +329,8 @@ sb_value sb_number(uint32_t n, uint32_t v, const uint8_t *links, size_t links_le
 /**
  * How many neighbours radio v has.
  *
+ * At worst 368,000 instructions.
+ *
  * \return number 0 and the count, 0 to 40; or a number from SB_SIZE to SB_RADIO and value 0.
  */
 sb_value sb_neighbours(uint32_t n, uint32_t v, const uint8_t *links, size_t links_len,
@@ -310,6 +338,8 @@ sb_value sb_neighbours(uint32_t n, uint32_t v, const uint8_t *links, size_t link
 
 /**
  * Whether the radios a and b are linked.
+ *
+ * At worst 368,000 instructions.
  *
  * \return number 0 and 1 (linked) or 0 (not; a radio with itself); or a number from SB_SIZE to SB_RADIO and value 0.
  */
@@ -319,6 +349,8 @@ sb_value sb_linked(uint32_t n, uint32_t a, uint32_t b, const uint8_t *links, siz
 /**
  * Which of the radios a and b stands first in the order.
  *
+ * At worst 370,000 instructions.
+ *
  * \return number 0 and that radio (the same radio twice: it); or a number from SB_SIZE to SB_RADIO and value 0.
  */
 sb_value sb_first(uint32_t n, uint32_t a, uint32_t b, const uint8_t *links, size_t links_len,
@@ -326,6 +358,8 @@ sb_value sb_first(uint32_t n, uint32_t a, uint32_t b, const uint8_t *links, size
 
 /**
  * The neighbours of radio v that stand after it in the order: how many, and the first of them, through which v is woken.
+ *
+ * At worst 374,000 instructions.
  *
  * \return number 0, the count, at most the radio's number, and the first, SB_NOBODY when the count is 0; or a number from SB_SIZE to
  *         SB_RADIO, and zeros.
@@ -339,6 +373,8 @@ sb_later sb_later_of(uint32_t n, uint32_t v, const uint8_t *links, size_t links_
  * does not count. The tables are only read. One call looks at up to n * (n - 1) / 2 pairs: at 512 radios it takes a fraction of a second
  * where nearly every pair must be looked at, and far less where one of the first does.
  *
+ * At worst 1,480,000,000 instructions.
+ *
  * \return number 0 and the pair, low below high; or a number from SB_SIZE to SB_RADIO, or SB_NO_LIFT exactly if there is no such pair,
  *         and zeros.
  */
@@ -348,6 +384,8 @@ sb_pair sb_lift(uint32_t n, uint32_t v, const uint8_t *links, size_t links_len,
 /**
  * The connected core of radio v at level k: all radios reachable from v over radios with number k or more. At level 0 it is v's
  * connected part. Links, numbers and order are only read.
+ *
+ * At worst 391,000 instructions.
  *
  * \return number 0 and the count: answer[0] to answer[value - 1] are the radios, ascending; later entries keep theirs. Or a
  *         number (SB_SIZE to SB_RADIO, SB_LEVEL) and value 0, and then the answer table keeps its content.
@@ -360,6 +398,8 @@ sb_value sb_core(uint32_t n, uint32_t v, uint32_t k, const uint8_t *links, size_
  * The backbone: the radios whose number is the greatest in their own connected part and is not 0. Each part has its own; a radio
  * without links is in none. Links, numbers and order are only read.
  *
+ * At worst 410,000 instructions.
+ *
  * \return number 0 and the count: answer[0] to answer[value - 1] are the radios, ascending; later entries keep theirs. Or number
  *         SB_SIZE, SB_LENGTH, SB_UNSOUND and value 0, and then the answer table keeps its content.
  */
@@ -371,6 +411,8 @@ sb_value sb_backbone(uint32_t n, const uint8_t *links, size_t links_len,
  * The shell tree: one node for each different connected core from level 1 up, at the largest level where it occurs, and the root,
  * SB_ROOT at level 0. A node's name is its lowest radio of that number. The list must have n + 1 places. Links, numbers and order
  * are only read.
+ *
+ * At worst 1,010,000 instructions.
  *
  * \return number 0 and the count of nodes, root included: nodes[0] to nodes[value - 1] are the nodes, by level, then name; answer[v]
  *         is the name of radio v's node; later places and entries keep theirs. Or number SB_SIZE, SB_LENGTH, SB_UNSOUND and value
@@ -385,6 +427,8 @@ sb_value sb_tree(uint32_t n, const uint8_t *links, size_t links_len,
  * in 3 columns right-aligned, a colon, its core number in 2 columns right-aligned, two spaces. The last line is filled with spaces,
  * and each line ends in a line feed: (n + 7) / 8 lines of SB_PAGE_LINE bytes. No zero byte is put after them. The tables are only read.
  *
+ * At worst 403,000 instructions.
+ *
  * \return number 0 and the sheet's length in bytes; bytes past it keep their content. Or a number (SB_SIZE, SB_LENGTH, SB_UNSOUND,
  *         SB_PAGE) and value 0, and then the page keeps its content.
  */
@@ -394,6 +438,8 @@ sb_value sb_sheet(uint32_t n, const uint8_t *links, size_t links_len,
 
 /**
  * The length in bytes of the script that rebuilds the site, without writing it. The tables are only read.
+ *
+ * At worst 589,000 instructions.
  *
  * \return number 0 and the length, at most SB_SCRIPT_BYTES; or a number (SB_SIZE, SB_LENGTH, SB_UNSOUND) and value 0.
  */
@@ -405,6 +451,8 @@ sb_value sb_script_length(uint32_t n, const uint8_t *links, size_t links_len,
  * one line `up A B` for each link, lower radio first, ascending by lower and then higher radio. Played back, no line is refused, and links
  * and numbers are those of the tables; the order may differ, since the script is another history. No zero byte is put after the text.
  * The tables are only read.
+ *
+ * At worst 1,250,000 instructions.
  *
  * \return number 0 and the script's length in bytes, which sb_script_length tells beforehand; bytes past it keep their content. Or a
  *         number (SB_SIZE, SB_LENGTH, SB_UNSOUND, SB_TEXT) and value 0, and then the text buffer keeps its content.
@@ -419,6 +467,8 @@ sb_value sb_script_write(uint32_t n, const uint8_t *links, size_t links_len,
  * do not yet join its ends. There are fewer than n; no spanning forest weighs more, and between two radios the least weight along
  * the kept links is the greatest that any way has. The table must have 2 * n entries. Links, numbers and order are only read.
  *
+ * At worst 733,000 instructions.
+ *
  * \return number 0 and the count of kept links, in the order in which they are taken: link i is table[2 * i], the lower radio, and
  *         table[2 * i + 1]; later entries keep theirs. Or number SB_SIZE, SB_LENGTH, SB_UNSOUND and value 0, and then the table keeps
  *         its content.
@@ -430,6 +480,8 @@ sb_value sb_staircase(uint32_t n, const uint8_t *links, size_t links_len,
 /**
  * Write the site's image in front of the buffer. The tables are only read.
  *
+ * At worst 545,000 instructions.
+ *
  * \return number 0 and the image's length in bytes, a multiple of SB_BLOCK_BYTES; bytes past it keep their content. Or a number
  *         (SB_SIZE, SB_LENGTH, SB_UNSOUND, SB_IMAGE_SIZE) and value 0, and then the buffer keeps its content.
  */
@@ -439,6 +491,8 @@ sb_value sb_image_write(uint32_t n, const uint8_t *links, size_t links_len,
 
 /**
  * Read an image of a site of n radios into the tables; the numbers are worked out. What the tables held does not matter.
+ *
+ * At worst 625,000 instructions.
  *
  * \return 0; or SB_SIZE, SB_LENGTH, SB_IMAGE_SIZE, SB_IMAGE_CHECK, then SB_OTHER_SIZE for the image of a site of another size,
  *         SB_IMAGE for the image of none, and then every table keeps its content.
@@ -455,6 +509,8 @@ uint32_t sb_image_read(uint32_t n, uint8_t *links, size_t links_len,
  * used places first, and every call on marks checks each place. A name is SB_NAME_BYTES of A to Z and 0 to 9, at least one, then spaces;
  * it may not lie in the store.
  *
+ * At worst 3,780,000 instructions.
+ *
  * \return 0; every other mark is as it was, byte for byte. Or SB_SIZE, SB_LENGTH (the store's length too), SB_UNSOUND, SB_MARK (the
  *         name's length too), SB_MARKS_FULL, and then the store keeps its content.
  */
@@ -464,6 +520,8 @@ uint32_t sb_mark_set(uint32_t n, const uint8_t *links, size_t links_len,
 
 /**
  * Remove a mark: its place serves another. Links, numbers and order are only read.
+ *
+ * At worst 3,610,000 instructions.
  *
  * \return 0; every other mark is as it was, byte for byte. Or SB_SIZE, SB_LENGTH, SB_UNSOUND, SB_MARK, SB_NO_MARK, and then the store
  *         keeps its content.
@@ -476,6 +534,8 @@ uint32_t sb_mark_remove(uint32_t n, const uint8_t *links, size_t links_len,
  * Come back to a mark: links, numbers and order are as they were when it was set. The store is only read. The tables must be sound; to
  * come back from tables that are not, read the image that stands SB_NAME_BYTES after the beginning of the mark's place.
  *
+ * At worst 4,170,000 instructions.
+ *
  * \return 0; or SB_SIZE, SB_LENGTH, SB_UNSOUND, SB_MARK, SB_NO_MARK, and then every table keeps its content.
  */
 uint32_t sb_mark_return(uint32_t n, uint8_t *links, size_t links_len,
@@ -486,6 +546,8 @@ uint32_t sb_mark_return(uint32_t n, uint8_t *links, size_t links_len,
  * A step of the block reader: start with next = 0, and go on with the next of the step before. Any value of next is safe.
  *
  * The length and the check of every block are tested at each step; whether the image is a site's is not.
+ *
+ * At worst 33,000 instructions.
  *
  * \return number 0 and a block, or end 1 after the last; or number SB_IMAGE_SIZE, SB_IMAGE_CHECK.
  */

@@ -163,7 +163,7 @@ SCRIPTS = {
 BY_BYTES = ["m1", "refusals", "clique-41", "radios-very-long", "unterminated", "very-long", "byte-255", "bad-late", "output-4096"]
 
 UNREAD = {"folder": "the input is a folder", "closed": "the input is closed, or not open for reading", "no room": "the input cannot be read"}
-UNWRITTEN = "the output cannot be written"
+UNWRITTEN, UNKEPT = "the output cannot be written", "the answers cannot be kept until the end of the input"
 HELP = (stored.CRATES / "player/src/words.rt").read_text()
 
 
@@ -200,7 +200,16 @@ def made():
     return SCRIPTS, "".join(f"{name}\n{text}" for name, text in [*played, *failures()])
 
 
+def kept():
+    """No file of data/, and what is printed of keeps: two that take no long answer, none for a short one; a new one has no name, and is no
+    descriptor of the program's own. Then the program with the words `--status 1`: the output, the status in it, and the error line."""
+    played = [f"output-4096 kept\n{fails(UNKEPT)}"] * 2 + [f"m1 kept\n{run(SCRIPTS['m1'])}"]
+    news = "keep 1\nnamed 0\nkeep 0\nnamed 0\ninput 0\n"
+    started = f"m1 started\n{replay(SCRIPTS['m1'])}0\n. started\n1\nreplay: {UNREAD['folder']}\n"
+    return {}, "".join(played) + news + started
+
+
 if __name__ == "__main__":
     import rebuilt
 
-    stored.keep("test_scripts", made(), rebuilt.made())
+    stored.keep("test_scripts", made(), rebuilt.made(), kept())

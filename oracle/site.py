@@ -1,6 +1,6 @@
 """Images and scripts for the program `site`, with what it owes on each, worked out from documents 01 and 02 and docs/FORMATS.md alone.
 
-  python3 oracle/site.py           write data/ and stdout of crates/test_site, and stdin, args and stdout of crates/site
+  python3 oracle/site.py           write data/, args and stdout of crates/test_site, and stdin, args and stdout of crates/site
   python3 oracle/site.py --check   say whether the stored files are what would be written
 
 Images are written and refused by oracle/images.py, scripts are played on the site of oracle/peeled.py, cores, backbones and trees are
@@ -408,6 +408,16 @@ def last_texts():
     yield from (f"refused by {number}: {WORDS.get(number, OTHER)}\n" for number in range(22))
 
 
+def started_texts(data):
+    """The program with the words `--status 1 staircase`: the output, the status in it, and the error line; a long script is shown on a terminal."""
+    said, status = run(data["script-7"], "staircase").split("status ")
+    yield f"script-7 started\n{said}{status}"
+    line, status = run(data["radios-0"], "staircase").split("status ")
+    yield f"radios-0 started\n{status}{line}"
+    yield "many lines started\n0\n"
+    yield f"terminal started\n0\nfirst byte 13\n"
+
+
 def text(data):
     out = []
     for name, verb, words, shown in cases():
@@ -415,7 +425,8 @@ def text(data):
     for name, image in (("script-7", "image-7"), ("image-512", "image-512")):
         assert SAYS["image"](found(data[name])).encode("latin-1") == data[image]
         out.append(f"{name} image\nstatus 0\nsame 1\n" + run(data[image], "check"))
-    return "".join([*out, *long_texts(), *read_texts(data), *write_texts(), *silent_texts(), *full_texts(data), *last_texts()]).encode()
+    return "".join([*out, *long_texts(), *read_texts(data), *write_texts(), *silent_texts(), *full_texts(data), *last_texts(),
+                    *started_texts(data)]).encode()
 
 
 def stored_files():
@@ -426,7 +437,7 @@ def stored_files():
     out = {CRATES / "test_site/data" / name: content for name, content in data.items()}
     out[CRATES / "test_site/data/cases"] = "".join(f"{name}|{verb}|{len(words)}|{'|'.join(shown)}\n" for name, verb, words, shown in cases()).encode()
     out |= {CRATES / "site" / name: content for name, content in site.items()}
-    return out | {CRATES / "test_site/stdout": text(data)}
+    return out | {CRATES / "test_site/args": b"--status\n1\nstaircase\n", CRATES / "test_site/stdout": text(data)}
 
 
 def main():

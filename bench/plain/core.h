@@ -2,10 +2,7 @@
 #ifndef CORE_H
 #define CORE_H
 #include "check.h"
-
-#define WORDS (ROW / 8)
-
-static inline int is_in(const uint64_t *set, unsigned v) { return set[v / 64] >> v % 64 & 1; }
+#include "sets.h"
 
 /* The radios at the level or above, a word at a time. */
 static inline void c_at_least(const struct lent *t, unsigned level, uint64_t *set) {
@@ -26,8 +23,7 @@ static inline unsigned c_list_word(uint64_t word, unsigned first, uint16_t *list
 
 /* Joins the rows of the radios of the list from place `from` on and before place `to` into the set. */
 static inline void c_join_rows(const uint8_t *links, const uint16_t *list, unsigned from, unsigned to, uint64_t *set) {
-    for (unsigned i = from; i < to; i++)
-        for (unsigned k = 0; k < WORDS; k++) set[k] |= row_word(links, list[i], k);
+    for (unsigned i = from; i < to; i++) join_row(links, list[i], set);
 }
 
 /* Takes the radios of the other set out of the set, and lists them; how many. */
@@ -45,7 +41,7 @@ static inline unsigned c_take_common(const uint64_t *other, uint64_t *set, uint1
 /* Takes v and what it reaches over radios of the set out of it, layer by layer; they stand in front of the queue. */
 static unsigned c_flood(const uint8_t *links, unsigned v, uint64_t *set, uint16_t *queue) {
     unsigned count = 1;
-    set[v / 64] &= ~(1ull << v % 64);
+    take_out(set, v);
     queue[0] = v;
     for (unsigned i = 0; i < count;) {
         uint64_t reach[WORDS] = {0};

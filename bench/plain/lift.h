@@ -27,21 +27,34 @@ static inline int c_is_gone(unsigned r, unsigned a, unsigned level, const uint8_
     return counters[r] >= GONE || counters[a] < level;
 }
 
-/* Peels with a and the held radios left alone, until r or stop is taken or a falls short; whether none is due. */
-static int c_peel_around(const struct lent *t, unsigned r, unsigned stop, unsigned level, unsigned a, const uint8_t *held, uint8_t *counters) {
+/* The lowest radio due, a late one only where no other is due. */
+static inline unsigned c_next_due(const uint8_t *due, const uint8_t *late) {
+    for (unsigned i = 0; i < ROW / 8; i++) {
+        uint64_t w = row_word(due, 0, i) & ~row_word(late, 0, i);
+        if (w) return 64 * i + __builtin_ctzll(w);
+    }
+    return c_first_marked(due);
+}
+
+/* Peels with a and the held radios left alone and the late ones taken last, until r or stop is taken or a falls short; whether none is due. */
+static int c_peel_around(const struct lent *t, unsigned r, unsigned stop, unsigned level, unsigned a, const uint8_t *held, const uint8_t *late,
+                         uint8_t *counters) {
     uint8_t due[ROW] = {0};
-    uint16_t near[NEIGHBOURS];
+    uint64_t stay[ROW / 8];
+    memset(stay, 255, sizeof stay);
     for (unsigned v = 0; v < RADIOS; v++)
         if (c_is_due(v, level, a, held, counters)) put_bit(due, 1, 0, v);
-    for (unsigned v = c_first_marked(due); v < RADIOS; v = c_first_marked(due)) {
+    for (unsigned v = c_next_due(due, late); v < RADIOS; v = c_next_due(due, late)) {
         put_bit(due, 0, 0, v);
+        stay[v / 64] &= ~(1ull << v % 64);
         counters[v] += GONE;
-        unsigned k = row_list(t->links, v, near, NEIGHBOURS);
-        for (unsigned i = 0; i < k; i++) {
-            unsigned w = near[i];
-            if (counters[w] >= GONE) continue;
-            counters[w]--;
-            if (c_is_due(w, level, a, held, counters)) put_bit(due, 1, 0, w);
+        for (unsigned i = 0; i < ROW / 8; i++) {
+            for (uint64_t rest = row_word(t->links, v, i) & stay[i]; rest; rest &= rest - 1) {
+                unsigned w = 64 * i + __builtin_ctzll(rest);
+                if (counters[w] >= GONE) continue;
+                counters[w]--;
+                if (c_is_due(w, level, a, held, counters)) put_bit(due, 1, 0, w);
+            }
         }
         if (c_is_gone(r, a, level, counters) || counters[stop] >= GONE) return 0;
     }
@@ -59,7 +72,7 @@ static void c_rule_out(const struct lent *t, unsigned level, int gone, const uin
 /* The lowest untried radio after a peel with all of them left alone; RADIOS where no pair of a lifts r. */
 static unsigned c_settle(const struct lent *t, unsigned r, unsigned a, uint8_t *base, uint8_t *untried) {
     unsigned level = t->numbers[r];
-    if (!c_peel_around(t, r, r, level, a, untried, base)) return RADIOS;
+    if (!c_peel_around(t, r, r, level, a, untried, untried, base)) return RADIOS;
     c_rule_out(t, level, 0, base, untried);
     return c_first_marked(untried);
 }
@@ -70,7 +83,7 @@ static int c_lifts(const struct lent *t, unsigned r, unsigned a, unsigned b, con
     unsigned level = t->numbers[r];
     memcpy(counters, base, RADIOS);
     put_bit(held, 1, 0, b);
-    if (c_peel_around(t, r, t->numbers[b] == level ? b : r, level, a, held, counters)) return 1;
+    if (c_peel_around(t, r, t->numbers[b] == level ? b : r, level, a, held, untried, counters)) return 1;
     c_rule_out(t, level, c_is_gone(r, a, level, counters), counters, untried);
     put_bit(untried, 0, 0, b);
     return 0;

@@ -1,7 +1,7 @@
 /* Link up and link down in C, single, in two steps and in a batch: one walk through the lower end's level, or one peel of it. */
 #ifndef LINK_H
 #define LINK_H
-#include "walk.h"
+#include "rise.h"
 
 /* Questions 4 to 7. */
 static unsigned c_ends(int up, uint32_t n, uint32_t a, uint32_t b, const uint8_t *links) {
@@ -13,14 +13,28 @@ static unsigned c_ends(int up, uint32_t n, uint32_t a, uint32_t b, const uint8_t
 
 /* Takes one off the counter of v, where v is of the level; its place fits if the counter is then `most`. */
 static void c_lose(unsigned v, unsigned level, unsigned most, const uint8_t *numbers, const uint16_t *places, uint8_t *counters, uint64_t *fits) {
-    if (numbers[v] == level && --counters[v] == most) fits[places[v] / 64] |= 1ull << places[v] % 64;
+    if (numbers[v] == level && --counters[v] == most) put_in(fits, places[v]);
+}
+
+/* Takes v at place p: of the neighbours that it has after the call the ones that are left are released. */
+static void c_take_left(int up, uint32_t a, uint32_t b, unsigned p, unsigned v, const uint8_t *links, unsigned level, unsigned most,
+                        const uint8_t *numbers, const uint16_t *places, const uint64_t *left, uint8_t *counters, uint64_t *fits) {
+    uint8_t row[ROW];
+    take_out(fits, p);
+    const uint8_t *own = links + ROW * v;
+    if (v == a || v == b) {
+        own = memcpy(row, own, ROW);
+        put_bit(row, up, 0, v == a ? b : a);
+    }
+    for (unsigned k = 0; k < WORDS; k++)
+        for (uint64_t w = row_word(own, 0, k) & left[k]; w; w &= w - 1) c_lose(64 * k + __builtin_ctzll(w), level, most, numbers, places, counters, fits);
 }
 
 /* From places and not-lower counts of every radio; the counts are used up. Going down only an end can fit before the first turn, and where
  * nobody is taken nothing moves. */
 static void c_peel(int up, const struct lent *t, uint32_t a, uint32_t b, const uint16_t *places, uint8_t *counters, struct c_plan *plan) {
     uint16_t *stretch = plan->stretch;
-    uint64_t fits[8] = {0};
+    uint64_t fits[WORDS] = {0}, left[WORDS];
     const uint32_t n = t->n;
     const uint8_t *links = t->links, *numbers = t->numbers;
     const uint16_t *order = t->order;
@@ -30,15 +44,17 @@ static void c_peel(int up, const struct lent *t, uint32_t a, uint32_t b, const u
         c_stretch(n, numbers, level, &start, &size);
         counters[a] += numbers[a] == level, counters[b] += numbers[b] == level;
         for (unsigned p = start; p < start + size; p++)
-            if (counters[order[p]] <= most) fits[p / 64] |= 1ull << p % 64;
+            if (counters[order[p]] <= most) put_in(fits, p);
     } else {
         c_lose(a, level, most, numbers, places, counters, fits);
         c_lose(b, level, most, numbers, places, counters, fits);
     }
+    memset(left, 255, sizeof left);
     for (unsigned p; (p = first_bit(fits)) < RADIOS;) {
         unsigned v = order[p];
         stretch[taken++] = v;
-        c_take(up, a, b, p, v, links, level, most, numbers, places, counters, fits);
+        c_take_left(up, a, b, p, v, links, level, most, numbers, places, left, counters, fits);
+        take_out(left, v);
     }
     if (!up && taken) c_stretch(n, numbers, level, &start, &size);
     for (unsigned p = start, j = taken; p < start + size; p++)
@@ -63,9 +79,9 @@ static unsigned c_plan(int up, const struct lent *t, uint32_t a, uint32_t b, int
 
 /* The changed radios of a plan, ascending. */
 static struct c_reply c_report(int up, const struct c_plan *plan, uint16_t *answer, size_t room) {
-    uint64_t set[8] = {0};
+    uint64_t set[WORDS] = {0};
     unsigned from = up ? plan->taken : 0, to = up ? plan->size : plan->taken;
-    for (unsigned i = from; i < to; i++) set[plan->stretch[i] / 64] |= 1ull << plan->stretch[i] % 64;
+    for (unsigned i = from; i < to; i++) put_in(set, plan->stretch[i]);
     unsigned count = row_list((const uint8_t *)set, 0, answer, room);
     return (struct c_reply){0, count ? (up ? 1 : -1) : 0, count};
 }
@@ -103,22 +119,24 @@ static struct c_reply c_commit(int up, const struct lent *t, uint32_t a, uint32_
     return r;
 }
 
-/* Both ends, the changed radios, which are listed, and their neighbours counted anew. */
-static void c_renew(const struct lent *t, uint32_t a, uint32_t b, uint16_t *list, unsigned count, uint8_t *highs) {
-    uint64_t set[8] = {0};
+/* How many neighbours of v have a number that is not below its own. */
+static unsigned c_high(const struct lent *t, unsigned v) {
     uint16_t near[NEIGHBOURS];
-    for (unsigned i = 0; i < count; i++) {
-        unsigned m = row_list(t->links, list[i], near, NEIGHBOURS);
-        set[list[i] / 64] |= 1ull << list[i] % 64;
-        for (unsigned j = 0; j < m; j++) set[near[j] / 64] |= 1ull << near[j] % 64;
-    }
-    set[a / 64] |= 1ull << a % 64, set[b / 64] |= 1ull << b % 64;
-    unsigned k = row_list((const uint8_t *)set, 0, list, RADIOS);
-    for (unsigned i = 0; i < k; i++) {
-        unsigned m = row_list(t->links, list[i], near, NEIGHBOURS), high = 0;
-        for (unsigned j = 0; j < m; j++) high += t->numbers[list[i]] <= t->numbers[near[j]];
-        highs[list[i]] = high;
-    }
+    unsigned m = row_list(t->links, v, near, NEIGHBOURS), high = 0;
+    for (unsigned i = 0; i < m; i++) high += t->numbers[v] <= t->numbers[near[i]];
+    return high;
+}
+
+/* Both ends, the changed radios, which are listed, and their neighbours counted anew: a set, row joined to row. */
+static void c_renew(const struct lent *t, uint32_t a, uint32_t b, const uint16_t *list, unsigned count, uint8_t *highs) {
+    uint64_t set[WORDS] = {0};
+    for (unsigned i = 0; i < count; i++) put_in(set, list[i]), join_row(t->links, list[i], set);
+    put_in(set, a), put_in(set, b);
+    for (unsigned k = 0; k < WORDS; k++)
+        for (uint64_t w = set[k]; w; w &= w - 1) {
+            unsigned v = 64 * k + __builtin_ctzll(w);
+            highs[v] = c_high(t, v);
+        }
 }
 
 /* A link of a list that is allowed: places and not-lower counts are kept up to date. */

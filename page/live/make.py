@@ -1,6 +1,7 @@
 """One HTML file with the engine inside: no server, no network.
 
     python3 page/live/make.py MODULE.wasm >live.html
+    python3 page/live/make.py --check LIVE.html      says whether a page is what would be made now with the module that is in it
 
 The module has the calls of include/summerbugle.h by the C ABI of wasm32: a struct comes back through a pointer in front. What the page knows of
 the interface it has from that header: limits, words of the refusal numbers, structs, calls.
@@ -68,7 +69,17 @@ def page(module):
     return text
 
 
+def check(path):
+    """Whether a page is what would be made now with its own module."""
+    text = read(path)
+    inside = re.search(r'"base64": "([^"]*)"', text)
+    if not inside or page(base64.b64decode(inside.group(1))) != text:
+        raise SystemExit("%s is not the page of page/live: page/live/build --write makes it" % path)
+
+
 def main():
+    if len(sys.argv) == 3 and sys.argv[1] == "--check":
+        return check(sys.argv[2])
     if len(sys.argv) != 2:
         raise SystemExit("usage: python3 page/live/make.py MODULE.wasm >live.html")
     try:

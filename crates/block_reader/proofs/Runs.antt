@@ -2,43 +2,23 @@
 --   reader-held                           the reader's struct, of an image and a number
 --   open-runs, step-runs, moved-runs      each runs as crate hosts says of it
 --   part-stands                           after a step its part stands in the image's cells
-use mathlib.Core.Path.{_≡_, refl, _∙_, ap, subst}
-use mathlib.Core.Logic.{∥∥₁-map}
-use mathlib.Core.List.{List, [], _∷_}
+use mathlib.Core.{Path.{_≡_, refl, _∙_, ap, subst}, Logic.{∥∥₁-map}, List.{List, [], _∷_}}
 use Prim.Native.Nat.{ℕ, _+_, _*_, _≤_}
 use native.Mathlib.Omega.{arith}
-use lib.ListN.{length, take, drop, length-drop}
-use lib.Seq.{length-take-le}
-use mir.Syntax.{w8, w32, w64}
-use mir.Val.{Val, vint, vstruct, vcons, vnil}
+use lib.{ListN.{length, take, drop, length-drop}, Seq.{length-take-le}}
+use mir.{Syntax.{w8, w32, w64}, Val.{Val, vint, vstruct, vcons, vnil}}
 use prog.Memory.{Memory}
-use contract.Lifetimes.{Lfts}
-use contract.Running.{Running, real}
-use contract.BorrowModel.{ghost₀}
-use ghost.Model as Closed
+use contract.{Lifetimes.{Lfts}, Running.{Running, real}, BorrowModel.{ghost₀}}
 use types.Kit.{‵, _$_, _∵_, !, qed, by, move, fjoin}
-use denote.Builtin.{u8, usize}
-use denote.Ref.{NamedLft, ptr, now}
-use denote.Signature.{namedLft}
-use denote.Slice.{ShrSlice, slice-vals}
-use denote.Steps.{nothing}
-use denote.Struct.Rest.{own-shut}
-use Rattle.machine.specs.Cells.{unsigned, Place, place, entries, Input, pointer, passes, cells-of, span, Run-at, Stands, Ready, Ran, Runs}
-use Rattle.machine.proofs.Whole.{𝓥}
-use Rattle.machine.proofs.Rows.{A₀, W₀}
-use Rattle.machine.proofs.Lending.{Holder, to-read, to-read-with}
-use Rattle.machine.proofs.Law.{Told, in-cells-at}
-use Rattle.machine.proofs.Numbers.{number-row, declared-told}
-use Rattle.machine.proofs.Again.{stands-still}
-use Rattle.machine.proofs.Chain.{first-entries, later-entries}
-use Rattle.calls.specs.Contracts.{Block-contract}
-use Rattle.calls.specs.Outcomes.{block-outcome}
-use Rattle.calls.specs.declared.Block.{Block}
-use Rattle.block_reader.specs.Reader.{Stepped, Moved}
+use denote.{Builtin.{u8, usize}, Ref.{NamedLft, ptr, now}, Signature.{namedLft}, Slice.{ShrSlice, slice-vals}, Steps.{nothing}, Struct.Rest.{own-shut}}
+use Rattle.machine.{specs.Cells.{unsigned, Place, place, entries, Input, pointer, passes, cells-of, span, Run-at, Stands, Ready, Ran, Runs}, proofs.Whole.{𝓥}}
+use Rattle.machine.{proofs.Rows.{A₀, W₀}, proofs.Lending.{Holder, to-read, to-read-with}, proofs.Law.{Told, in-cells-at}, proofs.Numbers.{number-row}}
+use Rattle.machine.{proofs.Numbers.{declared-told}, proofs.Again.{stands-still}, proofs.Chain.{first-entries, later-entries}}
+use Rattle.calls.specs.{Contracts.{Block-contract}, Outcomes.{block-outcome}, declared.Block.{Block}}
+use Rattle.block_reader.specs.{Reader.{Stepped, Moved}, declared.blocks.BlockReader.{BlockReader}, declared.blocks.BlockStep.{BlockStep}}
 use Rattle.hosts.specs.Public.{reader-open, reader-step, reader-moved, a-reader, call}
-use Rattle.block_reader.specs.declared.blocks.BlockReader.{BlockReader}
-use Rattle.block_reader.specs.declared.blocks.BlockStep.{BlockStep}
 use Rattle.block_reader.proofs.StepLaws.{block-inside}
+use ghost.Model as Closed
 use Rattle.block_reader.proofs.blocks.BlockReader as reader
 use Rattle.block_reader.proofs.blocks.BlockReader.Laws as reader-laws
 use Rattle.block_reader.proofs.blocks.BlockStep as step

@@ -3,25 +3,17 @@
 --   block-named      the part that an answer names lies in the image, and where
 --   step-payload     a step that gives a block gives its payload
 --   step-end, step-refused   the end and a refusal give an empty part
-use mathlib.Core.Path.{_≡_, refl, sym, ap, ap₂, subst, _∙_}
-use mathlib.Core.Logic.{_⊎_, inl, inr}
-use mathlib.Core.Bool.{Bool, true, false}
-use mathlib.Core.List.{List, []}
+use mathlib.Core.{Path.{_≡_, refl, sym, ap, ap₂, subst, _∙_}, Logic.{inl, inr}, Bool.{Bool, true, false}, List.{List, []}}
 use Prim.Native.Nat.{ℕ, zero, suc, _+_, _*_, _-_, _/_, _≤_, _<_}
 use native.Mathlib.Omega.{arith}
 use denote.Ref.{now}
-use lib.Dec.{ltb}
-use lib.ListN.{length, take, drop}
+use lib.{Dec.{ltb}, ListN.{length, take, drop}}
 use borrow.Author.Tests.{ltb-true, lt-ltb, le-ltb}
 use Rattle.mesh.specs.Image.{block-bytes, payload-bytes, payload-at}
-use Rattle.calls.specs.Questions.{block-refusal}
-use Rattle.calls.specs.Outcomes.{by-number, no-block, block-or-end, block-outcome}
-use Rattle.calls.specs.Contracts.{Block-contract}
-use Rattle.calls.specs.declared.Block.{Block}
-use Rattle.calls.proofs.ContractLaws.{by-zero, by-other}
-use Rattle.block_reader.specs.Reader.{Part-there, part-start, Stepped}
-use Rattle.block_reader.specs.declared.blocks.BlockReader.{BlockReader}
-use Rattle.block_reader.specs.declared.blocks.BlockStep.{BlockStep}
+use Rattle.calls.{specs.Outcomes.{no-block, block-or-end, block-outcome}, specs.Contracts.{Block-contract}}
+use Rattle.calls.{specs.declared.Block.{Block}, proofs.ContractLaws.{by-zero, by-other}}
+use Rattle.block_reader.specs.{Reader.{Part-there, part-start, Stepped}, declared.blocks.BlockReader.{BlockReader}, declared.blocks.BlockStep.{BlockStep}}
+use Rattle.calls.specs.{Chains.{block-refusal}, Questions.{by-number}}
 
 -- ---- the part of a step
 
@@ -69,10 +61,6 @@ module _ (bs : List ℕ) (i : ℕ) where
       inside : Named r → r .offset + r .length ≤ length bs
       inside (inl e, d) = let at : r .offset ≡ 0 = rw e at d in omega (arith, at, e)
       inside (inr e, d) = let at : r .offset ≡ block-bytes * i + 4 = rw (e .0) at d in omega (arith, at, e .0, e .1)
-
--- a part of no bytes
-part-empty : (bs : List ℕ) (at k : ℕ) → k ≡ 0 → take k (drop at bs) ≡ []
-part-empty bs at k e = rw e
 
 module _ (r : BlockReader) (s : BlockStep) (h : Stepped r s) where
   abbrev bs : List ℕ

@@ -5,17 +5,13 @@
 --   Stepped     what a step gives
 --   Moved       the reader after a step
 -- Definitions only.
-use mathlib.Core.Path.{_≡_}
-use mathlib.Core.Logic.{_⊎_}
-use mathlib.Core.List.{List}
+use mathlib.Core.{Path.{_≡_}, Logic.{_⊎_}, List.{List}}
 use Prim.Native.Nat.{ℕ, zero, suc, _+_, _*_, _≤_}
 use denote.Ref.{RefT, now}
 use lib.ListN.{length, take, drop}
 use Rattle.mesh.specs.Image.{block-bytes, payload-bytes}
-use Rattle.calls.specs.Contracts.{Block-contract}
-use Rattle.calls.specs.declared.Block.{Block}
-use Rattle.block_reader.specs.declared.blocks.BlockReader.{BlockReader}
-use Rattle.block_reader.specs.declared.blocks.BlockStep.{BlockStep}
+use Rattle.calls.specs.{Contracts.{Block-contract}, declared.Block.{Block}}
+use Rattle.block_reader.specs.declared.blocks.{BlockReader.{BlockReader}, BlockStep.{BlockStep}}
 
 unfoldable pub Part-there : (i count : ℕ) → (image : List ℕ) → Type 0
 Part-there i count bs = (count ≡ 0) ⊎ ((count ≡ payload-bytes) × (block-bytes * i + block-bytes ≤ length bs))

@@ -12,65 +12,33 @@
 --   read-right           the tables of an accepted image are sound, and written again they give the same bytes
 --   read-what-was-written   sound tables, written and read, are the same tables
 --   block-right          what a step of the block reader gives
-use mathlib.Core.Path.{_≡_, refl, sym, ap, subst, _∙_}
-use mathlib.Core.Logic.{_⊎_, inl, inr, _↔_}
-use mathlib.Core.Bool.{Bool, true, false, not, cond}
-use mathlib.Core.List.{List}
-use Prim.Native.Nat.{ℕ, _/_, _<_}
-use native.Mathlib.Omega.{arith}
-use lib.Dec.{ltb, eqb}
-use lib.IntN.{ℤ}
-use lib.ListN.{length, getD, take, drop, List·getD-append}
-use lib.Seq.{ext-getD}
-use borrow.Author.Tests.{ltb-true, ltb-false, eq-eqb, ne-eqb, not-true}
-use Rattle.mesh.specs.Limits.{max-neighbours}
-use Rattle.lists.specs.Lists.{range, filter, member, overwrite, In, Ascending, Entries-below}
-use Rattle.mesh.specs.Graph.{Graph, linked, radios, relinked, Allowed}
-use Rattle.mesh.specs.Cores.{Core, number, numbers}
-use Rattle.mesh.specs.Orders.{is-k-order, nobody}
-use Rattle.mesh.specs.Levels.{changed}
-use Rattle.mesh.specs.Tables.{Tables, graph-in, tables-of, Tables-of-size}
-use Rattle.mesh.specs.Sound.{sound}
-use Rattle.mesh.specs.Connected.{core-of, backbone}
-use Rattle.mesh.specs.Tree.{tree, node-name, node-names}
-use Rattle.mesh.specs.Image.{block-bytes, image-of, image-graph, image-order, is-image, payload-at}
-use Rattle.mesh.specs.declared.Node.{Node}
-use Rattle.lists.proofs.Tests.{never}
-use Rattle.lists.proofs.Map.{length-map, getD-map-range}
-use Rattle.lists.proofs.Filter.{member-filter}
-use Rattle.lists.proofs.Range.{length-range, in-range, once-below}
-use Rattle.lists.proofs.Overwrite.{take-overwrite, drop-overwrite}
-use Rattle.mesh.proofs.Cores.Peeling.{number-core, number-unique, length-numbers, getD-numbers}
-use Rattle.mesh.proofs.Cores.KOrders.{k-order-certificate}
-use Rattle.mesh.proofs.Cores.Later.{first-is-first, nobody-none}
-use Rattle.mesh.proofs.Tables.ReadBack.{graph-in-links-table}
-use Rattle.mesh.proofs.Tables.Soundness.{sound-iff, valid-sound}
-use Rattle.mesh.proofs.Tables.Sites.{image-valid}
-use Rattle.mesh.proofs.Trees.Reach.{core-of-iff}
-use Rattle.mesh.proofs.Trees.Unique.{tree-iff, node-name-iff}
-use Rattle.mesh.proofs.Trees.Listed.{changed-ascending, core-ascending, backbone-ascending, backbone-iff}
-use Rattle.mesh.proofs.Links.Tables.{graph-in-put-link, rows-put-link}
-use Rattle.mesh.proofs.Links.Laws.{link-valid}
-use Rattle.mesh.proofs.Images.Of.{length-image-of, whole-blocks-image-of, checks-good-image-of}
-use Rattle.mesh.proofs.Images.Sites.{written-read}
-use Rattle.mesh.proofs.Images.Tables.{valid-graph-in, is-image-sound, is-image-tables, tables-read-written}
-use Rattle.mesh.specs.Valid.{Valid}
-use Rattle.calls.specs.Questions.{lengths-of, image-length, tables-refusal, link-refusal}
-use Rattle.calls.specs.Questions.{radio-refusal, core-refusal, backbone-refusal, write-refusal, read-refusal}
-use Rattle.calls.specs.Questions.{sheet-refusal}
-use Rattle.calls.specs.Sheet.{sheet, sheet-length}
-use Rattle.calls.specs.Switches.{switch, switched}
-use Rattle.calls.specs.Outcomes.{Numbered, numbered, Linked, Asked, Committed, Listing, listing, Treed, value, link-outcome, ask-outcome, commit-outcome, read-outcome}
-use Rattle.calls.specs.Outcomes.{value-outcome, check-outcome, number-outcome, later-outcome, listing-outcome, core-outcome, backbone-outcome, tree-outcome, sheet-outcome}
-use Rattle.calls.specs.Outcomes.{write-outcome, no-block, block-or-end, block-outcome}
-use Rattle.calls.specs.Results.{Numbers-right, Site-right, Listed, Link-right, Core-listed, Backbone-listed, Tree-listed, Written-right, Read-right}
-use Rattle.calls.specs.Results.{Ask-right, Commit-right, Block-part, Block-end, Later-right, Sheet-right}
-use Rattle.calls.specs.declared.Value.{Value}
-use Rattle.calls.specs.declared.Later.{Later}
-use Rattle.calls.specs.declared.Block.{Block}
-use Rattle.calls.proofs.ContractLaws.{accepted-is, by-zero}
-use Rattle.calls.proofs.ChainLaws.{lent-zero, Site-good, link-zero, commit-zero, radio-zero, core-zero, write-zero, read-zero, read-yes, sheet-zero}
-use Rattle.calls.proofs.SheetLaws.{sheet-fits, length-sheet, columns-front, columns-by}
+use Rattle.lists.{specs.Kit.{_≡_, refl, sym, ap, subst, _∙_, _⊎_, inl, inr, _↔_, Bool, true, false, not, cond, List, ℕ, _/_, _<_, arith, ltb, eqb, ℤ, length}}
+use Rattle.lists.{specs.Kit.{getD, take, drop, List·getD-append, ext-getD, ltb-true, ltb-false, eq-eqb, ne-eqb, not-true}, specs.Lists.{range, filter, member}}
+use Rattle.lists.{specs.Lists.{overwrite, In, Ascending, Entries-below}, proofs.Tests.{never}, proofs.Map.{length-map, getD-map-range}}
+use Rattle.lists.{proofs.Filter.{member-filter}, proofs.Range.{length-range, in-range, once-below}, proofs.Overwrite.{take-overwrite, drop-overwrite}}
+use Rattle.mesh.{specs.Limits.{max-neighbours}, specs.Graph.{Graph, linked, radios, relinked, Allowed}, specs.Cores.{Core, number, numbers}}
+use Rattle.mesh.{specs.Orders.{is-k-order, nobody}, specs.Levels.{changed}, specs.Tables.{Tables, graph-in, tables-of, Tables-of-size}, specs.Sound.{sound}}
+use Rattle.mesh.{specs.Connected.{In-core, In-backbone, core-of, backbone}, specs.Tree.{tree, node-name, node-names}, specs.Image.{block-bytes, image-of}}
+use Rattle.mesh.{specs.Image.{image-graph, image-order}}
+use Rattle.mesh.{specs.Image.{is-image, payload-at}, specs.declared.Node.{Node}, proofs.Cores.Peeling.{number-core, number-unique, length-numbers}}
+use Rattle.mesh.{proofs.Cores.Peeling.{getD-numbers}, proofs.Cores.KOrders.{k-order-certificate}, proofs.Cores.Later.{first-is-first, nobody-none}}
+use Rattle.mesh.{proofs.Tables.ReadBack.{graph-in-links-table}, proofs.Tables.Soundness.{sound-iff, valid-sound}, proofs.Tables.Sites.{image-valid}}
+use Rattle.mesh.{proofs.Trees.Reach.{core-of-iff}, proofs.Trees.Unique.{tree-iff, node-name-iff}, proofs.Trees.Listed.{changed-ascending, core-ascending}}
+use Rattle.mesh.{proofs.Trees.Listed.{backbone-ascending, backbone-iff}, proofs.Links.Tables.{graph-in-put-link, rows-put-link}, proofs.Links.Laws.{link-valid}}
+use Rattle.mesh.{proofs.Images.Of.{length-image-of, whole-blocks-image-of, checks-good-image-of}, proofs.Images.Sites.{written-read}}
+use Rattle.mesh.{proofs.Images.Tables.{valid-graph-in, is-image-sound, is-image-tables, tables-read-written}, specs.Valid.{Valid}}
+use Rattle.calls.specs.{Questions.{lengths-of, image-length, tables-refusal, radio-refusal}}
+use Rattle.calls.specs.{Questions.{read-refusal}, Sheet.{sheet, sheet-length}, Switches.{switch, switched}, Outcomes.{Tabled, tabled}}
+use Rattle.calls.specs.{Outcomes.{Linked, Listing, listing, value, link-outcome, ask-outcome, commit-outcome, read-outcome}}
+use Rattle.calls.specs.{Outcomes.{value-outcome, check-outcome, number-outcome, later-outcome, listing-outcome, core-outcome, backbone-outcome}}
+use Rattle.calls.specs.{Outcomes.{tree-outcome, sheet-outcome, write-outcome, no-block, block-or-end, block-outcome}, Results.{Numbers-right, Site-right}}
+use Rattle.calls.specs.{Results.{Listed, Link-right, Radios-listed, Tree-listed, Written-right, Read-right, Ask-right, Commit-right}}
+use Rattle.calls.specs.{Results.{Block-part, Block-end, Later-right, Sheet-right}, declared.Value.{Value}, declared.Later.{Later}, declared.Block.{Block}}
+use Rattle.calls.proofs.{ContractLaws.{asking-is, accepted-is, by-zero}, ChainLaws.{lent-zero, Site-good, link-zero, commit-zero, radio-zero, core-zero}}
+use Rattle.calls.proofs.{ChainLaws.{write-zero, read-zero, read-yes, sheet-zero}, SheetLaws.{sheet-fits, length-sheet, columns-front, columns-by}}
+use Rattle.calls.specs.Chains.{core-refusal, backbone-refusal, write-refusal, sheet-refusal}
+use Rattle.calls.specs.declared.Reply.{Reply}
+use Rattle.calls.specs.Chains.{link-refusal}
 
 -- ---- a list in front of a lent list
 
@@ -103,11 +71,11 @@ switched-right up n a b t others good ok =
 
 pub link-right :
     (up : Bool) (n a b : ℕ) (t : Tables) (w : List ℕ) → let o = link-outcome up n a b t w in
-    o .reply .number ≡ 0 → Link-right up n a b t (o .tables) (o .reply .count) w (o .answer)
-unfolding link-outcome link-refusal sound graph-in
+    o .reply .number ≡ 0 → Link-right up n a b t (o .tables) (o .reply .count) w (o .lent)
+unfolding link-outcome sound graph-in
 link-right up n a b t w z =
     let g = graph-in n (t .links) in
-    let c = accepted-is (λ (o : Linked). o .reply .number) (link-outcome up n a b t w) _ _ _ (λ q. refl) refl z in
+    let c = accepted-is (λ (o : Linked Reply). o .reply .number) (link-outcome up n a b t w) _ _ _ (λ q. refl) refl z in
     let good = link-zero up a b (lengths-of t) (length w) (sound n t) g (c .0) in
     let s = switched-right up n a b t _ (good .0) (good .1) in
     rw (c .1) (record { graph = s .graph; right = s .right; listed = listed-front (changed up a b g) w (changed-ascending up a b g) })
@@ -128,12 +96,11 @@ changed-exactly up a b g v j k l p q =
 
 pub ask-right :
     (up : Bool) (n a b : ℕ) (t : Tables) (w : List ℕ) → let o = ask-outcome up n a b t w in
-    o .reply .number ≡ 0 → Ask-right up a b (graph-in n (t .links)) (o .reply .count) w (o .answer)
-unfolding ask-outcome
+    o .reply .number ≡ 0 → Ask-right up a b (graph-in n (t .links)) (o .reply .count) w (o .lent)
 ask-right up n a b t w z =
     let g = graph-in n (t .links) in
     let cs = changed up a b g in
-    let c = accepted-is (λ (o : Asked). o .reply .number) (ask-outcome up n a b t w) _ _ _ (λ q. refl) refl z in
+    let c = accepted-is (λ (o : Listing Reply (List ℕ)). o .reply .number) (ask-outcome up n a b t w) _ _ _ (λ q. refl) (asking-is up n a b t w) z in
     rw (c .1) (record {
       exactly = λ v j k l p q. rw (take-overwrite cs w) (changed-exactly up a b g v j k l p q);
       listed = listed-front cs w (changed-ascending up a b g);
@@ -144,7 +111,7 @@ pub commit-right :
     o .reply .number ≡ 0 → Commit-right up n a b t (o .tables)
 unfolding commit-outcome graph-in
 commit-right up n a b z xs t y =
-    let c = accepted-is (λ (o : Committed). o .reply .number) (commit-outcome up n a b z xs t) _ _ _ (λ q. refl) refl y in
+    let c = accepted-is (λ (o : Tabled Reply). o .reply .number) (commit-outcome up n a b z xs t) _ _ _ (λ q. refl) refl y in
     let good = commit-zero up a b z xs (lengths-of t) (sound n t) (graph-in n (t .links)) (c .0) in
     rw (c .1) (switched-right up n a b t true (good .0) (good .1))
 
@@ -207,11 +174,11 @@ pub listing-is :
     (R x : ℕ) (new old : List ℕ) → listing-outcome R x new old .reply .number ≡ 0 →
     (R ≡ 0) × (listing-outcome R x new old ≡ listing (value 0 x) (overwrite new old))
 unfolding listing-outcome
-listing-is R x new old z = accepted-is (λ (o : Listing). o .reply .number) (listing-outcome R x new old) R _ _ (λ q. refl) refl z
+listing-is R x new old z = accepted-is (λ (o : Listing Value (List ℕ)). o .reply .number) (listing-outcome R x new old) R _ _ (λ q. refl) refl z
 
 pub core-right :
     (n v k : ℕ) (t : Tables) (w : List ℕ) → let o = core-outcome n v k t w in
-    o .reply .number ≡ 0 → Core-listed (graph-in n (t .links)) v k (o .reply .value) w (o .lent)
+    o .reply .number ≡ 0 → Radios-listed (In-core (graph-in n (t .links)) v k) (o .reply .value) w (o .lent)
 unfolding core-outcome sound graph-in
 core-right n v k t w z =
     let g = graph-in n (t .links) in
@@ -222,7 +189,7 @@ core-right n v k t w z =
 
 pub backbone-right :
     (n : ℕ) (t : Tables) (w : List ℕ) → let o = backbone-outcome n t w in
-    o .reply .number ≡ 0 → Backbone-listed (graph-in n (t .links)) (o .reply .value) w (o .lent)
+    o .reply .number ≡ 0 → Radios-listed (In-backbone (graph-in n (t .links))) (o .reply .value) w (o .lent)
 unfolding backbone-outcome sound
 backbone-right n t w z =
     let g = graph-in n (t .links) in
@@ -254,10 +221,10 @@ listed-tree g m w = record {
 
 pub tree-right-listed :
     (n : ℕ) (t : Tables) (m : List Node) (w : List ℕ) → let o = tree-outcome n t m w in
-    o .reply .number ≡ 0 → Tree-listed (graph-in n (t .links)) (o .reply .value) m (o .nodes) w (o .answer)
+    o .reply .number ≡ 0 → Tree-listed (graph-in n (t .links)) (o .reply .value) m (o .lent .0) w (o .lent .1)
 unfolding tree-outcome
 tree-right-listed n t m w z =
-    let c = accepted-is (λ (o : Treed). o .reply .number) (tree-outcome n t m w) _ _ _ (λ q. refl) refl z in
+    let c = accepted-is (λ (o : Listing Value (List Node × List ℕ)). o .reply .number) (tree-outcome n t m w) _ _ _ (λ q. refl) refl z in
     rw (c .1) (listed-tree (graph-in n (t .links)) m w)
 
 -- ---- the site sheet
@@ -331,16 +298,16 @@ module _ (n : ℕ) (t : Tables) (w : List ℕ) (z : write-outcome n t w .reply .
   -- the same tables come back
   pub read-what-was-written :
       Entries-below 256 (t .links) → (u : Tables) → lengths-of u ≡ lengths-of t →
-      read-outcome n (take (write-outcome n t w .reply .value) (write-outcome n t w .lent)) u ≡ numbered 0 t
+      read-outcome n (take (write-outcome n t w .reply .value) (write-outcome n t w .lent)) u ≡ tabled 0 t
   unfolding read-outcome
   read-what-was-written bytes u e =
       rw bytes-written (by-zero _ _ _ (read-accepts u e) refl)
-      ∙ ap (numbered 0) (tables-read-written n t (good .lent .most) (sized bytes) (good .is-sound))
+      ∙ ap (tabled 0) (tables-read-written n t (good .lent .most) (sized bytes) (good .is-sound))
 
 pub read-right : (n : ℕ) (bs : List ℕ) (t : Tables) → let o = read-outcome n bs t in o .reply ≡ 0 → Read-right n bs (o .tables)
 unfolding read-outcome image-graph tables-of sound
 read-right n bs t z =
-    let c = accepted-is (λ (o : Numbered). o .reply) (read-outcome n bs t) _ _ _ (λ q. refl) refl z in
+    let c = accepted-is (λ (o : Tabled ℕ). o .reply) (read-outcome n bs t) _ _ _ (λ q. refl) refl z in
     let a = read-zero n (lengths-of t) bs (c .0) in
     let g = image-graph n bs in
     let xs = image-order n bs in

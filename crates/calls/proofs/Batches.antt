@@ -6,39 +6,30 @@
 --   batch-all         a batch that does not stop takes every link up
 --   batch-single      a batch of one link is the single call
 --   batch-right       numbers are core numbers and the order is a k-order of what the links done make of the site
-use mathlib.Core.Path.{_≡_, refl, sym, ap, subst, _∙_}
-use mathlib.Core.Logic.{_⊎_, inl, inr}
-use mathlib.Core.Bool.{Bool, true, false, cond}
-use mathlib.Core.List.{List, [], _∷_}
-use Prim.Native.Nat.{ℕ, zero, suc, _+_, _*_, _≤_, _<_, _%_}
-use native.Mathlib.Omega.{arith}
-use lib.ListN.{length, getD, take}
-use borrow.Author.Tests.{eqb-true, ne-eqb}
-use Rattle.mesh.specs.Limits.{max-neighbours}
-use Rattle.mesh.specs.Graph.{Link, Graph, graph, link-before, with-link, relinked, new-links, Allowed}
-use Rattle.mesh.specs.Tables.{Tables, graph-in}
-use Rattle.mesh.specs.Sound.{sound}
-use Rattle.mesh.proofs.Tables.DegreeSum.{links-most}
-use Rattle.calls.specs.Questions.{lengths-of, site-refusal, ends-refusal, link-refusal}
-use Rattle.calls.specs.Switches.{Switch, switch, pairs-after, switched, tables-after, All-allowed}
-use Rattle.calls.specs.Batches.{list-length, batch-refusal, up-refusal, unless, then, batch-switches, batch-stop, ups}
-use Rattle.calls.specs.Outcomes.{by-number, Batched, batched, value, link-outcome, links-taken, batch-outcome}
-use Rattle.calls.specs.Results.{Batch-stopped, Batch-single, Batch-right}
-use Rattle.calls.proofs.QuestionLaws.{true-answer-length}
-use Rattle.calls.proofs.ChainLaws.{site-zero, site-yes, site-stops, ends-zero}
-use Rattle.calls.proofs.ContractLaws.{by-zero, by-cases}
-use Rattle.calls.proofs.SoundSwitches.{Good, good-valid, good-right, switched-graph, all-good}
+use Rattle.lists.specs.Kit.{_≡_, refl, sym, ap, subst, _∙_, _⊎_, inl, inr, Bool, true, false, cond, List, [], _∷_, ℕ, zero, suc, _+_, _*_, _≤_, _<_, _%_, arith}
+use Rattle.lists.specs.Kit.{length, getD, take, eqb-true, ne-eqb}
+use Rattle.mesh.{specs.Limits.{max-neighbours}, specs.Graph.{Link, Graph, graph, link-before, with-link, relinked, new-links}, specs.Tables.{Tables, graph-in}}
+use Rattle.mesh.{specs.Sound.{sound}, proofs.Tables.DegreeSum.{links-most}}
+use Rattle.calls.specs.{Questions.{lengths-of, site-refusal, ends-refusal}, Switches.{Switch, switch, pairs-after, switched, tables-after}}
+use Rattle.calls.specs.{Switches.{All-allowed}, Batches.{list-length, batch-refusal, up-refusal, batch-switches, batch-stop, ups}}
+use Rattle.calls.specs.{Outcomes.{Tabled, tabled, value, link-outcome, links-taken, batch-outcome}, Results.{Batch-stopped, Batch-single}}
+use Rattle.calls.specs.{Results.{Batch-right}}
+use Rattle.calls.proofs.{QuestionLaws.{true-answer-length}, ChainLaws.{site-zero, site-yes, site-stops, ends-zero}, ContractLaws.{by-zero, by-cases}}
+use Rattle.calls.proofs.{SoundSwitches.{Good, good-valid, good-right, switched-graph, all-good}}
+use Rattle.calls.specs.Questions.{by-number}
+use Rattle.calls.specs.declared.Value.{Value}
+use Rattle.calls.specs.Chains.{link-refusal}
 
 -- ---- every link taken up is allowed
 
 pub batch-allowed : (n : ℕ) (xs : List ℕ) (ps : List Link) → All-allowed n ps (batch-switches n xs ps)
-unfolding batch-switches All-allowed unless
+unfolding batch-switches All-allowed by-number
 batch-allowed n [] ps = tt
 batch-allowed n (a ∷ []) ps = tt
 batch-allowed n (a ∷ b ∷ xs) ps = go (up-refusal n a b ps) refl (batch-allowed n xs (new-links true a b ps))
   where
     go : (R : ℕ) → up-refusal n a b ps ≡ R → All-allowed n (new-links true a b ps) (batch-switches n xs (new-links true a b ps))
-        → All-allowed n ps (unless R (switch true a b ∷ batch-switches n xs (new-links true a b ps)))
+        → All-allowed n ps (by-number R (switch true a b ∷ batch-switches n xs (new-links true a b ps)) (λ q. []))
     go zero e i = (ends-zero max-neighbours true a b (graph n ps) e, i)
     go (suc q) e i = tt
 
@@ -52,7 +43,7 @@ length-ups (a ∷ b ∷ xs) e = omega (arith, length-ups xs (omega (arith, e)))
 
 -- the links before the one refused, or all
 pub batch-front : (n : ℕ) (xs : List ℕ) (ps : List Link) → batch-switches n xs ps ≡ ups (take (2 * length (batch-switches n xs ps)) xs)
-unfolding batch-switches unless ups
+unfolding batch-switches by-number ups
 batch-front n [] ps = refl
 batch-front n (a ∷ []) ps = refl
 batch-front n (a ∷ b ∷ xs) ps = go (up-refusal n a b ps) (batch-front n xs (new-links true a b ps))
@@ -61,20 +52,20 @@ batch-front n (a ∷ b ∷ xs) ps = go (up-refusal n a b ps) (batch-front n xs (
     rest = batch-switches n xs (new-links true a b ps)
 
     go : (R : ℕ) → rest ≡ ups (take (2 * length rest) xs)
-        → unless R (switch true a b ∷ rest) ≡ ups (take (2 * length (unless R (switch true a b ∷ rest))) (a ∷ b ∷ xs))
+        → by-number R (switch true a b ∷ rest) (λ q. []) ≡ ups (take (2 * length (by-number R (switch true a b ∷ rest) (λ q. []))) (a ∷ b ∷ xs))
     go zero e =
         let s : 2 * length (switch true a b ∷ rest) ≡ suc (suc (2 * length rest)) = omega arith in rw s (ap {B = List Switch} (λ ss. switch true a b ∷ ss) e)
     go (suc q) e = refl
 
 pub batch-all : (n : ℕ) (xs : List ℕ) (ps : List Link) → batch-stop n xs ps ≡ 0 → batch-switches n xs ps ≡ ups xs
-unfolding batch-switches batch-stop unless then ups
+unfolding batch-switches batch-stop by-number ups
 batch-all n [] ps e = refl
 batch-all n (a ∷ []) ps e = refl
 batch-all n (a ∷ b ∷ xs) ps e = go (up-refusal n a b ps) (batch-all n xs (new-links true a b ps)) e
   where
     go : (R : ℕ) → (batch-stop n xs (new-links true a b ps) ≡ 0 → batch-switches n xs (new-links true a b ps) ≡ ups xs)
-        → then R (batch-stop n xs (new-links true a b ps)) ≡ 0
-        → unless R (switch true a b ∷ batch-switches n xs (new-links true a b ps)) ≡ switch true a b ∷ ups xs
+        → by-number R (batch-stop n xs (new-links true a b ps)) (λ q. q) ≡ 0
+        → by-number R (switch true a b ∷ batch-switches n xs (new-links true a b ps)) (λ q. []) ≡ switch true a b ∷ ups xs
     go zero h z = ap {B = List Switch} (λ ss. switch true a b ∷ ss) (h z)
     go (suc q) h z = absurd (omega arith)
 
@@ -84,7 +75,7 @@ record Stop (n : ℕ) (xs : List ℕ) (ps : List Link) (k q : ℕ) : Type 0 wher
   refused : q ≡ up-refusal n (getD xs (2 * k) 0) (getD xs (2 * k + 1) 0) (pairs-after (batch-switches n xs ps) ps)
 
 stop-at : (n : ℕ) (xs : List ℕ) (ps : List Link) → (batch-stop n xs ps ≡ 0 → ⊥) → Stop n xs ps (length (batch-switches n xs ps)) (batch-stop n xs ps)
-unfolding batch-switches batch-stop unless then pairs-after
+unfolding batch-switches batch-stop by-number pairs-after
 stop-at n [] ps h = absurd (h refl)
 stop-at n (a ∷ []) ps h = absurd (h refl)
 stop-at n (a ∷ b ∷ xs) ps h =
@@ -97,11 +88,12 @@ stop-at n (a ∷ b ∷ xs) ps h =
     rest = batch-switches n xs qs
 
     go : (R : ℕ) → up-refusal n a b ps ≡ R → ((batch-stop n xs qs ≡ 0 → ⊥) → Stop n xs qs (length rest) (batch-stop n xs qs))
-        → (then R (batch-stop n xs qs) ≡ 0 → ⊥)
-        → (2 * length (unless R (switch true a b ∷ rest)) + 1 < length (a ∷ b ∷ xs))
-        × (then R (batch-stop n xs qs)
-        ≡ up-refusal n (getD (a ∷ b ∷ xs) (2 * length (unless R (switch true a b ∷ rest))) 0) (getD (a ∷ b ∷ xs) (2 * length (unless R (switch true a b ∷ rest)) + 1) 0)
-        (pairs-after (unless R (switch true a b ∷ rest)) ps))
+        → (by-number R (batch-stop n xs qs) (λ q. q) ≡ 0 → ⊥)
+        → (2 * length (by-number R (switch true a b ∷ rest) (λ q. [])) + 1 < length (a ∷ b ∷ xs))
+        × (by-number R (batch-stop n xs qs) (λ q. q)
+        ≡ up-refusal n (getD (a ∷ b ∷ xs) (2 * length (by-number R (switch true a b ∷ rest) (λ q. []))) 0)
+        (getD (a ∷ b ∷ xs) (2 * length (by-number R (switch true a b ∷ rest) (λ q. [])) + 1) 0)
+        (pairs-after (by-number R (switch true a b ∷ rest) (λ q. [])) ps))
     go zero e rec g =
         let s = rec g in
         let k : 2 * length (switch true a b ∷ rest) ≡ suc (suc (2 * length rest)) = omega arith in
@@ -140,7 +132,7 @@ length-new-links a b ls = length-with-link _ ls
 module _ {n : ℕ} {xs : List ℕ} {t : Tables} {k : ℕ} {u : Tables} where
   pub batch-next : (a b : ℕ) (ys : List ℕ) → Batch-left n xs t k (a ∷ b ∷ ys) u → Good n u → ends-refusal max-neighbours true n a b (graph-in n (u .links)) ≡ 0
       → Batch-left n xs t (k + 1) ys (switched n (switch true a b) u)
-  unfolding batch-stop batch-switches then unless tables-after graph-in relinked
+  unfolding batch-stop batch-switches by-number tables-after graph-in relinked
   batch-next a b ys w g e =
       let f : pairs n (switched n (switch true a b) u) ≡ new-links true a b (pairs n u) =
       ap (λ (h : Graph). h .links) (switched-graph n u g (switch true a b) (ends-zero max-neighbours true a b (graph-in n (u .links)) e)) in
@@ -151,14 +143,15 @@ module _ {n : ℕ} {xs : List ℕ} {t : Tables} {k : ℕ} {u : Tables} where
         links = omega (arith, ap length f, length-new-links a b (pairs n u), w .links);
       }
 
-  pub batch-ended : Batch-left n xs t k [] u → batched (value 0 k) u ≡ links-taken n xs t
+  pub batch-ended : Batch-left n xs t k [] u → tabled (value 0 k) u ≡ links-taken n xs t
   unfolding links-taken batch-stop batch-switches tables-after
   batch-ended w =
       let many : length (batch-switches n xs (pairs n t)) ≡ k = w .count ∙ omega arith in rw (w .stop, many, w .tables)
 
-  pub batch-halted : (a b q : ℕ) (ys : List ℕ) → Batch-left n xs t k (a ∷ b ∷ ys) u → q ≡ ends-refusal max-neighbours true n a b (graph-in n (u .links)) → (q ≡ 0 → ⊥)
-      → batched (value q k) u ≡ links-taken n xs t
-  unfolding links-taken batch-stop batch-switches then unless tables-after graph-in
+  pub batch-halted : (a b q : ℕ) (ys : List ℕ) → Batch-left n xs t k (a ∷ b ∷ ys) u → q ≡ ends-refusal max-neighbours true n a b (graph-in n (u .links)) →
+      (q ≡ 0 → ⊥)
+      → tabled (value q k) u ≡ links-taken n xs t
+  unfolding links-taken batch-stop batch-switches by-number tables-after graph-in
   batch-halted a b zero ys w e h = absurd (h refl)
   batch-halted a b (suc q) ys w e h =
       let stop : batch-stop n xs (pairs n t) ≡ suc q = w .stop ∙ rw (← e) in
@@ -184,8 +177,10 @@ module _ (n : ℕ) (xs : List ℕ) (t : Tables) where
     asked : Good n t × (list-length (length xs) ≡ true)
     unfolding batch-refusal
     asked =
-        let s = site-zero n (lengths-of t) (list-length (length xs)) (sound n t) 0 zero-is .0 in
-        (record { lent = record { least = s .lent .least; most = s .lent .most; lengths = s .lent .lengths; further = refl }; is-sound = s .is-sound }, s .lent .further)
+        let s = site-zero n (lengths-of t) (list-length (length xs)) (sound n t) 0 zero-is .0 in (
+          record { lent = record { least = s .lent .least; most = s .lent .most; lengths = s .lent .lengths; further = refl }; is-sound = s .is-sound },
+          s .lent .further,
+        )
 
     abbrev v : Tables
     v = tables-after n (batch-switches n xs ps) t
@@ -219,19 +214,19 @@ module _ (n : ℕ) (xs : List ℕ) (t : Tables) where
   -- a number beside which a change may stand is that of a link
   pub batch-keeps :
       let o = batch-outcome n xs t in
-      (o .reply .number ≡ 0 → ⊥) → (o ≡ batched (value (o .reply .number) 0) t) ⊎ Batch-stopped n xs t (o .reply) (o .tables)
+      (o .reply .number ≡ 0 → ⊥) → (o ≡ tabled (value (o .reply .number) 0) t) ⊎ Batch-stopped n xs t (o .reply) (o .tables)
   unfolding batch-outcome
   batch-keeps h = go (by-cases {o = batch-outcome n xs t} _ _ _ refl)
     where
-      o : Batched
+      o : Tabled Value
       o = batch-outcome n xs t
 
-      go : ((R ≡ 0) × (o ≡ links-taken n xs t)) ⊎ ((R ≡ 0 → ⊥) × (o ≡ batched (value R 0) t)) →
-          (o ≡ batched (value (o .reply .number) 0) t) ⊎ Batch-stopped n xs t (o .reply) (o .tables)
+      go : ((R ≡ 0) × (o ≡ links-taken n xs t)) ⊎ ((R ≡ 0 → ⊥) × (o ≡ tabled (value R 0) t)) →
+          (o ≡ tabled (value (o .reply .number) 0) t) ⊎ Batch-stopped n xs t (o .reply) (o .tables)
       go (inl (z, e)) =
-          inr (subst (λ (p : Batched). Batch-stopped n xs t (p .reply) (p .tables)) (sym e)
-          (taken-stopped z (λ y. h (ap (λ (p : Batched). p .reply .number) e ∙ y))))
-      go (inr (z, e)) = inl (e ∙ ap (λ (q : ℕ). batched (value q 0) t) (sym (ap (λ (p : Batched). p .reply .number) e)))
+          inr (subst (λ (p : Tabled Value). Batch-stopped n xs t (p .reply) (p .tables)) (sym e)
+          (taken-stopped z (λ y. h (ap (λ (p : Tabled Value). p .reply .number) e ∙ y))))
+      go (inr (z, e)) = inl (e ∙ ap (λ (q : ℕ). tabled (value q 0) t) (sym (ap (λ (p : Tabled Value). p .reply .number) e)))
 
 -- ---- a batch of one link
 
@@ -246,7 +241,6 @@ module _ (n a b : ℕ) (t : Tables) (w : List ℕ) (room : n ≤ length w) where
   S = site-refusal n (lengths-of t) true (sound n t) 0
 
   link-is : L ≡ site-refusal n (lengths-of t) true (sound n t) (ends-refusal max-neighbours true n a b g)
-  unfolding link-refusal
   link-is = rw (true-answer-length n (length w) room)
 
   abbrev Single : Type 0
@@ -256,14 +250,14 @@ module _ (n a b : ℕ) (t : Tables) (w : List ℕ) (room : n ≤ length w) where
 
   -- the link was asked for: taken up, or refused
   taken : (E : ℕ) → ends-refusal max-neighbours true n a b g ≡ E → L ≡ E → S ≡ 0 → Single
-  unfolding link-outcome link-refusal batch-outcome batch-refusal list-length links-taken by-number batch-stop batch-switches then unless
+  unfolding link-outcome batch-outcome batch-refusal list-length links-taken by-number batch-stop batch-switches
       tables-after graph-in sound
   taken zero e l s = rw (l, s, e) (record { number = refl; value = refl; tables = refl })
   taken (suc q) e l s = rw (l, s, e) (record { number = refl; value = rw (ne-eqb (suc q) 0 (λ z. omega arith)) refl; tables = refl })
 
   -- neither was
   refused : (q : ℕ) → L ≡ suc q → S ≡ suc q → Single
-  unfolding link-outcome link-refusal batch-outcome batch-refusal list-length by-number sound
+  unfolding link-outcome batch-outcome batch-refusal list-length by-number sound
   refused q l s = rw (l, s) (record { number = refl; value = rw (ne-eqb (suc q) 0 (λ z. omega arith)) refl; tables = refl })
 
   pub batch-single : Single

@@ -1,30 +1,18 @@
 -- Outcomes on tables that hold the book's pairs: questions 1 to 3 get yes, and the rest is what the graph of the pairs gives.
 --   link-asked                       what the questions of a link call come to
 --   core-by-pairs .. tree-by-pairs   the outcome of each other call that a worked case makes
-use mathlib.Core.Path.{_≡_, refl, ap, _∙_}
-use mathlib.Core.Bool.{Bool, true, _&&_}
-use mathlib.Core.List.{List}
-use Prim.Native.Nat.{ℕ, _+_, _*_, _≤_}
-use lib.ListN.{length}
-use Rattle.mesh.specs.Limits.{max-neighbours, row-bytes}
-use Rattle.lists.specs.Lists.{overwrite}
-use Rattle.mesh.specs.Graph.{Link, Graph, graph}
-use Rattle.mesh.specs.Tables.{Tables, graph-in, tables-of}
-use Rattle.mesh.specs.Sound.{sound}
-use Rattle.mesh.specs.Connected.{core-of, backbone}
-use Rattle.mesh.specs.Tree.{tree, node-names}
-use Rattle.mesh.specs.Image.{image-of}
-use Rattle.mesh.specs.Staircase.{staircase, link-entries}
-use Rattle.mesh.specs.declared.Node.{Node}
-use Rattle.mesh.proofs.Cores.Peeling.{length-numbers}
-use Rattle.mesh.proofs.Tables.Laws.{length-links-table}
-use Rattle.mesh.proofs.Images.Sites.{length-order}
-use Rattle.calls.specs.Questions.{lengths-of, answer-length, nodes-length, image-length, holds-image, ask, ends-refusal, level-refusal, site-refusal}
-use Rattle.calls.specs.Questions.{link-refusal, core-refusal, backbone-refusal, tree-refusal, write-refusal, staircase-length, staircase-refusal}
-use Rattle.calls.specs.Outcomes.{by-number, listing, treed, value, listing-outcome, core-outcome, backbone-outcome, write-outcome, tree-outcome, staircase-outcome}
-use Rattle.calls.proofs.QuestionLaws.{Site-lengths, ask-yes, true-answer-length, true-nodes-length, true-holds-image}
-use Rattle.calls.proofs.ChainLaws.{site-yes}
-use Rattle.calls.proofs.Holds.{Holds, read-back, is-sound}
+use Rattle.lists.specs.{Kit.{_≡_, refl, ap, _∙_, Bool, true, _&&_, List, ℕ, _+_, _*_, _≤_, length}, Lists.{overwrite}}
+use Rattle.mesh.{specs.Limits.{max-neighbours, row-bytes}, specs.Graph.{Link, Graph, graph}, specs.Tables.{Tables, graph-in, tables-of}, specs.Sound.{sound}}
+use Rattle.mesh.{specs.Connected.{core-of, backbone}, specs.Tree.{tree, node-names}, specs.Image.{image-of}, specs.Staircase.{staircase, link-entries}}
+use Rattle.mesh.{specs.declared.Node.{Node}, proofs.Cores.Peeling.{length-numbers}, proofs.Tables.Laws.{length-links-table}, proofs.Images.Sites.{length-order}}
+use Rattle.calls.specs.{Questions.{lengths-of, answer-length, image-length, ask, ends-refusal, site-refusal}}
+use Rattle.calls.specs.{Outcomes.{listing, value, listing-outcome, core-outcome, backbone-outcome, write-outcome, tree-outcome}}
+use Rattle.calls.specs.{Outcomes.{staircase-outcome}}
+use Rattle.calls.proofs.{QuestionLaws.{Site-lengths, ask-yes, true-answer-length, true-nodes-length, true-holds-image}, ChainLaws.{site-yes}}
+use Rattle.calls.proofs.{Holds.{Holds, read-back, is-sound}}
+use Rattle.calls.specs.Chains.{level-refusal, core-refusal, backbone-refusal, tree-refusal, write-refusal, staircase-refusal}
+use Rattle.calls.specs.Questions.{by-number}
+use Rattle.calls.specs.Chains.{nodes-length, holds-image, link-refusal, staircase-length}
 
 module _ (n : ℕ) (ps : List Link) (t : Tables) (k : Holds n ps t) (least : 1 ≤ n) where
   abbrev g : Graph
@@ -51,26 +39,25 @@ module _ (n : ℕ) (ps : List Link) (t : Tables) (k : Holds n ps t) (least : 1 �
   pub link-asked :
       (up : Bool) (a b w : ℕ) → n ≤ w →
       link-refusal up n a b (lengths-of t) w (sound n t) (graph-in n (t .links)) ≡ ends-refusal max-neighbours up n a b g
-  unfolding link-refusal
   link-asked up a b w l = later-asked (answer-length n w) (λ h. ends-refusal max-neighbours up n a b h) (true-answer-length n w l)
 
   pub core-by-pairs :
       (v i : ℕ) (w : List ℕ) → n ≤ length w → let radios = core-of g v i in
       core-outcome n v i t w ≡ listing-outcome (level-refusal n v i g) (length radios) radios w
-  unfolding sound core-outcome core-refusal
+  unfolding sound core-outcome
   core-by-pairs v i w l =
       rw (later-asked (answer-length n (length w)) (λ h. level-refusal n v i h) (true-answer-length n (length w) l), read-back n ps t k)
 
   pub backbone-by-pairs :
       (w : List ℕ) → n ≤ length w → backbone-outcome n t w ≡ listing-outcome 0 (length (backbone g)) (backbone g) w
-  unfolding sound backbone-outcome backbone-refusal
+  unfolding sound backbone-outcome
   backbone-by-pairs w l =
       rw (later-asked (answer-length n (length w)) (λ h. 0) (true-answer-length n (length w) l), read-back n ps t k)
 
   pub write-by-pairs :
       (w : List ℕ) → image-length g ≤ length w →
       write-outcome n t w ≡ listing (value 0 (image-length g)) (overwrite (image-of g (t .order)) w)
-  unfolding sound write-outcome write-refusal listing-outcome by-number
+  unfolding sound write-outcome listing-outcome by-number
   write-by-pairs w l =
       rw (
         later-asked true (λ h. ask 9 (holds-image h (length w)) 0) refl,
@@ -80,8 +67,8 @@ module _ (n : ℕ) (ps : List Link) (t : Tables) (k : Holds n ps t) (least : 1 �
 
   pub tree-by-pairs :
       (m : List Node) (w : List ℕ) → n + 1 ≤ length m → n ≤ length w →
-      tree-outcome n t m w ≡ treed (value 0 (length (tree g))) (overwrite (tree g) m) (overwrite (node-names g) w)
-  unfolding sound tree-outcome tree-refusal by-number
+      tree-outcome n t m w ≡ listing (value 0 (length (tree g))) (overwrite (tree g) m, overwrite (node-names g) w)
+  unfolding sound tree-outcome by-number
   tree-by-pairs m w p q =
       let e : (nodes-length n (length m) && answer-length n (length w)) ≡ true =
       rw (true-nodes-length n (length m) p, true-answer-length n (length w) q) in
@@ -96,5 +83,5 @@ module _ (n : ℕ) (ps : List Link) (t : Tables) (k : Holds n ps t) (least : 1 �
       staircase-outcome n t w
       ≡ listing-outcome (site-refusal n (record { links = row-bytes * n; numbers = n; order = n }) (staircase-length n (length w)) true 0) (length kept)
       (link-entries kept) w
-  unfolding sound staircase-outcome staircase-refusal
+  unfolding sound staircase-outcome
   staircase-by-pairs w = rw (is-sound n ps t k, lengths-are, read-back n ps t k)

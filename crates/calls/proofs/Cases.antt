@@ -1,20 +1,14 @@
 -- Every row of the table of cases is right: computed on pairs and order, and so by `all-by-state` over the contracts' own outcomes.
-use mathlib.Core.Path.{_≡_, refl}
-use mathlib.Core.Bool.{true, false}
-use mathlib.Core.List.{List}
-use Prim.Native.Nat.{ℕ}
-use lib.ListN.{length}
+use Rattle.lists.specs.Kit.{_≡_, refl, true, false, List, ℕ, length}
 use Rattle.mesh.specs.Marks.{store-bytes, marks-in}
-use Rattle.calls.specs.Questions.{ask}
-use Rattle.calls.specs.Marks.{is-marked, has-place}
-use Rattle.calls.specs.Worked.{Right, All-right}
-use Rattle.calls.proofs.WorkedState.{all-state-right, compute}
-use Rattle.calls.proofs.WorkedLaws.{all-by-state}
-use Rattle.calls.specs.Cases.{triangle, two-triangles, two-triangles-tied, cases, m1, m2-before, m2, m3, m4, m5, m6, m7, m8, m9, m10, image-253, image-300, former-32, former-33, staircase-m4}
-use Rattle.calls.specs.Cases.{texts, one-hub, other-hub}
+use Rattle.calls.specs.{Questions.{ask}, Marks.{is-marked, has-place}, Worked.{Right, All-right}, Cases.{triangle, two-triangles, two-triangles-tied}}
+use Rattle.calls.specs.{Cases.{cases, m1, m2-before, m2, m3, m4, m5, m6, m7, m8, m9, m10, image-253, image-300, former-32, former-33, staircase-m4}}
+use Rattle.calls.specs.{Cases.{texts, one-hub, other-hub}}
+use Rattle.calls.proofs.{WorkedState.{all-state-right, compute}, WorkedLaws.{all-by-state}}
 
 computed : all-state-right cases ≡ true
-unfolding compute triangle two-triangles two-triangles-tied cases m1 m2-before m2 m3 m4 m5 m6 m7 m8 m9 m10 image-253 image-300 former-32 former-33 staircase-m4 texts one-hub other-hub
+unfolding compute triangle two-triangles two-triangles-tied cases m1 m2-before m2 m3 m4 m5 m6 m7 m8 m9 m10 image-253 image-300 former-32 former-33 staircase-m4
+    texts one-hub other-hub
 computed = refl
 
 pub cases-right : All-right cases

@@ -5,28 +5,19 @@
 --   ..-zero       a chain that is 0: what was asked holds
 --   ..-yes        the way back
 -- Questions 4 to 7 are `Allowed` of mesh. In order: parts of chains, then the chain of each call.
-use mathlib.Core.Path.{_≡_, _∙_, ap, refl}
-use mathlib.Core.Bool.{Bool, true, _&&_, not, false}
-use mathlib.Core.List.{List}
-use Prim.Native.Nat.{ℕ, _≤_, _<_}
-use native.Mathlib.Omega.{arith}
-use lib.IntN.{ℤ}
-use Rattle.mesh.specs.Limits.{max-radios, max-neighbours}
-use Rattle.mesh.specs.Graph.{Graph, Allowed}
-use Rattle.mesh.specs.Cores.{number}
-use Rattle.mesh.specs.Image.{whole-blocks, checks-good, other-size, is-image}
-use Rattle.lists.proofs.Tests.{and-left, and-right}
-use Rattle.mesh.proofs.Images.OtherSize.{is-image-not-other}
-use Rattle.calls.specs.Questions.{ask, Lengths, size-good, site-lengths, answer-length, are-radios, is-radio, ends-differ, can-switch, has-room}
-use Rattle.calls.specs.Questions.{has-level, image-length, holds-image, lent-refusal, site-refusal, ends-then, ends-refusal, link-refusal, radio-refusal}
-use Rattle.calls.specs.Questions.{pair-refusal, core-refusal, level-refusal, write-refusal, blocks-refusal, source-refusal, image-refusal}
-use Rattle.calls.specs.Questions.{read-refusal, holds-sheet, sheet-refusal, is-proposal, commit-refusal}
-use Rattle.calls.specs.Sheet.{sheet-length}
+use Rattle.lists.{specs.Kit.{_≡_, _∙_, ap, refl, Bool, true, _&&_, not, false, List, ℕ, _≤_, _<_, arith, ℤ}, proofs.Tests.{and-left, and-right}}
+use Rattle.mesh.{specs.Limits.{max-radios, max-neighbours}, specs.Graph.{Graph, Allowed}, specs.Cores.{number}, specs.Image.{whole-blocks, checks-good}}
+use Rattle.mesh.{specs.Image.{other-size, is-image}, proofs.Images.OtherSize.{is-image-not-other}, specs.Sound.{sound}}
+use Rattle.calls.specs.{Questions.{ask, Lengths, size-good, site-lengths, answer-length, are-radios, is-radio, ends-differ, can-switch, has-room}}
+use Rattle.calls.specs.{Questions.{has-level, image-length, lent-refusal, site-refusal, ends-then, ends-refusal}}
+use Rattle.calls.specs.{Questions.{radio-refusal, pair-refusal, blocks-refusal}}
+use Rattle.calls.specs.{Questions.{image-refusal, read-refusal, is-proposal, commit-refusal}, Sheet.{sheet-length}}
 use Rattle.calls.proofs.QuestionLaws.{ask-yes, ask-zero, ask-later, size-good-true, true-size-good, Site-lengths, site-lengths-true, true-site-lengths}
 use Rattle.calls.proofs.QuestionLaws.{is-radio-true, true-is-radio, are-radios-true, true-are-radios, ends-differ-true, true-ends-differ}
 use Rattle.calls.proofs.QuestionLaws.{can-switch-true, true-can-switch, has-room-true, true-has-room, has-level-true, true-has-level, holds-image-true}
 use Rattle.calls.proofs.QuestionLaws.{true-holds-image, holds-sheet-true, true-holds-sheet}
-use Rattle.mesh.specs.Sound.{sound}
+use Rattle.calls.specs.Chains.{core-refusal, level-refusal, write-refusal, sheet-refusal}
+use Rattle.calls.specs.Chains.{holds-image, link-refusal, source-refusal, holds-sheet}
 
 -- ---- 1 and 2
 
@@ -186,7 +177,6 @@ image-yes n bs small g p =
 pub link-zero :
     (up : Bool) (a b : ℕ) (l : Lengths) (w : ℕ) (sound : Bool) (g : Graph) → link-refusal up (g .n) a b l w sound g ≡ 0 →
     Site-good (g .n) l (answer-length (g .n) w) sound × Allowed max-neighbours up a b g
-unfolding link-refusal
 link-zero up a b l w sound g p =
     let q = site-zero (g .n) l (answer-length (g .n) w) sound (ends-refusal max-neighbours up (g .n) a b g) p in
     (q .0, ends-zero max-neighbours up a b g (q .1))
@@ -199,15 +189,6 @@ commit-zero up a b z xs l sound g p =
     let q = site-zero (g .n) l true sound _ p in
     let r = ends-then-zero max-neighbours up (g .n) a b g (ask 16 (is-proposal up a b z xs g) 0) (q .1) in
     (q .0, ends-zero max-neighbours up a b g (r .0), ask-zero 15 (is-proposal up a b z xs g) 0 (r .1) .0)
-
-pub commit-yes :
-    (up : Bool) (a b : ℕ) (z : ℤ) (xs : List ℕ) (l : Lengths) (sound : Bool) (g : Graph) → Site-good (g .n) l true sound →
-    Allowed max-neighbours up a b g → is-proposal up a b z xs g ≡ true → commit-refusal up (g .n) a b z xs l sound g ≡ 0
-unfolding commit-refusal
-commit-yes up a b z xs l sound g s ok p =
-    site-yes (g .n) l true sound _ s
-    ∙ ends-then-yes max-neighbours up (g .n) a b g (ask 16 (is-proposal up a b z xs g) 0) (ends-yes max-neighbours up a b g ok)
-    ∙ ask-yes 16 (is-proposal up a b z xs g) 0 p
 
 pub radio-zero :
     (n v : ℕ) (l : Lengths) (sound : Bool) → radio-refusal n v l sound ≡ 0 → Site-good n l true sound × (v < n)
@@ -238,7 +219,6 @@ pair-yes n a b l sound s p q =
 pub core-zero :
     (n v k : ℕ) (l : Lengths) (w : ℕ) (sound : Bool) (g : Graph) → core-refusal n v k l w sound g ≡ 0 →
     Site-good n l (answer-length n w) sound × (v < n) × (k ≤ number g v)
-unfolding core-refusal level-refusal
 core-zero n v k l w sound g p =
     let q = site-zero n l (answer-length n w) sound (ask 4 (is-radio n v) (ask 8 (has-level g v k) 0)) p in
     let r = ask-zero 3 (is-radio n v) (ask 8 (has-level g v k) 0) (q .1) in
@@ -247,7 +227,6 @@ core-zero n v k l w sound g p =
 pub core-yes :
     (n v k : ℕ) (l : Lengths) (w : ℕ) (sound : Bool) (g : Graph) → Site-good n l (answer-length n w) sound → v < n →
     k ≤ number g v → core-refusal n v k l w sound g ≡ 0
-unfolding core-refusal level-refusal
 core-yes n v k l w sound g s p q =
     site-yes n l (answer-length n w) sound (ask 4 (is-radio n v) (ask 8 (has-level g v k) 0)) s
     ∙ ask-yes 4 (is-radio n v) (ask 8 (has-level g v k) 0) (true-is-radio n v p)
@@ -256,7 +235,6 @@ core-yes n v k l w sound g s p q =
 pub write-zero :
     (n : ℕ) (l : Lengths) (room : ℕ) (sound : Bool) (g : Graph) → write-refusal n l room sound g ≡ 0 →
     Site-good n l true sound × (image-length g ≤ room)
-unfolding write-refusal
 write-zero n l room sound g p =
     let q = site-zero n l true sound (ask 9 (holds-image g room) 0) p in
     (q .0, holds-image-true g room (ask-zero 8 (holds-image g room) 0 (q .1) .0))
@@ -264,20 +242,17 @@ write-zero n l room sound g p =
 pub write-yes :
     (n : ℕ) (l : Lengths) (room : ℕ) (sound : Bool) (g : Graph) → Site-good n l true sound → image-length g ≤ room →
     write-refusal n l room sound g ≡ 0
-unfolding write-refusal
 write-yes n l room sound g s h =
     site-yes n l true sound (ask 9 (holds-image g room) 0) s ∙ ask-yes 9 (holds-image g room) 0 (true-holds-image g room h)
 
 pub sheet-zero :
     (n : ℕ) (l : Lengths) (room : ℕ) (sound : Bool) → sheet-refusal n l room sound ≡ 0 → Site-good n l true sound × (sheet-length n ≤ room)
-unfolding sheet-refusal
 sheet-zero n l room sound p =
     let q = site-zero n l true sound (ask 12 (holds-sheet n room) 0) p in
     (q .0, holds-sheet-true n room (ask-zero 11 (holds-sheet n room) 0 (q .1) .0))
 
 pub sheet-yes :
     (n : ℕ) (l : Lengths) (room : ℕ) (sound : Bool) → Site-good n l true sound → sheet-length n ≤ room → sheet-refusal n l room sound ≡ 0
-unfolding sheet-refusal
 sheet-yes n l room sound s h =
     site-yes n l true sound (ask 12 (holds-sheet n room) 0) s ∙ ask-yes 12 (holds-sheet n room) 0 (true-holds-sheet n room h)
 

@@ -7,13 +7,11 @@
 --   accepted-is, refused-is   what it says where the result has the number 0, which is no refusal, and where it has another
 --   value-refused, value-answered       a contract that answers a value, met
 --   listing-refused, listing-answered   a contract that lists into a lent table, met
-use mathlib.Core.Path.{_≡_, refl, sym, ap, _∙_}
-use mathlib.Core.Logic.{_⊎_, inl, inr}
-use mathlib.Core.List.{List}
-use Prim.Native.Nat.{ℕ, zero, suc}
-use native.Mathlib.Omega.{arith}
-use Rattle.lists.specs.Lists.{overwrite}
-use Rattle.calls.specs.Outcomes.{by-number, value, listing, value-outcome, listing-outcome}
+--   asking-is                 asking by the number that its questions give
+use Rattle.lists.specs.{Kit.{_≡_, refl, sym, ap, _∙_, _⊎_, inl, inr, Bool, List, ℕ, zero, suc, pos, length, arith}, Lists.{overwrite}}
+use Rattle.mesh.specs.{Levels.{changed, step-of}, Tables.{Tables, graph-in}, Sound.{sound}}
+use Rattle.calls.specs.{Questions.{by-number, lengths-of}, Chains.{link-refusal}, declared.Reply.{Reply}}
+use Rattle.calls.specs.Outcomes.{reply, value, Linked, listing, value-outcome, listing-outcome, link-outcome, ask-outcome}
 
 -- ---- by the number
 
@@ -83,3 +81,20 @@ pub listing-answered :
     listing (value 0 y) now ≡ listing-outcome R x new old
 unfolding listing-outcome
 listing-answered R x new old y now e h l = by-accepted R _ e (rw (h, l))
+
+-- ---- asking, by its own questions
+
+pub asking-is :
+    (up : Bool) (n a b : ℕ) (t : Tables) (w : List ℕ) →
+    let g = graph-in n (t .links) in
+    let cs = changed up a b g in
+    ask-outcome up n a b t w
+    ≡ by-number (link-refusal up n a b (lengths-of t) (length w) (sound n t) g)
+    (listing (reply 0 (step-of up cs) (length cs)) (overwrite cs w)) (λ q. listing (reply q (pos 0) 0) w)
+unfolding ask-outcome link-outcome sound by-number
+asking-is up n a b t w = go (link-refusal up n a b (lengths-of t) (length w) (sound n t) (graph-in n (t .links))) _ _
+  where
+    go : (R : ℕ) (x : Linked Reply) (y : ℕ → Linked Reply) → let o = by-number R x y in
+        listing (o .reply) (o .lent) ≡ by-number R (listing (x .reply) (x .lent)) (λ q. listing (y q .reply) (y q .lent))
+    go zero x y = refl
+    go (suc q) x y = refl

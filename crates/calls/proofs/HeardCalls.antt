@@ -1,46 +1,21 @@
 -- What a hearing comes to, on any sound tables, whoever wrote them.
 --   hear-zero        its questions got yes
 --   one-sided-marked, one-sided-bits   the bits of the further table, and their number
---   one-sided-most   there are at most n * n
 --   hear-links       afterwards the links are exactly the agreed ones
 --   hear-right       what a caller has after an accepted hearing (property 2)
 --   hear-same        a table that hears what is linked changes nothing
-use mathlib.Core.Path.{_≡_, refl, sym, ap, ap₂, _∙_}
-use mathlib.Core.Logic.{_⊎_, inl, inr}
-use mathlib.Core.Bool.{Bool, true, false, _&&_, not}
-use mathlib.Core.List.{List, [], _++_, map}
-use Prim.Native.Nat.{ℕ, suc, _*_, _-_, _≤_, _<_}
-use native.Mathlib.Omega.{arith}
-use lib.Dec.{ltb, eqb}
-use lib.ListN.{length}
-use borrow.Author.Tests.{ltb-true, ltb-false, eqb-true}
-use Rattle.mesh.specs.Limits.{max-radios, max-neighbours, row-bytes}
-use Rattle.lists.specs.Lists.{range, count, total}
-use Rattle.mesh.specs.Graph.{Graph, graph, linked}
-use Rattle.mesh.specs.Tables.{Tables, marked, graph-in}
-use Rattle.mesh.specs.Sound.{sound, symmetric, irreflexive, within, row-degree, rows-proper}
-use Rattle.lists.proofs.Tests.{bool-cases, and-left, and-right}
-use Rattle.lists.proofs.Range.{range-in, length-range}
-use Rattle.lists.proofs.Filter.{filter-none}
-use Rattle.lists.proofs.Map.{flatMap-none}
-use Rattle.lists.proofs.Count.{count-le-length}
-use Rattle.lists.proofs.Sums.{total-le, total-cong}
-use Rattle.mesh.proofs.GraphLaws.{linked-sym}
-use Rattle.mesh.proofs.Tables.Laws.{marked-bit-table}
-use Rattle.mesh.proofs.Tables.Rows.{within-of, row-degree-count}
-use Rattle.mesh.proofs.Tables.Soundness.{sound-certificate}
-use Rattle.calls.specs.Questions.{lengths-of}
-use Rattle.calls.specs.Switches.{Switch, switch, tables-after, All-allowed}
-use Rattle.calls.specs.Heard.{agreed, heard-alone, one-sided, one-sided-count, heard-lengths, heard-proper, agreed-few, hear-refusal}
-use Rattle.calls.specs.Heard.{row-switches, switches-where, goes-down, comes-up, heard-switches}
-use Rattle.calls.specs.Outcomes.{value, hear-outcome}
-use Rattle.calls.specs.Results.{Hear-right}
-use Rattle.calls.proofs.QuestionLaws.{ask-zero}
-use Rattle.calls.proofs.ChainLaws.{site-zero}
-use Rattle.calls.proofs.ContractLaws.{by-zero}
-use Rattle.calls.proofs.SoundSwitches.{Good, good-right, all-good}
-use Rattle.calls.proofs.HeardLaws.{agreed-links, agreed-linked, hear-allowed, hear-pairs}
-use Rattle.calls.proofs.HearingLaws.{good-marked, ordered-in}
+use Rattle.lists.{specs.Kit.{_≡_, refl, sym, ap, ap₂, _∙_, _⊎_, inl, inr, Bool, true, false, _&&_, not, List, [], _++_, map, ℕ, suc, _*_, _-_, _≤_, _<_, arith}}
+use Rattle.lists.{specs.Kit.{ltb, eqb, length, ltb-true, ltb-false, eqb-true}, specs.Lists.{range, count, total}, proofs.Tests.{bool-cases, and-left}}
+use Rattle.lists.{proofs.Tests.{and-right}, proofs.Range.{range-in}, proofs.Filter.{filter-none}, proofs.Map.{flatMap-none}}
+use Rattle.lists.{proofs.Sums.{total-cong}}
+use Rattle.mesh.{specs.Limits.{max-radios, max-neighbours, row-bytes}, specs.Graph.{Graph, graph, linked}, specs.Tables.{Tables, marked, graph-in}}
+use Rattle.mesh.{specs.Sound.{sound, symmetric, irreflexive, within, row-degree, rows-proper}, proofs.GraphLaws.{linked-sym}}
+use Rattle.mesh.{proofs.Tables.Laws.{marked-bit-table}, proofs.Tables.Rows.{within-of, row-degree-count}, proofs.Tables.Soundness.{sound-certificate}}
+use Rattle.calls.specs.{Questions.{lengths-of}, Switches.{Switch, switch, tables-after, All-allowed}, Heard.{agreed, heard-alone, one-sided}}
+use Rattle.calls.specs.{Heard.{one-sided-count, heard-lengths, heard-proper, agreed-few, hear-refusal, row-switches, switches-where, goes-down, comes-up}}
+use Rattle.calls.specs.{Heard.{heard-switches}, Outcomes.{value, hear-outcome}, Results.{Hear-right}}
+use Rattle.calls.proofs.{QuestionLaws.{ask-zero}, ChainLaws.{site-zero}, ContractLaws.{by-zero}, SoundSwitches.{Good, good-right, all-good}}
+use Rattle.calls.proofs.{HeardLaws.{agreed-links, agreed-linked, hear-allowed, hear-pairs}, HearingLaws.{good-marked, ordered-in}}
 
 -- ---- the questions
 
@@ -87,14 +62,6 @@ one-sided-bits n hs small p =
     (row-degree-count n (one-sided n hs) a (heard-alone hs a) small
     (λ b lb. one-sided-marked n hs a b la (omega arith))
     (λ b nb lb. one-sided-marked n hs a b la lb ∙ ap (λ (x : Bool). x && not (marked hs b a)) (heard-none n hs p a b la nb lb))))
-
-pub one-sided-most : (n : ℕ) (hs : List ℕ) → one-sided-count n hs ≤ n * n
-unfolding one-sided-count
-one-sided-most n hs =
-    let l = length-range 0 n in
-    let k : total (λ a. count (heard-alone hs a) (range 0 n)) (range 0 n) ≤ n * length (range 0 n) =
-    total-le (λ a. count (heard-alone hs a) (range 0 n)) n (range 0 n) (λ a i. omega (arith, l, count-le-length (heard-alone hs a) (range 0 n))) in
-    rw l at k
 
 -- ---- afterwards
 
@@ -149,7 +116,7 @@ module _ (n : ℕ) (hs : List ℕ) (t : Tables) (w : ℕ) (q : Heard-good n hs w
 
 pub hear-right :
     (n : ℕ) (hs : List ℕ) (t : Tables) (w : List ℕ) → hear-refusal n (lengths-of t) hs (length w) (sound n t) ≡ 0 →
-    let o = hear-outcome n hs t w in Hear-right n hs t (o .tables) (o .reply) (o .one-sided)
+    let o = hear-outcome n hs t w in Hear-right n hs t (o .tables) (o .reply) (o .lent)
 unfolding hear-outcome
 hear-right n hs t w z = rw (by-zero {o = hear-outcome n hs t w} _ _ _ z refl) (accepted-right n hs t (length w) (hear-zero n hs (length w) t z))
 

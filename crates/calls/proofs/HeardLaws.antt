@@ -6,31 +6,16 @@
 --   hear-allowed      questions 4 to 7 of each single call get yes
 --   middle-linked     what is linked after the downs
 --   hear-pairs        the pairs after all of them are the agreed links
-use mathlib.Core.Path.{_≡_, refl, sym, ap, ap₂, _∙_}
-use mathlib.Core.Bool.{Bool, true, false, _&&_, not, cond, and-comm}
-use mathlib.Core.List.{List, [], _∷_, _++_, map, flatMap}
-use Prim.Native.Nat.{ℕ, zero, suc, _+_, _-_, _≤_, _<_}
-use native.Mathlib.Omega.{arith}
-use lib.Dec.{leb}
-use borrow.Author.Tests.{leb-true}
-use Rattle.mesh.specs.Limits.{max-radios, max-neighbours}
-use Rattle.lists.specs.Lists.{range, filter, count}
-use Rattle.mesh.specs.Graph.{Link, Graph, graph, link-of, In-links, radios, linked, neighbours-among, degree}
-use Rattle.mesh.specs.Tables.{marked, bit-table, row-links, graph-in}
-use Rattle.mesh.specs.Sound.{irreflexive}
-use Rattle.lists.proofs.Tests.{never, and-left, and-right}
-use Rattle.lists.proofs.Range.{range-in}
-use Rattle.lists.proofs.Filter.{filter-ext}
-use Rattle.lists.proofs.Count.{count-ext}
-use Rattle.lists.proofs.All.{all-below}
-use Rattle.mesh.proofs.GraphLaws.{linked-sym, linked-self, proper-of}
-use Rattle.mesh.proofs.Tables.Laws.{marked-bit-table}
-use Rattle.mesh.proofs.Tables.Rows.{of-symmetric, of-irreflexive, irreflexive-of}
-use Rattle.mesh.proofs.Tables.ReadBack.{in-graph-in, proper-graph-in, sorted-graph-in, ascending-graph-in, linked-graph-in}
-use Rattle.calls.specs.Switches.{Switch, switch, pairs-after, All-allowed}
-use Rattle.calls.specs.Heard.{agreed, agreed-degree, agreed-few, heard-proper, row-switches, switches-where, goes-down, comes-up, heard-switches}
-use Rattle.calls.proofs.Holds.{all-allowed-append, pairs-after-append}
-use Rattle.calls.proofs.Turns.{Ordered, pairs-eq, Room, switches-of, Turned, turns}
+use Rattle.lists.{specs.Kit.{_≡_, refl, sym, ap, ap₂, _∙_, Bool, true, false, _&&_, not, cond, and-comm, List, [], _∷_, _++_, map, flatMap, ℕ, zero, suc, _+_}}
+use Rattle.lists.{specs.Kit.{_-_, _≤_, _<_, arith, leb, leb-true}, specs.Lists.{range, filter, count}, proofs.Tests.{never, and-left, and-right}}
+use Rattle.lists.{proofs.Range.{range-in}, proofs.Filter.{filter-ext}, proofs.Count.{count-ext}, proofs.All.{all-below}}
+use Rattle.mesh.{specs.Limits.{max-radios, max-neighbours}, specs.Graph.{Link, Graph, graph, link-of, In-links, radios, linked, neighbours-among, degree}}
+use Rattle.mesh.{specs.Tables.{marked, bit-table, row-links, graph-in}, specs.Sound.{irreflexive}, proofs.GraphLaws.{linked-sym, linked-self, proper-of}}
+use Rattle.mesh.{proofs.Tables.Laws.{marked-bit-table}, proofs.Tables.Rows.{of-symmetric, of-irreflexive, irreflexive-of}, proofs.Tables.ReadBack.{in-graph-in}}
+use Rattle.mesh.{proofs.Tables.ReadBack.{proper-graph-in, sorted-graph-in, ascending-graph-in, linked-graph-in}}
+use Rattle.calls.specs.{Switches.{Switch, switch, pairs-after, All-allowed}, Heard.{agreed, agreed-degree, agreed-few, heard-proper, row-switches}}
+use Rattle.calls.specs.{Heard.{switches-where, goes-down, comes-up, heard-switches}}
+use Rattle.calls.proofs.{Holds.{all-allowed-append, pairs-after-append}, Turns.{Ordered, pairs-eq, Room, switches-of, Turned, turns}}
 
 -- ---- links that pass a test
 

@@ -7,35 +7,17 @@
 --   row-end           the row is done
 --   downs-end, ups-end   all rows are done
 --   downs-row, ups-row   which radios of a row are switched, by the rows as they are then
-use mathlib.Core.Path.{_≡_, refl, sym, ap, ap₂, subst, _∙_}
-use mathlib.Core.Logic.{inl, inr}
-use mathlib.Core.Bool.{Bool, true, false, _&&_, not, cond}
-use mathlib.Core.List.{List, [], _∷_, _++_, map, flatMap, append-assoc, append-nil}
-use Prim.Native.Nat.{ℕ, suc, _-_, _≤_, _<_}
-use native.Mathlib.Omega.{arith}
-use lib.ListN.{length, take, length-append}
-use lib.Seq.{take-append-seam}
-use Rattle.mesh.specs.Limits.{max-neighbours}
-use Rattle.lists.specs.Lists.{range, filter, In, Ascending}
-use Rattle.mesh.specs.Graph.{Link, Graph, graph, linked, relinked, new-links}
-use Rattle.mesh.specs.Tables.{Tables, marked, graph-in}
-use Rattle.mesh.specs.Sound.{sound, symmetric, irreflexive, few, rows-proper}
-use Rattle.lists.proofs.Tests.{and-left, and-right}
-use Rattle.lists.proofs.Range.{range-in}
-use Rattle.lists.proofs.Filter.{filter-ext, filter-filter}
-use Rattle.mesh.proofs.GraphLaws.{Ends, ends, ends-of}
-use Rattle.mesh.proofs.Tables.Laws.{marked-put-link}
-use Rattle.mesh.proofs.Tables.ReadBack.{proper-graph-in, ascending-graph-in, linked-graph-in}
-use Rattle.mesh.proofs.Tables.Soundness.{sound-certificate}
-use Rattle.calls.specs.Questions.{lengths-of, ends-refusal}
-use Rattle.calls.specs.Switches.{Switch, switch, pairs-after, switched, tables-after, All-allowed}
-use Rattle.calls.specs.Heard.{agreed, agreed-few, heard-proper, row-switches, switches-where, goes-down, comes-up, heard-switches}
-use Rattle.calls.specs.Hearing.{Left, Phase, rows-from, Rows-left, Row-left, downs, ups}
-use Rattle.calls.proofs.ChainLaws.{ends-yes}
-use Rattle.calls.proofs.Holds.{tables-after-append}
-use Rattle.calls.proofs.SoundSwitches.{Good, switched-graph, all-good}
-use Rattle.calls.proofs.Turns.{Ordered}
-use Rattle.calls.proofs.HeardLaws.{hear-allowed, downs-pairs, middle-linked}
+use Rattle.lists.{specs.Kit.{_≡_, refl, sym, ap, ap₂, subst, _∙_, inl, inr, Bool, true, false, _&&_, not, cond, List, [], _∷_, _++_, map, flatMap}}
+use Rattle.lists.{specs.Kit.{append-assoc, append-nil, ℕ, suc, _-_, _≤_, _<_, arith, length, take, length-append, take-append-seam}, specs.Lists.{range}}
+use Rattle.lists.{specs.Lists.{filter, In, Ascending}, proofs.Tests.{and-left, and-right}, proofs.Range.{range-in}, proofs.Filter.{filter-ext, filter-filter}}
+use Rattle.mesh.{specs.Limits.{max-neighbours}, specs.Graph.{Link, Graph, graph, linked, relinked, new-links}, specs.Tables.{Tables, marked, graph-in}}
+use Rattle.mesh.{specs.Sound.{sound, symmetric, irreflexive, few, rows-proper}, proofs.GraphLaws.{Ends, ends, ends-of}, proofs.Tables.Laws.{marked-put-link}}
+use Rattle.mesh.{proofs.Tables.ReadBack.{proper-graph-in, ascending-graph-in, linked-graph-in}, proofs.Tables.Soundness.{sound-certificate}}
+use Rattle.calls.specs.{Questions.{lengths-of, ends-refusal}, Switches.{Switch, switch, pairs-after, switched, tables-after, All-allowed}, Heard.{agreed}}
+use Rattle.calls.specs.{Heard.{agreed-few, heard-proper, row-switches, switches-where, goes-down, comes-up, heard-switches}, Hearing.{Left, Phase}}
+use Rattle.calls.specs.{Hearing.{rows-from, Rows-left, Row-left, downs, ups}}
+use Rattle.calls.proofs.{ChainLaws.{ends-yes}, Holds.{tables-after-append}, SoundSwitches.{Good, switched-graph, all-good}, Turns.{Ordered}}
+use Rattle.calls.proofs.{HeardLaws.{hear-allowed, downs-pairs, middle-linked}}
 
 -- ---- sound tables
 

@@ -4,28 +4,15 @@
 --   Past-holds         so does the link history, and the history of each mark some tables
 --   past-step          one call keeps it
 --   past-kept          so does every run
-use mathlib.Core.Path.{_≡_, refl, sym, ap, ap₂, subst, _∙_}
-use mathlib.Core.Bool.{Bool, true, false, _&&_, cond}
-use mathlib.Core.List.{List, [], _∷_, _++_}
-use mathlib.Core.Option.{Option, none, some}
-use Prim.Native.Nat.{ℕ, zero, suc, _≤_}
-use Rattle.mesh.specs.Limits.{max-radios}
-use Rattle.lists.specs.Lists.{same}
-use Rattle.lists.proofs.All.{same-refl, same-eq}
-use Rattle.lists.proofs.Tests.{and-right}
-use Rattle.mesh.specs.Graph.{Link, Graph, graph}
-use Rattle.mesh.specs.Tables.{Tables, tables-of, graph-in}
-use Rattle.mesh.specs.Image.{image-of, image-graph, image-order, is-image}
-use Rattle.mesh.proofs.Images.Sites.{read-written-graph, read-written-order}
-use Rattle.calls.specs.Questions.{Lengths, lengths-of}
-use Rattle.calls.specs.Switches.{Switch, pairs-after, tables-after}
-use Rattle.calls.specs.Book.{Beginning, from-clearing, from-image, Marking, no-mark, sets, removes, returns, Outcome, Given, given, Answer, outcome, booked, first-pairs, pairs-of}
-use Rattle.calls.specs.Book.{book-after, beginning-pairs, radios, beginning-tables, History, fresh, history-by, image-at, Marked, Past, past, is-mark, struck, replacing, recalled, marked-by, past-by, past-after}
-use Rattle.calls.specs.Runs.{Event, event, givens}
-use Rattle.calls.proofs.Runs.{Run, ended, next}
-use Rattle.calls.specs.Demand.{By-history, Call-kept}
-use Rattle.calls.proofs.Holds.{Holds, read-back, pairs-after-append, tables-after-append}
-use Rattle.calls.proofs.Steps.{Stepped, step}
+use Rattle.lists.{specs.Kit.{_≡_, refl, sym, ap, ap₂, subst, _∙_, Bool, true, false, _&&_, cond, List, [], _∷_, Option, none, some, ℕ}, specs.Lists.{same}}
+use Rattle.lists.{proofs.All.{same-eq}, proofs.Tests.{and-right}}
+use Rattle.mesh.{specs.Graph.{Link, Graph, graph}, specs.Tables.{Tables, tables-of, graph-in}, specs.Image.{image-of, image-graph, image-order}}
+use Rattle.mesh.{proofs.Images.Sites.{read-written-graph, read-written-order}}
+use Rattle.calls.specs.{Questions.{lengths-of}, Switches.{Switch, pairs-after, tables-after}, Book.{Beginning, Marking, no-mark, sets, removes, returns}}
+use Rattle.calls.specs.{Book.{Outcome, Answer, outcome, booked, first-pairs, pairs-of, book-after, beginning-pairs, beginning-tables, History}}
+use Rattle.calls.specs.{Book.{history-by, image-at, Marked, Past, matches, struck, replacing, recalled, marked-by, past-by, past-after}, Runs.{Event}}
+use Rattle.calls.specs.{Runs.{givens}, Demand.{By-history, Call-kept}}
+use Rattle.calls.proofs.{Runs.{Run, ended, next}, Holds.{Holds, read-back, pairs-after-append, tables-after-append}, Steps.{Stepped, step}}
 
 -- ---- a history, its pairs and its tables
 
@@ -42,7 +29,8 @@ order-is n ps t k = ap (λ (o : Tables). o .order) (k .is)
 pub image-is : (n : ℕ) (h : History) (ps : List Link) (t : Tables) (k : Traced n h ps t) → image-at h ≡ image-of (graph n ps) (k .holds .xs)
 unfolding image-at
 image-is n h ps t k =
-    ap (λ (m : ℕ). image-of (graph-in m (tables-after m (h .calls) (beginning-tables (h .began)) .links)) (tables-after m (h .calls) (beginning-tables (h .began)) .order))
+    ap (λ (m : ℕ). image-of (graph-in m (tables-after m (h .calls) (beginning-tables (h .began)) .links))
+    (tables-after m (h .calls) (beginning-tables (h .began)) .order))
     (k .by .size)
     ∙ ap (λ (v : Tables). image-of (graph-in n (v .links)) (v .order)) (sym (k .by .tables))
     ∙ ap₂ image-of (read-back n ps t (k .holds)) (order-is n ps t (k .holds))
@@ -86,7 +74,7 @@ Marks-hold n (m ∷ ms) = Marked-holds n m × Marks-hold n ms
 struck-hold : (n : ℕ) (x i : List ℕ) (ms : List Marked) → Marks-hold n ms → Marks-hold n (struck x i ms)
 unfolding struck
 struck-hold n x i [] k = tt
-struck-hold n x i (m ∷ ms) k = go (is-mark x i m) (struck-hold n x i ms (k .1))
+struck-hold n x i (m ∷ ms) k = go (matches x i m) (struck-hold n x i ms (k .1))
   where
     go : (b : Bool) → Marks-hold n (struck x i ms) → Marks-hold n (cond b ms (m ∷ struck x i ms))
     go true r = k .1
@@ -100,10 +88,10 @@ replacing-hold n x (some i) ms k = struck-hold n x i ms k
 -- the history recalled makes what the mark's image does
 recalled-traced :
     (n : ℕ) (x : List ℕ) (h : History) (ps : List Link) (t : Tables) (ms : List Marked) → Traced n h ps t → Marks-hold n ms → Traced n (recalled x h ms) ps t
-unfolding recalled is-mark
+unfolding recalled matches
 recalled-traced n x h ps t [] k l = k
 recalled-traced n x h ps t (m ∷ ms) k l =
-    go (is-mark x (image-at h) m) refl (recalled-traced n x h ps t ms k (l .1))
+    go (matches x (image-at h) m) refl (recalled-traced n x h ps t ms k (l .1))
   where
     go : (b : Bool) → same (m .name) x && same (image-at (m .history)) (image-at h) ≡ b → Traced n (recalled x h ms) ps t →
         Traced n (cond b (m .history) (recalled x h ms)) ps t

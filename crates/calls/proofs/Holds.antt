@@ -3,34 +3,16 @@
 --   clear-holds, read-holds   so they do after an accepted clearing or reading
 --   site-asked        question 3 gets yes of them, and later questions are put to the book's pairs
 --   all-holds, all-switching   where links are allowed in turn, the tables hold the pairs after them, and each keeps what a link call keeps
-use mathlib.Core.Path.{_≡_, refl, ap, sym, subst, _∙_}
-use mathlib.Core.Bool.{Bool, true}
-use mathlib.Core.List.{List, [], _∷_, _++_}
-use Prim.Native.Nat.{ℕ, _≤_}
-use lib.ListN.{length}
-use Rattle.mesh.specs.Limits.{max-radios, max-neighbours}
-use Rattle.lists.specs.Lists.{range}
-use Rattle.mesh.specs.Graph.{Link, Graph, graph, relinked, new-links, Allowed}
-use Rattle.mesh.specs.Levels.{changed, new-order}
-use Rattle.mesh.specs.Tables.{Tables, graph-in, tables-of}
-use Rattle.mesh.specs.Sound.{sound}
-use Rattle.mesh.specs.Image.{image-graph, image-links, image-order}
-use Rattle.mesh.proofs.Cores.Peeling.{length-numbers}
-use Rattle.mesh.proofs.Tables.Laws.{links-table-cleared}
-use Rattle.mesh.proofs.Tables.ReadBack.{graph-in-links-table}
-use Rattle.mesh.proofs.Tables.Soundness.{valid-sound}
-use Rattle.mesh.proofs.Tables.Sites.{valid-cleared, numbers-cleared, image-valid}
-use Rattle.mesh.proofs.Links.Laws.{link-valid, link-table}
-use Rattle.mesh.specs.Valid.{Valid}
-use Rattle.calls.specs.Questions.{lengths-of, site-refusal, tables-refusal, read-refusal}
-use Rattle.calls.specs.Switches.{Switch, pairs-after, switched, tables-after, All-allowed}
-use Rattle.calls.specs.Outcomes.{numbered, clear-outcome, read-outcome}
-use Rattle.calls.specs.Book.{reported, from-clearing, from-image, beginning-tables}
-use Rattle.calls.specs.Demand.{Link-kept, Switching, ended, next}
-use Rattle.calls.proofs.ChainLaws.{Lent-good, lent-zero, lent-later, read-zero}
-use Rattle.calls.proofs.ContractLaws.{by-zero}
-use Rattle.calls.proofs.RecordLaws.{tables-ext}
-use Rattle.calls.proofs.LinkKept.{link-kept}
+use Rattle.lists.specs.{Kit.{_≡_, refl, ap, sym, subst, _∙_, Bool, true, List, [], _∷_, _++_, ℕ, _≤_, length}, Lists.{range}}
+use Rattle.mesh.{specs.Limits.{max-radios, max-neighbours}, specs.Graph.{Link, Graph, graph, relinked, new-links, Allowed}, specs.Levels.{changed, new-order}}
+use Rattle.mesh.{specs.Tables.{Tables, graph-in, tables-of}, specs.Sound.{sound}, specs.Image.{image-graph, image-links, image-order}}
+use Rattle.mesh.{proofs.Cores.Peeling.{length-numbers}, proofs.Tables.Laws.{links-table-cleared}, proofs.Tables.ReadBack.{graph-in-links-table}}
+use Rattle.mesh.{proofs.Tables.Soundness.{valid-sound}, proofs.Tables.Sites.{valid-cleared, numbers-cleared, image-valid}, proofs.Links.Laws.{link-valid}}
+use Rattle.mesh.{proofs.Links.Laws.{link-table}, specs.Valid.{Valid}}
+use Rattle.calls.specs.{Questions.{lengths-of, site-refusal, tables-refusal, read-refusal}, Switches.{Switch, pairs-after, switched, tables-after}}
+use Rattle.calls.specs.{Switches.{All-allowed}, Outcomes.{tabled, clear-outcome, read-outcome}, Book.{reported, from-clearing, from-image}}
+use Rattle.calls.specs.{Book.{beginning-tables}, Demand.{Link-kept, Switching, ended, next}}
+use Rattle.calls.proofs.{ChainLaws.{Lent-good, lent-zero, lent-later, read-zero}, ContractLaws.{by-zero}, RecordLaws.{tables-ext}, LinkKept.{link-kept}}
 
 pub record Holds (n : ℕ) (ps : List Link) (t : Tables) : Type 0 where
   pub most : n ≤ max-radios
@@ -41,12 +23,12 @@ pub record Holds (n : ℕ) (ps : List Link) (t : Tables) : Type 0 where
 -- ---- after an accepted clearing or reading
 
 -- the tables that it leaves
-pub clear-is : (m : ℕ) (t : Tables) → tables-refusal m (lengths-of t) ≡ 0 → clear-outcome m t ≡ numbered 0 (beginning-tables (from-clearing m))
+pub clear-is : (m : ℕ) (t : Tables) → tables-refusal m (lengths-of t) ≡ 0 → clear-outcome m t ≡ tabled 0 (beginning-tables (from-clearing m))
 unfolding clear-outcome beginning-tables tables-of
 clear-is m t p = by-zero _ _ _ p refl ∙ rw (links-table-cleared m, numbers-cleared m)
 
 pub read-is :
-    (m : ℕ) (bs : List ℕ) (t : Tables) → read-refusal m (lengths-of t) bs ≡ 0 → read-outcome m bs t ≡ numbered 0 (beginning-tables (from-image m bs))
+    (m : ℕ) (bs : List ℕ) (t : Tables) → read-refusal m (lengths-of t) bs ≡ 0 → read-outcome m bs t ≡ tabled 0 (beginning-tables (from-image m bs))
 unfolding read-outcome beginning-tables
 read-is m bs t p = by-zero _ _ _ p refl
 
@@ -127,7 +109,8 @@ module _ (n : ℕ) (ps : List Link) (t : Tables) (k : Holds n ps t) where
 
 -- ---- links one after the other
 
-pub all-holds : (n : ℕ) (ps : List Link) (ss : List Switch) (t : Tables) → Holds n ps t → All-allowed n ps ss → Holds n (pairs-after ss ps) (tables-after n ss t)
+pub all-holds : (n : ℕ) (ps : List Link) (ss : List Switch) (t : Tables) → Holds n ps t → All-allowed n ps ss → Holds n (pairs-after ss ps)
+    (tables-after n ss t)
 unfolding All-allowed pairs-after tables-after
 all-holds n ps [] t k ok = k
 all-holds n ps (s ∷ ss) t k ok = all-holds n _ ss (switched n s t) (switched-holds n ps t k s (ok .0)) (ok .1)

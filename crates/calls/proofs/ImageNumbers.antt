@@ -2,24 +2,13 @@
 --   image-answered   the image of sound tables with this n, with another n, or of none
 --   eleven-iff       11 is the answer to bytes that are the image of no sound tables, and to no others
 --   read-eleven      so it is of the number that reading answers
-use mathlib.Core.Path.{_≡_, refl, subst, _∙_}
-use mathlib.Core.Logic.{_↔_, _⊎_, inl, inr}
-use mathlib.Core.Bool.{Bool, true, false, not}
-use mathlib.Core.List.{List}
-use Prim.Native.Nat.{ℕ}
-use native.Mathlib.Omega.{arith}
-use lib.Dec.{eqb}
-use borrow.Author.Tests.{eqb-true, eqb-false}
-use Rattle.mesh.specs.Tables.{Tables}
-use Rattle.mesh.specs.Image.{whole-blocks, checks-good, is-image, other-size, Tables-image, Image-of-none}
-use Rattle.lists.proofs.Tests.{bool-cases, never}
-use Rattle.mesh.proofs.Images.Tables.{is-image-tables}
-use Rattle.mesh.proofs.Images.OtherSize.{other-size-iff, is-image-not-other}
-use Rattle.calls.specs.Questions.{ask, lengths-of, size-good, site-lengths, lent-refusal, blocks-refusal, image-refusal, read-refusal}
-use Rattle.calls.specs.Outcomes.{Numbered, read-outcome}
-use Rattle.calls.specs.Results.{Image-answered}
-use Rattle.calls.proofs.QuestionLaws.{size-good-true}
-use Rattle.calls.proofs.ContractLaws.{number-by}
+use Rattle.lists.{specs.Kit.{_≡_, refl, subst, _∙_, _↔_, _⊎_, inl, inr, Bool, true, false, not, List, ℕ, arith, eqb, eqb-true, eqb-false}}
+use Rattle.lists.{proofs.Tests.{bool-cases, never}}
+use Rattle.mesh.{specs.Tables.{Tables}, specs.Image.{whole-blocks, checks-good, is-image, other-size, Tables-image, Image-of-none}}
+use Rattle.mesh.{proofs.Images.Tables.{is-image-tables}, proofs.Images.OtherSize.{other-size-iff, is-image-not-other}}
+use Rattle.calls.specs.{Questions.{ask, lengths-of, size-good, site-lengths, lent-refusal, blocks-refusal, image-refusal, read-refusal}}
+use Rattle.calls.specs.{Outcomes.{Tabled, read-outcome}, Results.{Image-answered}}
+use Rattle.calls.proofs.{QuestionLaws.{size-good-true}, ContractLaws.{number-by}}
 
 module _ (n : ℕ) (bs : List ℕ) (one : size-good n ≡ true) where
   of-this-size : (is-image n bs ≡ true) ↔ Tables-image n bs
@@ -68,4 +57,4 @@ pub read-eleven :
 unfolding read-outcome read-refusal lent-refusal image-refusal blocks-refusal ask
 read-eleven n bs t one two nine ten =
     answered n bs one (other-size n bs) (is-image n bs) _ refl refl
-    (number-by (λ (o : Numbered). o .reply) (read-refusal n (lengths-of t) bs) _ _ refl (λ q. refl) ∙ rw (one, two, nine, ten))
+    (number-by (λ (o : Tabled ℕ). o .reply) (read-refusal n (lengths-of t) bs) _ _ refl (λ q. refl) ∙ rw (one, two, nine, ten))

@@ -1,27 +1,18 @@
 -- The question for one link that lifts a radio: how its contract is met.
 --   lift-zero, lift-twenty         when the chain gives 0, and when 20
 --   lift-refused, lift-unanswered, lift-answered   refused by 1 to 4; by 20; the first pair
-use mathlib.Core.Path.{_≡_, refl, sym, ap, _∙_}
-use mathlib.Core.Bool.{Bool, true, false, _&&_}
-use mathlib.Core.List.{[]}
-use Prim.Native.Nat.{ℕ, _<_}
-use native.Mathlib.Omega.{arith}
-use Rattle.mesh.specs.Graph.{link-of, Graph}
-use Rattle.mesh.specs.Tables.{Tables, graph-in}
-use Rattle.mesh.specs.Sound.{sound}
-use Rattle.calls.specs.Questions.{Lengths, lengths-of, ask, is-radio, size-good, site-lengths, lent-refusal, site-refusal, radio-refusal}
-use Rattle.calls.specs.Lift.{lifting, first-pair, is-lifted, lift-refusal}
-use Rattle.calls.specs.LiftOutcome.{pair, lift-outcome}
-use Rattle.calls.specs.Contracts.{Lift-contract}
-use Rattle.calls.proofs.QuestionLaws.{ask-zero, ask-yes, ask-no, is-radio-true}
-use Rattle.calls.proofs.ContractLaws.{by-accepted, by-refused}
-use Rattle.calls.proofs.ChainLaws.{Site-good, site-zero, site-yes}
+use Rattle.lists.specs.Kit.{_≡_, refl, sym, ap, _∙_, Bool, true, false, _&&_, [], ℕ, _<_, arith}
+use Rattle.mesh.specs.{Graph.{link-of, Graph}, Tables.{Tables, graph-in}, Sound.{sound}}
+use Rattle.calls.specs.{Questions.{Lengths, lengths-of, ask, is-radio, size-good, site-lengths, lent-refusal, site-refusal, radio-refusal}}
+use Rattle.calls.specs.{Lift.{lifting, first-pair, is-lifted}, LiftOutcome.{pair, lift-outcome}, Contracts.{Lift-contract}}
+use Rattle.calls.proofs.{QuestionLaws.{ask-zero, ask-yes, ask-no, is-radio-true}, ContractLaws.{by-accepted, by-refused}, ChainLaws.{Site-good}}
+use Rattle.calls.proofs.{ChainLaws.{site-zero, site-yes}}
+use Rattle.calls.specs.Chains.{lift-refusal}
 
 -- ---- the chain
 
 pub lift-zero : (n v : ℕ) (l : Lengths) (sound : Bool) (g : Graph) → lift-refusal n v l sound g ≡ 0
     → Site-good n l true sound × (v < n) × (is-lifted (lifting g v) ≡ true)
-unfolding lift-refusal
 lift-zero n v l sound g e =
     let p = site-zero n l true sound (ask 4 (is-radio n v) (ask 20 (is-lifted (lifting g v)) 0)) e in
     let q = ask-zero 3 (is-radio n v) (ask 20 (is-lifted (lifting g v)) 0) (p .1) in
@@ -29,7 +20,7 @@ lift-zero n v l sound g e =
 
 -- a chain that stops at 1 to 4 does not ask further; one that does not, asks 20
 lift-stops : (n v : ℕ) (l : Lengths) (sound : Bool) (g : Graph) → (radio-refusal n v l sound ≡ 0 → ⊥) → lift-refusal n v l sound g ≡ radio-refusal n v l sound
-unfolding lift-refusal radio-refusal site-refusal lent-refusal ask
+unfolding radio-refusal site-refusal lent-refusal ask
 lift-stops n v l sound g h = go (size-good n) (site-lengths n l && true) sound (is-radio n v) h
   where
     last : ℕ
@@ -44,7 +35,7 @@ lift-stops n v l sound g h = go (size-good n) (site-lengths n l && true) sound (
     go false b c d k = refl
 
 lift-asks : (n v : ℕ) (l : Lengths) (sound : Bool) (g : Graph) → radio-refusal n v l sound ≡ 0 → lift-refusal n v l sound g ≡ ask 20 (is-lifted (lifting g v)) 0
-unfolding lift-refusal radio-refusal
+unfolding radio-refusal
 lift-asks n v l sound g e =
     let p = site-zero n l true sound (ask 4 (is-radio n v) 0) e in
     site-yes n l true sound (ask 4 (is-radio n v) (ask 20 (is-lifted (lifting g v)) 0)) (p .0)
@@ -53,7 +44,7 @@ lift-asks n v l sound g e =
 -- the chain gives 20 only at its last question
 pub lift-twenty : (n v : ℕ) (l : Lengths) (sound : Bool) (g : Graph) → lift-refusal n v l sound g ≡ 20
     → (radio-refusal n v l sound ≡ 0) × (is-lifted (lifting g v) ≡ false)
-unfolding lift-refusal radio-refusal site-refusal lent-refusal ask
+unfolding radio-refusal site-refusal lent-refusal ask
 lift-twenty n v l sound g = go (size-good n) (site-lengths n l && true) sound (is-radio n v) (is-lifted (lifting g v))
   where
     go : (a b c d e : Bool) → ask 1 a (ask 2 b (ask 3 c (ask 4 d (ask 20 e 0)))) ≡ 20 → (ask 1 a (ask 2 b (ask 3 c (ask 4 d 0))) ≡ 0) × (e ≡ false)

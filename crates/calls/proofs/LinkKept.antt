@@ -1,29 +1,14 @@
 -- What an accepted link call on a valid site keeps, as demand 3 states it: the theory of mesh, said of tables.
-use mathlib.Core.Path.{_≡_, refl, sym, _∙_}
-use mathlib.Core.Logic.{_⊎_, inl, inr}
-use mathlib.Core.Bool.{Bool, true, false}
-use mathlib.Core.List.{List}
-use Prim.Native.Nat.{ℕ, suc, _≤_, _<_}
-use native.Mathlib.Omega.{arith}
-use lib.Dec.{ltb}
-use lib.ListN.{length, List·getD-eq-default}
-use borrow.Author.Tests.{ltb-true, ltb-false}
-use Rattle.mesh.specs.Limits.{max-radios, max-neighbours}
-use Rattle.lists.specs.Lists.{member}
-use Rattle.mesh.specs.Graph.{Graph, relinked, Allowed}
-use Rattle.mesh.specs.Cores.{number, numbers}
-use Rattle.mesh.specs.Levels.{changed, lower-level, new-order}
-use Rattle.mesh.specs.Tables.{tables-of}
-use Rattle.mesh.specs.Sound.{number-in}
-use Rattle.lists.proofs.Tests.{bool-cases}
-use Rattle.mesh.proofs.Cores.Peeling.{length-numbers, getD-numbers}
-use Rattle.mesh.specs.Valid.{Valid, smaller, larger}
-use Rattle.mesh.proofs.Links.Call.{changed-below, unchanged-number}
-use Rattle.mesh.proofs.Links.Laws.{link-level, link-by-one, link-connected, link-has-end, link-below, link-above, link-stretch, link-table}
-use Rattle.calls.specs.Book.{reported}
-use Rattle.calls.specs.Demand.{By-one, graph-with-link, Changed-end, Link-kept}
+use Rattle.lists.{specs.Kit.{_≡_, refl, sym, _∙_, _⊎_, inl, inr, Bool, true, false, List, ℕ, suc, _≤_, _<_, arith, ltb, length, List·getD-eq-default, ltb-true}}
+use Rattle.lists.{specs.Kit.{ltb-false}, specs.Lists.{member}, proofs.Tests.{bool-cases}}
+use Rattle.mesh.{specs.Limits.{max-radios, max-neighbours}, specs.Graph.{Graph, relinked, Allowed}, specs.Cores.{number, numbers}, specs.Levels.{changed}}
+use Rattle.mesh.{specs.Levels.{lower-level, new-order}, specs.Tables.{tables-of}, specs.Sound.{number-in}, proofs.Cores.Peeling.{length-numbers, getD-numbers}}
+use Rattle.mesh.{specs.Valid.{Valid, smaller, larger}, proofs.Links.Call.{changed-below, unchanged-number}, proofs.Links.Laws.{link-level, link-by-one}}
+use Rattle.mesh.{proofs.Links.Laws.{link-connected, link-has-end, link-below, link-above, link-stretch, link-table}}
+use Rattle.calls.specs.{Book.{reported}, Demand.{By-one, graph-with-link, Changed-end, Link-kept}}
 
-by-one-at : (u : Bool) (a b : ℕ) (g : Graph) (x : ℕ) → number (larger u a b g) x ≡ suc (number (smaller u a b g) x) → By-one u (number g x) (number (relinked u a b g) x)
+by-one-at : (u : Bool) (a b : ℕ) (g : Graph) (x : ℕ) → number (larger u a b g) x ≡ suc (number (smaller u a b g) x) → By-one u (number g x)
+    (number (relinked u a b g) x)
 unfolding By-one larger smaller
 by-one-at true a b g x e = e
 by-one-at false a b g x e = e

@@ -6,40 +6,25 @@
 --   mark-is-image, mark-read   a mark that the store has holds an image of sound tables, which reading takes
 --   return-right      after an accepted coming back: what reading the mark's image leaves
 --   return-restores   coming back to a mark restores links, numbers and order as they were when it was set
-use mathlib.Core.Path.{_≡_, refl, sym, ap, _∙_}
-use mathlib.Core.Logic.{_⊎_, inl, inr}
-use mathlib.Core.Bool.{Bool, true, false, _||_, cond}
-use mathlib.Core.List.{List, [], _∷_}
-use Prim.Native.Nat.{ℕ, zero, suc, _+_, _≤_}
-use native.Mathlib.Omega.{arith}
-use lib.Dec.{ltb}
-use lib.ListN.{length}
-use borrow.Author.Tests.{eqb-true, ltb-true}
-use Rattle.mesh.specs.Limits.{max-radios}
-use Rattle.lists.specs.Lists.{same, Entries-below}
-use Rattle.mesh.specs.Cores.{numbers}
-use Rattle.mesh.specs.Tables.{Tables, tables-of, graph-in}
-use Rattle.mesh.specs.Sound.{sound}
-use Rattle.mesh.specs.Image.{image-of, image-graph, image-order, is-image, whole-blocks, checks-good}
-use Rattle.mesh.proofs.Images.Of.{whole-blocks-image-of, checks-good-image-of}
-use Rattle.mesh.proofs.Images.Sites.{written-read}
-use Rattle.mesh.specs.Marks.{places, store-bytes, before, is-name, is-store, name-in, image-in, place-of, marks-in, store-of, has-mark, found, with-mark, without-mark}
-use Rattle.lists.proofs.Tests.{and-left, and-right, or-cases, never}
-use Rattle.mesh.specs.Tables.{Tables-of-size}
-use Rattle.mesh.proofs.Images.Tables.{is-image-sound, tables-read-written}
-use Rattle.mesh.proofs.Marks.Lists.{rising-with, has-mark-with-same, found-with-same, found-with-other, has-mark-with-other, length-with, rising-without, has-mark-without-same, found-without-other, has-mark-without-other, length-without, found-mark}
-use Rattle.mesh.proofs.Marks.Rules.{store-good-iff}
-use Rattle.mesh.proofs.Marks.Laws.{Marks, marks-store-of, length-store-of, is-store-of, Store-marks, store-marks, Place-mark, place-mark, mark-place}
-use Rattle.calls.specs.Questions.{ask, Lengths, lengths-of, read-refusal}
-use Rattle.calls.specs.Outcomes.{by-number, Numbered, read-outcome}
-use Rattle.calls.specs.MarkOutcomes.{Stored, stored, store-outcome, set-outcome, remove-outcome, return-outcome}
-use Rattle.calls.specs.Results.{Read-right}
-use Rattle.calls.specs.MarkResults.{Store-right, Set-right, Removed-right, Same-mark}
-use Rattle.calls.specs.Marks.{store-length, marks-good, is-marked, has-place, mark-refusal, set-refusal, named-refusal, set-store, removed-store, mark-image}
-use Rattle.calls.proofs.QuestionLaws.{ask-zero}
-use Rattle.calls.proofs.ChainLaws.{Site-good, site-zero, Blocks-good, read-yes}
-use Rattle.calls.proofs.ContractLaws.{accepted-is, by-zero}
-use Rattle.calls.proofs.Accepted.{read-right}
+use Rattle.lists.{specs.Kit.{_≡_, refl, sym, ap, _∙_, _⊎_, inl, inr, Bool, true, false, _||_, cond, List, [], _∷_, ℕ, zero, suc, _+_, _≤_, arith, ltb, length}}
+use Rattle.lists.{specs.Kit.{eqb-true, ltb-true}, specs.Lists.{same, Entries-below}, proofs.Tests.{and-left, and-right, or-cases, never}}
+use Rattle.mesh.{specs.Limits.{max-radios}, specs.Cores.{numbers}, specs.Tables.{Tables, tables-of, graph-in, Tables-of-size}, specs.Sound.{sound}}
+use Rattle.mesh.{specs.Image.{image-of, image-graph, image-order, is-image, whole-blocks, checks-good}, proofs.Images.Of.{whole-blocks-image-of}}
+use Rattle.mesh.{proofs.Images.Of.{checks-good-image-of}, proofs.Images.Sites.{written-read}, specs.Marks.{places, store-bytes, before, is-name, is-store}}
+use Rattle.mesh.{specs.Marks.{name-in, image-in, place-of, marks-in, store-of, has-mark, found, with-mark, without-mark}, proofs.Images.Tables.{is-image-sound}}
+use Rattle.mesh.{proofs.Images.Tables.{tables-read-written}, proofs.Marks.Lists.{rising-with, has-mark-with-same, found-with-same, found-with-other}}
+use Rattle.mesh.{proofs.Marks.Lists.{has-mark-with-other, length-with, rising-without, has-mark-without-same, found-without-other, has-mark-without-other}}
+use Rattle.mesh.{proofs.Marks.Lists.{length-without, found-mark}, proofs.Marks.Rules.{store-good-iff}, proofs.Marks.Laws.{Marks, marks-store-of}}
+use Rattle.mesh.{proofs.Marks.Laws.{length-store-of, is-store-of, Store-marks, store-marks, Place-mark, place-mark, mark-place}}
+use Rattle.calls.specs.{Questions.{ask, Lengths, lengths-of, read-refusal}, Outcomes.{Tabled, read-outcome}}
+use Rattle.calls.specs.{MarkOutcomes.{store-outcome, set-outcome, remove-outcome, return-outcome}, Results.{Read-right}, MarkResults.{Store-right}}
+use Rattle.calls.specs.{MarkResults.{Set-right, Removed-right, Same-mark}, Marks.{store-length, marks-good, is-marked, has-place, mark-refusal}}
+use Rattle.calls.specs.{Marks.{set-refusal, named-refusal, mark-image}}
+use Rattle.calls.proofs.{QuestionLaws.{ask-zero}, ChainLaws.{Site-good, site-zero, Blocks-good, read-yes}, ContractLaws.{accepted-is, by-zero}}
+use Rattle.calls.proofs.{Accepted.{read-right}}
+use Rattle.calls.specs.Questions.{by-number}
+use Rattle.calls.specs.Outcomes.{Listing, listing}
+use Rattle.calls.specs.Chains.{set-store, removed-store}
 
 -- ---- questions
 
@@ -48,7 +33,8 @@ pub record Mark-asked (n : ℕ) (l : Lengths) (sound : Bool) (x bs : List ℕ) :
   pub store : Store-marks n bs
   pub name : is-name x ≡ true
 
-pub mark-zero : (n : ℕ) (l : Lengths) (sound : Bool) (x bs : List ℕ) (later : ℕ) → mark-refusal n l sound x bs later ≡ 0 → Mark-asked n l sound x bs × (later ≡ 0)
+pub mark-zero : (n : ℕ) (l : Lengths) (sound : Bool) (x bs : List ℕ) (later : ℕ) → mark-refusal n l sound x bs later ≡ 0 → Mark-asked n l sound x bs ×
+    (later ≡ 0)
 unfolding mark-refusal marks-good store-length
 mark-zero n l sound x bs later p =
     let q = site-zero n l (store-length bs) sound (ask 17 (marks-good n x bs) later) p in
@@ -70,9 +56,9 @@ unfolding named-refusal
 named-zero n l sound x bs p = let q = mark-zero n l sound x bs _ p in (q .0, ask-zero 17 (is-marked x bs) 0 (q .1) .0)
 
 -- the number 0 is no refusal
-store-is : (R : ℕ) (new old : List ℕ) → store-outcome R new old .reply ≡ 0 → (R ≡ 0) × (store-outcome R new old ≡ stored 0 new)
+store-is : (R : ℕ) (new old : List ℕ) → store-outcome R new old .reply ≡ 0 → (R ≡ 0) × (store-outcome R new old ≡ listing 0 new)
 unfolding store-outcome
-store-is R new old z = accepted-is (λ (o : Stored). o .reply) (store-outcome R new old) R _ _ (λ q. refl) refl z
+store-is R new old z = accepted-is (λ (o : Listing ℕ (List ℕ)). o .reply) (store-outcome R new old) R _ _ (λ q. refl) refl z
 
 -- ---- setting
 
@@ -105,8 +91,8 @@ set-marks n x image ps m k name room =
     go (inl h) l f = omega (arith, rw h at l)
     go (inr h) l f = omega (arith, ltb-true (length ps) places h)
 
-pub set-right : (n : ℕ) (x : List ℕ) (t : Tables) (bs : List ℕ) → let o = set-outcome n x t bs in o .reply ≡ 0 → Set-right n x t bs (o .store)
-unfolding set-outcome set-store has-place is-marked mark-image
+pub set-right : (n : ℕ) (x : List ℕ) (t : Tables) (bs : List ℕ) → let o = set-outcome n x t bs in o .reply ≡ 0 → Set-right n x t bs (o .lent)
+unfolding set-outcome has-place is-marked mark-image
 set-right n x t bs z =
     let a = store-is (set-refusal n (lengths-of t) (sound n t) x bs) (set-store n x t bs) bs z in
     let q = set-zero n (lengths-of t) (sound n t) x bs (a .0) in
@@ -127,8 +113,8 @@ set-right n x t bs z =
 
 -- ---- removing
 
-pub removed-right : (n : ℕ) (x : List ℕ) (t : Tables) (bs : List ℕ) → let o = remove-outcome n x t bs in o .reply ≡ 0 → Removed-right n x bs (o .store)
-unfolding remove-outcome removed-store is-marked
+pub removed-right : (n : ℕ) (x : List ℕ) (t : Tables) (bs : List ℕ) → let o = remove-outcome n x t bs in o .reply ≡ 0 → Removed-right n x bs (o .lent)
+unfolding remove-outcome is-marked
 removed-right n x t bs z =
     let a = store-is (named-refusal n (lengths-of t) (sound n t) x bs) (removed-store x bs) bs z in
     let q = named-zero n (lengths-of t) (sound n t) x bs (a .0) in
@@ -150,11 +136,11 @@ removed-right n x t bs z =
 same-mark : (y bs : List ℕ) → Same-mark y bs bs
 same-mark y bs = record { there = refl; place = refl }
 
-set-others : (n : ℕ) (x : List ℕ) (t : Tables) (bs y : List ℕ) → same x y ≡ false → Same-mark y bs (set-outcome n x t bs .store)
-unfolding set-outcome store-outcome by-number set-store is-marked has-place
+set-others : (n : ℕ) (x : List ℕ) (t : Tables) (bs y : List ℕ) → same x y ≡ false → Same-mark y bs (set-outcome n x t bs .lent)
+unfolding set-outcome store-outcome by-number is-marked has-place
 set-others n x t bs y h = go (set-refusal n (lengths-of t) (sound n t) x bs) refl
   where
-    go : (R : ℕ) → set-refusal n (lengths-of t) (sound n t) x bs ≡ R → Same-mark y bs (store-outcome R (set-store n x t bs) bs .store)
+    go : (R : ℕ) → set-refusal n (lengths-of t) (sound n t) x bs ≡ R → Same-mark y bs (store-outcome R (set-store n x t bs) bs .lent)
     go zero e =
         let q = set-zero n (lengths-of t) (sound n t) x bs e in
         let image = image-of (graph-in n (t .links)) (t .order) in
@@ -167,11 +153,11 @@ set-others n x t bs y h = go (set-refusal n (lengths-of t) (sound n t) x bs) ref
         record { there = ap (has-mark y) f ∙ has-mark-with-other y p (marks-in bs) o; place = ap (found y) f ∙ found-with-other y p (marks-in bs) o }
     go (suc z) e = same-mark y bs
 
-removed-others : (n : ℕ) (x : List ℕ) (t : Tables) (bs y : List ℕ) → same x y ≡ false → Same-mark y bs (remove-outcome n x t bs .store)
-unfolding remove-outcome store-outcome by-number removed-store is-marked
+removed-others : (n : ℕ) (x : List ℕ) (t : Tables) (bs y : List ℕ) → same x y ≡ false → Same-mark y bs (remove-outcome n x t bs .lent)
+unfolding remove-outcome store-outcome by-number is-marked
 removed-others n x t bs y h = go (named-refusal n (lengths-of t) (sound n t) x bs) refl
   where
-    go : (R : ℕ) → named-refusal n (lengths-of t) (sound n t) x bs ≡ R → Same-mark y bs (store-outcome R (removed-store x bs) bs .store)
+    go : (R : ℕ) → named-refusal n (lengths-of t) (sound n t) x bs ≡ R → Same-mark y bs (store-outcome R (removed-store x bs) bs .lent)
     go zero e =
         let m = named-zero n (lengths-of t) (sound n t) x bs e .0 .store .marks in
         let few = m .few in
@@ -184,7 +170,7 @@ removed-others n x t bs y h = go (named-refusal n (lengths-of t) (sound n t) x b
 -- setting or removing another name
 pub other-marks :
     (n : ℕ) (x : List ℕ) (t : Tables) (bs y : List ℕ) → same x y ≡ false →
-    Same-mark y bs (set-outcome n x t bs .store) × Same-mark y bs (remove-outcome n x t bs .store)
+    Same-mark y bs (set-outcome n x t bs .lent) × Same-mark y bs (remove-outcome n x t bs .lent)
 other-marks n x t bs y h = (set-others n x t bs y h, removed-others n x t bs y h)
 
 -- ---- coming back
@@ -211,7 +197,8 @@ pub mark-read :
 mark-read n l sound x bs a h =
     let g = a .site .lent in
     let i = mark-is-image n x bs (a .store .marks) h in
-    read-yes n l (mark-image n x bs) (record { least = g .least; most = g .most; lengths = g .lengths; further = refl }) (image-blocks n (mark-image n x bs) i) i
+    read-yes n l (mark-image n x bs) (record { least = g .least; most = g .most; lengths = g .lengths; further = refl }) (image-blocks n (mark-image n x bs) i)
+    i
 
 -- accepted: the tables of the mark's image, which are what reading it leaves
 pub return-right :
@@ -220,17 +207,17 @@ pub return-right :
 unfolding return-outcome read-outcome
 return-right n x bs t z =
     let image = mark-image n x bs in
-    let a = accepted-is (λ (o : Numbered). o .reply) (return-outcome n x bs t) _ _ _ (λ q. refl) refl z in
+    let a = accepted-is (λ (o : Tabled ℕ). o .reply) (return-outcome n x bs t) _ _ _ (λ q. refl) refl z in
     let q = named-zero n (lengths-of t) (sound n t) x bs (a .0) in
     let same : return-outcome n x bs t ≡ read-outcome n image t =
     a .1 ∙ sym (by-zero _ _ _ (mark-read n (lengths-of t) (sound n t) x bs (q .0) (q .1)) refl) in
-    (same, rw same (read-right n image t (ap (λ (o : Numbered). o .reply) (sym same) ∙ z)))
+    (same, rw same (read-right n image t (ap (λ (o : Tabled ℕ). o .reply) (sym same) ∙ z)))
 
 -- set with the tables t, later the store has the same place under that name: coming back restores t. That their links are bytes is all that
 -- is asked of them
 pub return-restores :
     (n : ℕ) (x : List ℕ) (t u : Tables) (bs ds : List ℕ) → Entries-below 256 (t .links) → let o = set-outcome n x t bs in o .reply ≡ 0 →
-    Same-mark x (o .store) ds → return-outcome n x ds u .reply ≡ 0 → return-outcome n x ds u .tables ≡ t
+    Same-mark x (o .lent) ds → return-outcome n x ds u .reply ≡ 0 → return-outcome n x ds u .tables ≡ t
 unfolding mark-image return-outcome set-outcome lengths-of
 return-restores n x t u bs ds bytes z s y =
     let k = set-right n x t bs z in
@@ -239,7 +226,7 @@ return-restores n x t u bs ds bytes z s y =
     let l = site .lent .lengths in
     let size : Tables-of-size n t = record { links-length = l .links; numbers-length = l .numbers; order-length = l .order; links-bytes = bytes } in
     let e : mark-image n x ds ≡ image-of (graph-in n (t .links)) (t .order) = ap (image-in n) (s .place) ∙ k .image in
-    let r = accepted-is (λ (o : Numbered). o .reply) (return-outcome n x ds u) _ _ _ (λ q. refl) refl y in
-    ap (λ (o : Numbered). o .tables) (r .1)
+    let r = accepted-is (λ (o : Tabled ℕ). o .reply) (return-outcome n x ds u) _ _ _ (λ q. refl) refl y in
+    ap (λ (o : Tabled ℕ). o .tables) (r .1)
     ∙ ap (λ (o : List ℕ). tables-of (image-graph n o) (image-order n o)) e
     ∙ tables-read-written n t (site .lent .most) size (site .is-sound)

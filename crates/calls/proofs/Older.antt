@@ -4,28 +4,17 @@
 --   older-other    an older image with another n gets 15, where it got 11
 --   older          all calls
 -- In order: a chain whose last question gets another answer, link calls, images, calls that only read.
-use mathlib.Core.Path.{_≡_, refl, sym, _∙_}
-use mathlib.Core.Bool.{Bool, true, false, not}
-use mathlib.Core.List.{List}
-use Prim.Native.Nat.{ℕ}
-use native.Mathlib.Omega.{arith}
-use lib.ListN.{length}
-use Rattle.mesh.specs.Limits.{max-neighbours, former-neighbours}
-use Rattle.mesh.specs.Graph.{Graph}
-use Rattle.mesh.specs.Tables.{Tables, graph-in}
-use Rattle.mesh.specs.Sound.{sound-within}
-use Rattle.mesh.specs.Image.{other-size, is-image-within, is-image}
-use Rattle.mesh.proofs.Tables.Older.{sound-within-more, older-image}
-use Rattle.mesh.proofs.Images.Tables.{valid-graph-in, is-image-within-sound, is-image-tables}
-use Rattle.mesh.proofs.Images.OtherSize.{other-size-iff, is-image-not-other}
-use Rattle.calls.specs.Questions.{ask, Lengths, lengths-of, size-good, are-radios, has-room, lent-refusal, site-refusal, ends-refusal}
-use Rattle.calls.specs.Questions.{link-refusal-within, blocks-refusal, source-refusal, image-refusal, read-refusal}
-use Rattle.calls.specs.Outcomes.{by-number, Numbered, numbered, Linked, read-outcome, link-outcome-within, link-outcome, check-outcome, number-outcome, neighbours-outcome}
-use Rattle.calls.specs.Outcomes.{linked-outcome, first-outcome, core-outcome, backbone-outcome, write-outcome, tree-outcome, later-outcome, sheet-outcome, staircase-outcome}
-use Rattle.calls.specs.Outcomes.{script-length-outcome, script-outcome}
-use Rattle.calls.specs.Older.{Was-sound, Reads-as-then, former-read-refusal, former-read-outcome, Older}
-use Rattle.calls.proofs.ContractLaws.{number-by}
-use Rattle.calls.proofs.QuestionLaws.{size-good-true, are-radios-true, has-room-true, true-has-room}
+use Rattle.lists.specs.Kit.{_≡_, refl, sym, _∙_, Bool, true, false, not, List, ℕ, arith, length}
+use Rattle.mesh.{specs.Limits.{max-neighbours, former-neighbours}, specs.Graph.{Graph}, specs.Tables.{Tables, graph-in}, specs.Sound.{sound}}
+use Rattle.mesh.{specs.Image.{other-size, is-image-within, is-image}, proofs.Tables.Older.{sound-within-more, older-image}}
+use Rattle.mesh.{proofs.Images.Tables.{valid-graph-in, is-image-within-sound, is-image-tables}, proofs.Images.OtherSize.{other-size-iff, is-image-not-other}}
+use Rattle.calls.specs.{Questions.{ask, Lengths, lengths-of, size-good, are-radios, has-room, lent-refusal, site-refusal, ends-refusal}}
+use Rattle.calls.specs.{Questions.{by-number, link-refusal-within, blocks-refusal, image-refusal, read-refusal}, Outcomes.{Tabled}}
+use Rattle.calls.specs.{Outcomes.{tabled, Linked, read-outcome, link-outcome-within, link-outcome}, Older.{Was-sound}}
+use Rattle.calls.specs.{Older.{former-read-refusal, former-read-outcome, Older}}
+use Rattle.calls.proofs.{ContractLaws.{number-by}, QuestionLaws.{size-good-true, are-radios-true, has-room-true, true-has-room}}
+use Rattle.calls.specs.declared.Reply.{Reply}
+use Rattle.calls.specs.Chains.{source-refusal}
 
 -- ---- a chain whose last question gets another answer
 
@@ -46,7 +35,8 @@ unfolding ask
 ask-passed q true z x f e = (refl, e)
 ask-passed q false z x f e = absurd (f e)
 
-now-sound : (n : ℕ) (t : Tables) → Was-sound n t → sound-within max-neighbours n t ≡ true
+now-sound : (n : ℕ) (t : Tables) → Was-sound n t → sound n t ≡ true
+unfolding sound
 now-sound n t h = sound-within-more former-neighbours max-neighbours n t (omega arith) h
 
 -- ---- link calls
@@ -91,17 +81,17 @@ module _ (up : Bool) (n a b : ℕ) (t : Tables) (w : List ℕ) (were : Was-sound
       rw (one .0, two .0, four .0, five .0, six .0, room) all-yes
 
   number-then : link-outcome-within former-neighbours up n a b t w .reply .number ≡ asked former-neighbours
-  number-then = rw were (number-by (λ (o : Linked). o .reply .number) (asked former-neighbours) _ _ refl (λ q. refl))
+  number-then = rw were (number-by (λ (o : Linked Reply). o .reply .number) (asked former-neighbours) _ _ refl (λ q. refl))
 
   number-now : link-outcome up n a b t w .reply .number ≡ asked max-neighbours
-  unfolding link-outcome
-  number-now = rw (now-sound n t were) (number-by (λ (o : Linked). o .reply .number) (asked max-neighbours) _ _ refl (λ q. refl))
+  unfolding link-outcome sound
+  number-now = rw (now-sound n t were) (number-by (λ (o : Linked Reply). o .reply .number) (asked max-neighbours) _ _ refl (λ q. refl))
 
   pub older-call :
       ((link-outcome-within former-neighbours up n a b t w .reply .number ≡ 7 → ⊥) →
       link-outcome up n a b t w ≡ link-outcome-within former-neighbours up n a b t w)
       × (link-outcome-within former-neighbours up n a b t w .reply .number ≡ 7 → link-outcome up n a b t w .reply .number ≡ 0)
-  unfolding link-outcome
+  unfolding link-outcome sound
   older-call = (
     λ h. rw (were, now-sound n t were, same-unless-seven (λ e. h (number-then ∙ e))),
     λ e. number-now ∙ seven-taken (sym number-then ∙ e),
@@ -129,7 +119,7 @@ same-unless-eleven n bs l =
 
 number-former : (n : ℕ) (bs : List ℕ) (t : Tables) → former-read-outcome n bs t .reply ≡ former-read-refusal n (lengths-of t) bs
 unfolding former-read-outcome
-number-former n bs t = number-by (λ (o : Numbered). o .reply) (former-read-refusal n (lengths-of t) bs) _ _ refl (λ q. refl)
+number-former n bs t = number-by (λ (o : Tabled ℕ). o .reply) (former-read-refusal n (lengths-of t) bs) _ _ refl (λ q. refl)
 
 pub older-read :
     (n : ℕ) (bs : List ℕ) (t : Tables) → (former-read-outcome n bs t .reply ≡ 11 → ⊥) → read-outcome n bs t ≡ former-read-outcome n bs t
@@ -152,7 +142,7 @@ fifteen-for-eleven n bs l o e =
 
 pub older-other :
     (m n : ℕ) (bs : List ℕ) (t : Tables) → size-good m ≡ true → (m ≡ n → ⊥) → is-image-within former-neighbours m bs ≡ true →
-    former-read-outcome n bs t .reply ≡ 11 → read-outcome n bs t ≡ numbered 15 t
+    former-read-outcome n bs t .reply ≡ 11 → read-outcome n bs t ≡ tabled 15 t
 unfolding read-outcome by-number
 older-other m n bs t s d i e =
     let small = size-good-true m s .1 in
@@ -162,31 +152,11 @@ older-other m n bs t s d i e =
 
 -- ---- all calls
 
-reads-as-then :
-    (n : ℕ) (t : Tables) → Was-sound n t → Reads-as-then n t (graph-in n (t .links)) (lengths-of t) (sound-within former-neighbours n t)
-unfolding check-outcome number-outcome neighbours-outcome linked-outcome first-outcome later-outcome core-outcome backbone-outcome staircase-outcome write-outcome tree-outcome sheet-outcome script-length-outcome script-outcome
-reads-as-then n t s = record {
-  check = rw (s, now-sound n t s);
-  number = λ v. rw (s, now-sound n t s);
-  neighbours = λ v. rw (s, now-sound n t s);
-  linked = λ a b. rw (s, now-sound n t s);
-  first = λ a b. rw (s, now-sound n t s);
-  later = λ v. rw (s, now-sound n t s);
-  core = λ v k w. rw (s, now-sound n t s);
-  backbone = λ w. rw (s, now-sound n t s);
-  staircase = λ w. rw (s, now-sound n t s);
-  tree = λ m w. rw (s, now-sound n t s);
-  image-write = λ w. rw (s, now-sound n t s);
-  sheet = λ w. rw (s, now-sound n t s);
-  script-length = rw (s, now-sound n t s);
-  script = λ w. rw (s, now-sound n t s);
-}
-
 pub older : Older
 older = record {
   link = λ up n a b t w s. older-call up n a b t w s .0;
   seven = λ up n a b t w s. older-call up n a b t w s .1;
-  reads = reads-as-then;
+  reads = now-sound;
   image-written = λ n t l s. is-image-within-sound former-neighbours n t l (omega arith) s;
   image = older-image;
   image-read = older-read;

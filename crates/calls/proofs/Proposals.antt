@@ -5,30 +5,17 @@
 --   commit-iff         committing is accepted exactly if asking now would be, with this step and this list
 --   commit-number      what it is refused by: the number that asking would get, else 16
 -- Asking and committing see the tables as they now are, so a proposal made before other calls is good exactly if it is still true.
-use mathlib.Core.Path.{_≡_, refl, sym, ap, _∙_}
-use mathlib.Core.Logic.{_⊎_, inl, inr, _↔_}
-use mathlib.Core.Bool.{Bool, true, false, _&&_}
-use mathlib.Core.List.{List}
-use Prim.Native.Nat.{ℕ, _≤_}
-use native.Mathlib.Omega.{arith}
-use lib.IntN.{ℤ, pos, negsuc}
-use lib.ListN.{length, take}
-use borrow.Author.Tests.{eqb-true, eq-eqb}
-use Rattle.mesh.specs.Limits.{max-radios, max-neighbours}
-use Rattle.lists.specs.Lists.{same, overwrite}
-use Rattle.mesh.specs.Graph.{Graph}
-use Rattle.mesh.specs.Levels.{changed, step-of}
-use Rattle.mesh.specs.Tables.{Tables, graph-in}
-use Rattle.mesh.specs.Sound.{sound}
-use Rattle.lists.proofs.All.{same-refl, same-eq}
-use Rattle.lists.proofs.Overwrite.{take-overwrite}
-use Rattle.lists.proofs.Tests.{bool-cases, never, and-left, and-right, and-both}
-use Rattle.calls.specs.Questions.{ask, lengths-of, answer-length, site-lengths, size-good, same-step, is-proposal, lent-refusal, site-refusal}
-use Rattle.calls.specs.Questions.{ends-then, ends-refusal, link-refusal, commit-refusal}
-use Rattle.calls.specs.Outcomes.{reply, linked-with, Asked, asked, Committed, link-outcome, ask-outcome, commit-outcome}
-use Rattle.calls.proofs.QuestionLaws.{ask-yes, ask-no, ask-zero, ask-later, size-good-true, true-answer-length}
-use Rattle.calls.proofs.ChainLaws.{site-zero, site-yes, ends-then-zero, ends-then-yes, ends-then-no}
-use Rattle.calls.proofs.ContractLaws.{number-by, by-zero, by-other}
+use Rattle.lists.{specs.Kit.{_≡_, refl, sym, ap, _∙_, _⊎_, inl, inr, _↔_, Bool, true, false, _&&_, List, ℕ, _≤_, arith, ℤ, pos, negsuc, length, take, eqb-true}}
+use Rattle.lists.{specs.Kit.{eq-eqb}, specs.Lists.{same, overwrite}, proofs.All.{same-refl, same-eq}, proofs.Overwrite.{take-overwrite}}
+use Rattle.lists.{proofs.Tests.{bool-cases, never, and-left, and-right, and-both}}
+use Rattle.mesh.specs.{Limits.{max-radios, max-neighbours}, Graph.{Graph}, Levels.{changed, step-of}, Tables.{Tables, graph-in}, Sound.{sound}}
+use Rattle.calls.specs.{Questions.{ask, lengths-of, answer-length, site-lengths, size-good, same-step, is-proposal, lent-refusal, site-refusal}}
+use Rattle.calls.specs.{Questions.{ends-then, ends-refusal, commit-refusal}, Outcomes.{reply, linked-with, Listing, listing, Tabled}}
+use Rattle.calls.specs.{Outcomes.{link-outcome, ask-outcome, commit-outcome}}
+use Rattle.calls.proofs.{QuestionLaws.{ask-yes, ask-no, ask-zero, ask-later, size-good-true, true-answer-length}, ChainLaws.{site-zero, site-yes}}
+use Rattle.calls.proofs.{ChainLaws.{ends-then-zero, ends-then-yes, ends-then-no}, ContractLaws.{asking-is, number-by, by-zero, by-other}}
+use Rattle.calls.specs.declared.Reply.{Reply}
+use Rattle.calls.specs.Chains.{link-refusal}
 
 -- ---- question 16
 
@@ -95,17 +82,15 @@ module _ (up : Bool) (n a b : ℕ) (t : Tables) where
       go false j k s = refl
 
   link-asking : (w : ℕ) → answer-length n w ≡ true → link-refusal up n a b (lengths-of t) w (sound n t) g ≡ asking
-  unfolding link-refusal
   link-asking w e = rw e
 
   -- an answer table for as many radios as a site may have is long enough for any n that question 1 takes
   link-any : (w : ℕ) → max-radios ≤ w → link-refusal up n a b (lengths-of t) w (sound n t) g ≡ asking
-  unfolding link-refusal site-refusal lent-refusal
+  unfolding site-refusal lent-refusal
   link-any w l =
       ask-later 1 (size-good n) _ _ (λ p. let e : answer-length n w ≡ true = true-answer-length n w (omega (arith, size-good-true n p .1)) in rw e)
 
   link-long : (w : ℕ) → link-refusal up n a b (lengths-of t) w (sound n t) g ≡ 0 → answer-length n w ≡ true
-  unfolding link-refusal
   link-long w e = site-zero n (lengths-of t) (answer-length n w) (sound n t) (ends-refusal max-neighbours up n a b g) e .0 .lent .further
 
   -- the number of a committing by that of a link call with a long enough answer table
@@ -119,7 +104,7 @@ module _ (up : Bool) (n a b : ℕ) (t : Tables) where
   -- the number of a committing is the one that its questions give
   committed-number : (z : ℤ) (xs : List ℕ) → commit-outcome up n a b z xs t .reply .number ≡ committing z xs
   unfolding commit-outcome
-  committed-number z xs = number-by (λ (o : Committed). o .reply .number) (committing z xs) _ _ refl (λ q. refl)
+  committed-number z xs = number-by (λ (o : Tabled Reply). o .reply .number) (committing z xs) _ _ refl (λ q. refl)
 
   -- committing what asking gives
   same-proposal : asking ≡ 0 → committing (step-of up cs) cs ≡ 0
@@ -130,16 +115,14 @@ module _ (up : Bool) (n a b : ℕ) (t : Tables) where
     abbrev R : ℕ
     R = link-refusal up n a b (lengths-of t) (length w) (sound n t) g
 
-    abbrev q : Asked
+    abbrev q : Listing Reply (List ℕ)
     q = ask-outcome up n a b t w
 
     asked-number : q .reply .number ≡ R
-    unfolding ask-outcome
-    asked-number = number-by (λ (o : Asked). o .reply .number) R _ _ refl (λ p. refl)
+    asked-number = rw (asking-is up n a b t w) (number-by (λ (o : Listing Reply (List ℕ)). o .reply .number) R _ _ refl (λ p. refl))
 
-    asked-is : q .reply .number ≡ 0 → q ≡ asked (reply 0 (step-of up cs) (length cs)) (overwrite cs w)
-    unfolding ask-outcome
-    asked-is z = by-zero {o = q} R _ _ (sym asked-number ∙ z) refl
+    asked-is : q .reply .number ≡ 0 → q ≡ listing (reply 0 (step-of up cs) (length cs)) (overwrite cs w)
+    asked-is z = by-zero {o = q} R _ _ (sym asked-number ∙ z) (asking-is up n a b t w)
 
     asking-zero : q .reply .number ≡ 0 → asking ≡ 0
     asking-zero z = let e : R ≡ 0 = sym asked-number ∙ z in sym (link-asking (length w) (link-long (length w) e)) ∙ e
@@ -147,28 +130,28 @@ module _ (up : Bool) (n a b : ℕ) (t : Tables) where
     -- step and list are what asking gives: 16 gets yes
     proposed :
         q .reply .number ≡ 0 → (z : ℤ) (xs : List ℕ) →
-        (is-proposal up a b z xs g ≡ true) ↔ ((z ≡ q .reply .step) × (xs ≡ take (q .reply .count) (q .answer)))
+        (is-proposal up a b z xs g ≡ true) ↔ ((z ≡ q .reply .step) × (xs ≡ take (q .reply .count) (q .lent)))
     proposed e z xs = rw (asked-is e, take-overwrite cs w) (proposal-iff up a b z xs g)
 
     pub two-steps :
-        q .reply .number ≡ 0 → let r = commit-outcome up n a b (q .reply .step) (take (q .reply .count) (q .answer)) t in
-        (r .reply ≡ q .reply) × (linked-with (r .reply) (r .tables) (q .answer) ≡ link-outcome up n a b t w)
-    unfolding commit-outcome link-outcome link-refusal sound
+        q .reply .number ≡ 0 → let r = commit-outcome up n a b (q .reply .step) (take (q .reply .count) (q .lent)) t in
+        (r .reply ≡ q .reply) × (linked-with (r .reply) (r .tables) (q .lent) ≡ link-outcome up n a b t w)
+    unfolding commit-outcome link-outcome sound
     two-steps z =
         let c = by-zero {o = commit-outcome up n a b (step-of up cs) cs t} _ _ _ (same-proposal (asking-zero z)) refl in
         let l = by-zero {o = link-outcome up n a b t w} _ _ _ (sym asked-number ∙ z) refl in
         rw (asked-is z, take-overwrite cs w, c, l) (refl, refl)
 
-    pub refused-step : (q .reply .number ≡ 0 → ⊥) → linked-with (q .reply) t (q .answer) ≡ link-outcome up n a b t w
-    unfolding ask-outcome link-outcome link-refusal sound
+    pub refused-step : (q .reply .number ≡ 0 → ⊥) → linked-with (q .reply) t (q .lent) ≡ link-outcome up n a b t w
+    unfolding link-outcome sound
     refused-step h =
         let k : R ≡ 0 → ⊥ = λ e. h (asked-number ∙ e) in
-        rw (by-other {o = q} R _ _ k refl) (sym (by-other {o = link-outcome up n a b t w} R _ _ k refl))
+        rw (by-other {o = q} R _ _ k (asking-is up n a b t w)) (sym (by-other {o = link-outcome up n a b t w} R _ _ k refl))
 
     -- ---- committing any proposal, where the answer table of asking is long enough
 
     module _ (long : n ≤ length w) (z : ℤ) (xs : List ℕ) where
-      abbrev r : Committed
+      abbrev r : Tabled Reply
       r = commit-outcome up n a b z xs t
 
       asked-asking : q .reply .number ≡ asking
@@ -177,11 +160,11 @@ module _ (up : Bool) (n a b : ℕ) (t : Tables) where
       number-is : r .reply .number ≡ committing z xs
       number-is = committed-number z xs
 
-      pub commit-iff : (r .reply .number ≡ 0) ↔ ((q .reply .number ≡ 0) × (z ≡ q .reply .step) × (xs ≡ take (q .reply .count) (q .answer)))
+      pub commit-iff : (r .reply .number ≡ 0) ↔ ((q .reply .number ≡ 0) × (z ≡ q .reply .step) × (xs ≡ take (q .reply .count) (q .lent)))
       unfolding commit-refusal
       commit-iff = (there, λ h. number-is ∙ commit-asked z xs (sym asked-asking ∙ h .0) ∙ ask-yes 16 _ 0 (proposed (h .0) z xs .1 (h .1, h .2)))
         where
-          there : r .reply .number ≡ 0 → (q .reply .number ≡ 0) × (z ≡ q .reply .step) × (xs ≡ take (q .reply .count) (q .answer))
+          there : r .reply .number ≡ 0 → (q .reply .number ≡ 0) × (z ≡ q .reply .step) × (xs ≡ take (q .reply .count) (q .lent))
           there e =
               let s = site-zero n (lengths-of t) true (sound n t) _ (sym number-is ∙ e) in
               let k = ends-then-zero max-neighbours up n a b g (ask 16 (is-proposal up a b z xs g) 0) (s .1) in

@@ -1,19 +1,12 @@
 -- Laws of the questions: one question of a chain, then each question as what it asks, both ways; 1 is in mesh. Chains are in
 -- ChainLaws.antt.
-use mathlib.Core.Path.{_≡_, refl}
-use mathlib.Core.Bool.{Bool, true, false, _&&_, not}
-use Prim.Native.Nat.{ℕ, suc, _+_, _*_, _≤_, _<_}
-use native.Mathlib.Omega.{arith}
-use lib.Dec.{ltb, eqb}
-use borrow.Author.Tests.{ltb-true, leb-true, eqb-true, eqb-false, lt-ltb, le-leb, eq-eqb, ne-eqb, not-true}
-use Rattle.mesh.specs.Limits.{row-bytes}
-use Rattle.mesh.specs.Graph.{Graph, linked, degree}
-use Rattle.mesh.specs.Cores.{number}
-use Rattle.lists.proofs.Tests.{never, and-left, and-right, and-both}
-use Rattle.calls.specs.Sheet.{sheet-length}
-use Rattle.calls.specs.Questions.{ask, Lengths, site-lengths, answer-length, nodes-length, is-radio, are-radios, ends-differ, can-switch}
-use Rattle.calls.specs.Questions.{has-room, has-level, image-length, holds-image, holds-sheet}
+use Rattle.lists.{specs.Kit.{_≡_, refl, Bool, true, false, _&&_, not, ℕ, suc, _+_, _*_, _≤_, _<_, arith, ltb, eqb, ltb-true, leb-true, eqb-true, eqb-false}}
+use Rattle.lists.{specs.Kit.{lt-ltb, le-leb, eq-eqb, ne-eqb, not-true}, proofs.Tests.{never, and-left, and-right, and-both}}
+use Rattle.mesh.specs.{Limits.{row-bytes}, Graph.{Graph, linked, degree}, Cores.{number}}
+use Rattle.calls.specs.{Sheet.{sheet-length}, Questions.{ask, Lengths, site-lengths, answer-length, is-radio, are-radios, ends-differ}}
+use Rattle.calls.specs.{Questions.{can-switch, has-room, has-level, image-length}}
 pub use Rattle.mesh.proofs.Sizes.{size-good-true, true-size-good}
+use Rattle.calls.specs.Chains.{nodes-length, holds-image, holds-sheet}
 
 -- ---- one question
 
@@ -69,11 +62,9 @@ unfolding answer-length
 true-answer-length n w l = le-leb n w l
 
 pub nodes-length-true : (n w : ℕ) → nodes-length n w ≡ true → n + 1 ≤ w
-unfolding nodes-length
 nodes-length-true n w p = leb-true (n + 1) w p
 
 pub true-nodes-length : (n w : ℕ) → n + 1 ≤ w → nodes-length n w ≡ true
-unfolding nodes-length
 true-nodes-length n w l = le-leb (n + 1) w l
 
 -- ---- 4 to 9: radios, links, levels, room
@@ -135,17 +126,13 @@ unfolding has-level
 true-has-level g v k l = le-leb k (number g v) l
 
 pub holds-image-true : (g : Graph) (room : ℕ) → holds-image g room ≡ true → image-length g ≤ room
-unfolding holds-image
 holds-image-true g room p = leb-true (image-length g) room p
 
 pub true-holds-image : (g : Graph) (room : ℕ) → image-length g ≤ room → holds-image g room ≡ true
-unfolding holds-image
 true-holds-image g room l = le-leb (image-length g) room l
 
 pub holds-sheet-true : (n room : ℕ) → holds-sheet n room ≡ true → sheet-length n ≤ room
-unfolding holds-sheet
 holds-sheet-true n room p = leb-true (sheet-length n) room p
 
 pub true-holds-sheet : (n room : ℕ) → sheet-length n ≤ room → holds-sheet n room ≡ true
-unfolding holds-sheet
 true-holds-sheet n room l = le-leb (sheet-length n) room l

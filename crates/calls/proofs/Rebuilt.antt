@@ -3,25 +3,14 @@
 --   ups-allowed        links that are wanted and down come up, where no radio has more than 40 wanted links
 --   ups-pairs          the pairs after links came up in their order
 --   rebuilt            from a cleared site: all links are allowed in turn, and the pairs are the site's
-use mathlib.Core.Path.{_≡_, refl, sym, ap, subst, _∙_}
-use mathlib.Core.Logic.{_⊎_, inl, inr}
-use mathlib.Core.Bool.{Bool, true, false, cond}
-use mathlib.Core.List.{List, [], _∷_, _++_, append-nil, append-assoc}
-use Prim.Native.Nat.{ℕ, _≤_, _<_}
-use native.Mathlib.Omega.{arith}
-use Rattle.lists.specs.Lists.{range, count, member}
-use Rattle.lists.proofs.Tests.{bool-cases, never}
-use Rattle.lists.proofs.Range.{in-range}
-use Rattle.lists.proofs.Count.{count-less}
-use Rattle.mesh.specs.Limits.{max-neighbours}
-use Rattle.mesh.specs.Graph.{Link, Graph, graph, In-links, radios, other-ends, linked, neighbours-among, degree, link, link-before, with-link, new-links, relinked}
-use Rattle.mesh.specs.Graph.{proper, ascending}
-use Rattle.mesh.specs.Valid.{Valid}
-use Rattle.mesh.specs.Graph.{Allowed}
-use Rattle.mesh.proofs.GraphLaws.{ends, Ends, ends-of, linked-sym, proper-of, of-proper, proper-new-links}
-use Rattle.mesh.proofs.Tables.Relinked.{linked-relinked, ascending-new-links}
-use Rattle.mesh.proofs.Tables.AscendingLinks.{in-links-right, in-links-proper, Before, before-irreflexive, before-trans, before-of, link-eq, Sorted, sorted-of}
-use Rattle.mesh.proofs.Tables.AscendingLinks.{in-linked, link-less}
+use Rattle.lists.{specs.Kit.{_≡_, refl, sym, ap, subst, _∙_, _⊎_, inl, inr, Bool, true, false, cond, List, [], _∷_, _++_, append-nil, append-assoc, ℕ, _≤_}}
+use Rattle.lists.{specs.Kit.{_<_, arith}, specs.Lists.{range, count, member}, proofs.Tests.{bool-cases, never}, proofs.Range.{in-range}}
+use Rattle.lists.{proofs.Count.{count-less}}
+use Rattle.mesh.{specs.Limits.{max-neighbours}, specs.Graph.{Link, Graph, graph, In-links, radios, other-ends, linked, neighbours-among, degree, link}}
+use Rattle.mesh.{specs.Graph.{link-before, with-link, new-links, relinked, proper, ascending, Allowed}, specs.Valid.{Valid}, proofs.GraphLaws.{ends, Ends}}
+use Rattle.mesh.{proofs.GraphLaws.{ends-of, linked-sym, proper-of, of-proper, proper-new-links}, proofs.Tables.Relinked.{linked-relinked, ascending-new-links}}
+use Rattle.mesh.{proofs.Tables.AscendingLinks.{in-links-right, in-links-proper, Before, before-irreflexive, before-trans, before-of, link-eq, Sorted}}
+use Rattle.mesh.{proofs.Tables.AscendingLinks.{sorted-of, in-linked, link-less}}
 use Rattle.calls.specs.Switches.{Switch, switch, pairs-after, All-allowed}
 
 unfoldable pub ups : List Link → List Switch
@@ -38,7 +27,8 @@ apart l m p q b = go (bool-cases (ends (l .low) (l .high) (m .low) (m .high)))
     same (inl e) = before-irreflexive m (subst (λ (z : Link). Before z m) (link-eq l m (sym (e .0)) (sym (e .1))) b)
     same (inr e) = omega (arith, e .0, e .1)
 
-    go : (ends (l .low) (l .high) (m .low) (m .high) ≡ true) ⊎ (ends (l .low) (l .high) (m .low) (m .high) ≡ false) → ends (l .low) (l .high) (m .low) (m .high) ≡ false
+    go : (ends (l .low) (l .high) (m .low) (m .high) ≡ true) ⊎ (ends (l .low) (l .high) (m .low) (m .high) ≡ false) → ends (l .low) (l .high) (m .low) (m .high)
+        ≡ false
     go (inl e) = absurd (same (ends-of (l .low) (l .high) (m .low) (m .high) e))
     go (inr e) = e
 
@@ -57,7 +47,8 @@ module _ (n : ℕ) where
   good-up : (l : Link) (ps : List Link) → Pairs-good ps → Up-allowed l ps → Pairs-good (up-pairs l ps)
   good-up l ps g ok =
       record {
-        links-proper = of-proper n (up-pairs l ps) (proper-new-links true (l .low) (l .high) n ps (ok .a-radio) (ok .b-radio) (ok .differ) (proper-of n ps (g .links-proper)));
+        links-proper = of-proper n (up-pairs l ps) (proper-new-links true (l .low) (l .high) n ps (ok .a-radio) (ok .b-radio) (ok .differ)
+            (proper-of n ps (g .links-proper)));
         links-ascending = ascending-new-links true (l .low) (l .high) (graph n ps) (g .links-ascending) (ok .state);
       }
 
@@ -95,13 +86,22 @@ module _ (n : ℕ) where
       state = c .down;
       room = λ e. (
         omega (arith, room (l .low) (l .high) (omega (arith, c .lower, c .radio)) (c .radio) (c .down) (c .wanted)),
-        omega (arith, room (l .high) (l .low) (c .radio) (omega (arith, c .lower, c .radio)) (linked-sym (graph n ps) (l .high) (l .low) ∙ c .down) (good .symmetric (l .high) (l .low) ∙ c .wanted)),
+        omega (
+          arith,
+          room (l .high) (l .low) (c .radio) (omega (arith, c .lower, c .radio)) (linked-sym (graph n ps) (l .high) (l .low) ∙ c .down)
+              (good .symmetric (l .high) (l .low) ∙ c .wanted),
+        ),
       );
     }
       where
         room : (a b : ℕ) → a < n → b < n → linked (graph n ps) a b ≡ false → w a b ≡ true → count (linked (graph n ps) a) (range 0 n) < max-neighbours
         room a b la lb d e =
-            omega (arith, count-less (linked (graph n ps) a) (w a) b (range 0 n) (in-range 0 n b (omega arith) (omega arith)) d e (λ y m. sub a y), good .few a la)
+            omega (
+              arith,
+              count-less (linked (graph n ps) a) (w a) b (range 0 n) (in-range 0 n b (omega arith) (omega arith)) d e (λ y m. sub a y),
+              good .few a
+                  la,
+            )
 
     -- what is linked stays wanted
     up-within : (ps : List Link) → Pairs-good ps → Within ps → (l : Link) → Coming w ps l → Up-allowed l ps → Within (up-pairs l ps)
@@ -155,7 +155,8 @@ pub ups-pairs : (ls ps : List Link) → Sorted (ps ++ ls) → ((l : Link) → In
 unfolding pairs-after ups new-links
 ups-pairs [] ps s h = sym (append-nil ps)
 ups-pairs (l ∷ ls) ps s h =
-    let one : with-link (link (l .low) (l .high)) ps ≡ ps ++ (l ∷ []) = rw (link-less (l .low) (l .high) (h l (inl refl))) (with-link-last l ps (sorted-before ps l ls s)) in
+    let one : with-link (link (l .low) (l .high)) ps ≡ ps ++ (l ∷ []) = rw (link-less (l .low) (l .high) (h l (inl refl)))
+    (with-link-last l ps (sorted-before ps l ls s)) in
     let more : (ps ++ (l ∷ [])) ++ ls ≡ ps ++ (l ∷ ls) = append-assoc ps (l ∷ []) ls in
     ap (pairs-after (ups ls)) one
     ∙ ups-pairs ls (ps ++ (l ∷ [])) (subst (λ (z : List Link). Sorted z) (sym more) s) (λ m i. h m (inr i))
@@ -171,7 +172,8 @@ pub rebuilt : (g : Graph) (xs : List ℕ) → Valid max-neighbours g xs → Rebu
 unfolding degree neighbours-among radios linked other-ends member proper ascending
 rebuilt g xs v = record {
   allowed =
-      ups-allowed (g .n) (linked g) (record { symmetric = linked-sym g; few = v .degrees }) (g .links) [] (record { links-proper = refl; links-ascending = refl })
+      ups-allowed (g .n) (linked g) (record { symmetric = linked-sym g; few = v .degrees }) (g .links) []
+      (record { links-proper = refl; links-ascending = refl })
       (λ a b h. never false h refl) sorted coming;
   pairs = ups-pairs (g .links) [] sorted (λ l i. ends-of-link l i .0);
 }

@@ -1,10 +1,7 @@
 -- Tables and answers are equal when their parts are.
-use mathlib.Core.Path.{_≡_}
+use Rattle.lists.specs.Kit.{_≡_}
 use Rattle.mesh.specs.Tables.{Tables}
-use Rattle.calls.specs.declared.Reply.{Reply}
-use Rattle.calls.specs.declared.Value.{Value}
-use Rattle.calls.specs.declared.Later.{Later}
-use Rattle.calls.specs.declared.Block.{Block}
+use Rattle.calls.specs.declared.{Reply.{Reply}, Value.{Value}, Later.{Later}, Block.{Block}}
 
 pub tables-ext : (t v : Tables) → t .links ≡ v .links → t .numbers ≡ v .numbers → t .order ≡ v .order → t ≡ v
 tables-ext t v p q r = rw (← p, ← q, ← r)

@@ -3,20 +3,13 @@
 --   run           every list of calls is a run
 --   run-is        and a run is the list of its calls carried out
 --   link-done, hear-done   a link call and a hearing, whatever the answer table and the further table hold
-use mathlib.Core.Path.{_≡_, refl, ap, subst}
-use mathlib.Core.Bool.{Bool}
-use mathlib.Core.List.{List, [], _∷_, _++_}
-use Prim.Native.Nat.{ℕ, zero, suc}
-use lib.ListN.{length, replicate, length-replicate}
-use Rattle.lists.proofs.Overwrite.{take-overwrite}
-use Rattle.mesh.specs.Levels.{changed}
-use Rattle.mesh.specs.Tables.{Tables, graph-in}
-use Rattle.mesh.specs.Sound.{sound}
-use Rattle.calls.specs.Questions.{lengths-of, link-refusal}
-use Rattle.calls.specs.Heard.{hear-refusal}
-use Rattle.calls.specs.Outcomes.{by-number, link-outcome, hear-outcome}
-use Rattle.calls.specs.Book.{Call, linking, hearing, Answer, counted}
-use Rattle.calls.specs.Runs.{Done, did, answer-of, done, Event, event, events, after}
+use Rattle.lists.{specs.Kit.{_≡_, refl, ap, subst, Bool, List, [], _∷_, _++_, ℕ, zero, suc, length, replicate, length-replicate}}
+use Rattle.lists.{proofs.Overwrite.{take-overwrite}}
+use Rattle.mesh.specs.{Levels.{changed}, Tables.{Tables, graph-in}, Sound.{sound}}
+use Rattle.calls.specs.{Questions.{lengths-of}, Heard.{hear-refusal}, Outcomes.{link-outcome, hear-outcome}, Book.{Call}}
+use Rattle.calls.specs.{Book.{linking, hearing, Answer, counted}, Runs.{Done, did, answer-of, done, Event, event, events, after}}
+use Rattle.calls.specs.Questions.{by-number}
+use Rattle.calls.specs.Chains.{link-refusal}
 
 unfoldable pub Does : Call → (t : Tables) → (answers : List Answer) → (v : Tables) → Type 0
 Does c t hs v = did hs v ≡ done c t
@@ -62,12 +55,12 @@ events-append (c ∷ cs) ds t =
 
 pub link-done :
     (up : Bool) (n a b : ℕ) (t : Tables) (w : List ℕ) → let o = link-outcome up n a b t w in
-    did (answer-of (o .reply) (o .answer) ∷ []) (o .tables) ≡ done (linking up n a b (length w)) t
-unfolding done link-outcome link-refusal sound by-number answer-of
+    did (answer-of (o .reply) (o .lent) ∷ []) (o .tables) ≡ done (linking up n a b (length w)) t
+unfolding done link-outcome sound by-number answer-of
 link-done up n a b t w = go (link-refusal up n a b (lengths-of t) (length w) (sound n t) (graph-in n (t .links))) refl
   where
     go : (R : ℕ) → link-refusal up n a b (lengths-of t) (length w) (sound n t) (graph-in n (t .links)) ≡ R → let o = link-outcome up n a b t w in
-        did (answer-of (o .reply) (o .answer) ∷ []) (o .tables) ≡ done (linking up n a b (length w)) t
+        did (answer-of (o .reply) (o .lent) ∷ []) (o .tables) ≡ done (linking up n a b (length w)) t
     go zero e =
         let cs = changed up a b (graph-in n (t .links)) in rw (length-replicate, e, take-overwrite cs w, take-overwrite cs (replicate (length w) 0))
     go (suc q) e = rw (length-replicate, e)

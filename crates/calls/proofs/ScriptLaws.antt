@@ -4,39 +4,24 @@
 --   script-right          what is written is the script, and later bytes keep their content
 --   script-beforehand     the length beforehand is the length written, and 13 compares with it
 -- That playing it rebuilds the site is in proofs/Rebuilt.antt, and over the replay language in crate playback.
-use mathlib.Core.Path.{_≡_, refl, _∙_}
-use mathlib.Core.Logic.{inl, inr}
-use mathlib.Core.Bool.{Bool, true}
-use mathlib.Core.List.{List, [], _∷_, _++_, flatMap}
-use Prim.Native.Nat.{ℕ, _+_, _*_, _≤_, _<_}
-use native.Mathlib.Omega.{arith}
-use lib.ListN.{length, length-append}
-use borrow.Author.Tests.{leb-true, le-leb, lt-leb}
-use Rattle.lists.proofs.Overwrite.{take-overwrite, drop-overwrite}
-use Rattle.mesh.specs.Limits.{max-radios, max-neighbours}
-use Rattle.mesh.specs.Graph.{Link, Graph, In-links}
-use Rattle.mesh.specs.Tables.{Tables, graph-in}
-use Rattle.mesh.specs.Sound.{sound}
-use Rattle.mesh.specs.Valid.{Valid}
-use Rattle.mesh.proofs.GraphLaws.{proper-of}
-use Rattle.mesh.proofs.Tables.AscendingLinks.{in-links-proper}
-use Rattle.mesh.proofs.Tables.DegreeSum.{links-most}
-use Rattle.text.specs.Text.{decimal, further-fields, printed-line}
-use Rattle.text.proofs.DecimalLaws.{length-decimal-le}
-use Rattle.calls.specs.Script.{radios-text, up-line, script-of, script-length}
-use Rattle.calls.specs.Questions.{ask, Lengths, lengths-of, holds-script, script-length-refusal, script-refusal}
-use Rattle.calls.specs.Outcomes.{by-number, listing-outcome, script-length-outcome, script-outcome}
-use Rattle.calls.specs.Results.{Script-right, Script-beforehand}
-use Rattle.calls.proofs.QuestionLaws.{ask-yes, ask-no, ask-zero}
-use Rattle.calls.proofs.ChainLaws.{Site-good, site-zero, site-yes}
-use Rattle.calls.proofs.Accepted.{value-is, listing-is}
+use Rattle.lists.{specs.Kit.{_≡_, refl, _∙_, inl, inr, Bool, true, List, [], _∷_, _++_, flatMap, ℕ, _*_, _≤_, _<_, arith, length, length-append, leb-true}}
+use Rattle.lists.{specs.Kit.{le-leb, lt-leb}, proofs.Overwrite.{take-overwrite, drop-overwrite}}
+use Rattle.mesh.{specs.Limits.{max-radios, max-neighbours}, specs.Graph.{Link, Graph, In-links}, specs.Tables.{Tables, graph-in}, specs.Sound.{sound}}
+use Rattle.mesh.{specs.Valid.{Valid}, proofs.GraphLaws.{proper-of}, proofs.Tables.AscendingLinks.{in-links-proper}, proofs.Tables.DegreeSum.{links-most}}
+use Rattle.text.{specs.Text.{decimal, further-fields, printed-line}, proofs.DecimalLaws.{length-decimal-le}}
+use Rattle.calls.specs.{Script.{radios-text, up-line, script-of, script-length}, Questions.{ask, Lengths, lengths-of}}
+use Rattle.calls.specs.{Outcomes.{listing-outcome, script-length-outcome, script-outcome}}
+use Rattle.calls.specs.{Results.{Script-right, Script-beforehand}}
+use Rattle.calls.proofs.{QuestionLaws.{ask-yes, ask-no, ask-zero}, ChainLaws.{Site-good, site-zero, site-yes}, Accepted.{value-is, listing-is}}
+use Rattle.calls.specs.Chains.{script-length-refusal, script-refusal}
+use Rattle.calls.specs.Questions.{by-number}
+use Rattle.calls.specs.Chains.{holds-script}
 
 -- ---- the chain: 1 to 3 and 13
 
 pub script-zero :
     (n : ℕ) (l : Lengths) (room : ℕ) (sound : Bool) (g : Graph) → script-refusal n l room sound g ≡ 0 →
     Site-good n l true sound × (script-length g ≤ room)
-unfolding script-refusal holds-script
 script-zero n l room sound g p =
     let q = site-zero n l true sound (ask 13 (holds-script g room) 0) p in
     (q .0, leb-true (script-length g) room (ask-zero 12 (holds-script g room) 0 (q .1) .0))
@@ -44,14 +29,12 @@ script-zero n l room sound g p =
 pub script-yes :
     (n : ℕ) (l : Lengths) (room : ℕ) (sound : Bool) (g : Graph) → Site-good n l true sound → script-length g ≤ room →
     script-refusal n l room sound g ≡ 0
-unfolding script-refusal holds-script
 script-yes n l room sound g s h =
     site-yes n l true sound (ask 13 (holds-script g room) 0) s ∙ ask-yes 13 (holds-script g room) 0 (le-leb (script-length g) room h)
 
 pub script-no :
     (n : ℕ) (l : Lengths) (room : ℕ) (sound : Bool) (g : Graph) → Site-good n l true sound → room < script-length g →
     script-refusal n l room sound g ≡ 13
-unfolding script-refusal holds-script
 script-no n l room sound g s h =
     site-yes n l true sound (ask 13 (holds-script g room) 0) s ∙ ask-no 13 (holds-script g room) 0 (lt-leb (script-length g) room h)
 
@@ -110,7 +93,7 @@ script-right n t w z =
 pub script-beforehand :
     (n : ℕ) (t : Tables) (w : List ℕ) → let s = script-length-outcome n t in let o = script-outcome n t w in
     s .number ≡ 0 → Script-beforehand (s .value) (length w) (o .reply .number) (o .reply .value)
-unfolding script-length-outcome script-outcome script-length-refusal listing-outcome by-number sound
+unfolding script-length-outcome script-outcome listing-outcome by-number sound
 script-beforehand n t w z =
     let g = graph-in n (t .links) in
     let c = value-is (script-length-refusal n (lengths-of t) (sound n t)) (script-length g) z in

@@ -1,11 +1,8 @@
 -- Every worked cell and every worked sheet is right: computed.
-use mathlib.Core.Path.{_≡_, refl}
-use mathlib.Core.Bool.{true}
-use mathlib.Core.List.{flatMap}
-use Rattle.lists.specs.Lists.{range, same}
+use Rattle.lists.specs.{Kit.{_≡_, refl, true, flatMap}, Lists.{range, same}}
 use Rattle.text.specs.Text.{digit-byte, digits-in, decimal}
-use Rattle.calls.specs.Sheet.{right-aligned, filled, cell, cells, sheet-line, sheet-lines, sheet}
-use Rattle.calls.specs.SheetCases.{cell-good, cells-good, cell-cases, sheet-good, sheets-good, sheet-cases}
+use Rattle.calls.specs.{Sheet.{right-aligned, filled, cell, cells, sheet-line, sheet-lines, sheet}, SheetCases.{cell-good, cells-good, cell-cases}}
+use Rattle.calls.specs.{SheetCases.{sheet-good, sheets-good, sheet-cases}}
 
 pub cells-right : cells-good cell-cases ≡ true
 unfolding cell-cases cells-good cell-good same cell right-aligned decimal digits-in digit-byte

@@ -8,31 +8,14 @@
 --   numbers-two-digits    sound tables have numbers of at most 40
 --   sheet-fits            so their sheet has these columns, and each cell has the core number (`columns-by`)
 -- In order: texts in columns, a cell, a line, the sheet, sound tables.
-use mathlib.Core.Path.{_≡_, sym, ap, _∙_}
-use mathlib.Core.Logic.{_⊎_, inl, inr}
-use mathlib.Core.Bool.{true, false}
-use mathlib.Core.List.{List, [], _∷_, _++_}
-use Prim.Native.Nat.{ℕ, _+_, _*_, _-_, _/_, _%_, _≤_, _<_, min}
-use native.Mathlib.Omega.{arith}
-use lib.Dec.{ltb}
-use lib.ListN.{length, getD, replicate, length-append, length-replicate, getD-replicate, List·getD-append, drop}
-use lib.Seq.{getD-append-add}
-use borrow.Author.Tests.{ltb-true, ltb-false, lt-ltb}
-use Rattle.lists.specs.Lists.{overwrite}
-use Rattle.lists.proofs.Tests.{bool-cases}
-use Rattle.lists.proofs.Parts.{length-flatMap-range, getD-flatMap-range}
-use Rattle.mesh.specs.Limits.{max-radios, max-neighbours}
-use Rattle.mesh.specs.Cores.{number}
-use Rattle.mesh.specs.Tables.{Tables, graph-in}
-use Rattle.mesh.specs.Sound.{number-in, sound}
-use Rattle.mesh.proofs.Cores.Peeling.{getD-numbers}
-use Rattle.mesh.proofs.Tables.Soundness.{sound-right}
-use Rattle.mesh.proofs.Images.Tables.{valid-graph-in, number-most}
-use Rattle.text.specs.Text.{bytes-of, space, line-feed, digit-byte, decimal}
-use Rattle.text.proofs.DecimalLaws.{decimal-digit, decimal-more, length-decimal-le}
-use Rattle.calls.specs.Sheet.{cell-width, line-cells, line-width, line-bytes, right-aligned, filled, cell, cells, sheet-line, sheet-lines, sheet}
-use Rattle.calls.specs.Sheet.{sheet-length, Columns}
-use Rattle.calls.specs.SheetCells.{column-at, digit-column, Cells-fit}
+use Rattle.lists.{specs.Kit.{_≡_, sym, ap, _∙_, _⊎_, inl, inr, true, false, List, [], _∷_, _++_, ℕ, _+_, _*_, _-_, _/_, _%_, _≤_, _<_, min, arith, ltb, length}}
+use Rattle.lists.{specs.Kit.{getD, replicate, length-append, length-replicate, getD-replicate, List·getD-append, drop, getD-append-add, ltb-true, ltb-false}}
+use Rattle.lists.{specs.Kit.{lt-ltb}, specs.Lists.{overwrite}, proofs.Tests.{bool-cases}, proofs.Parts.{length-flatMap-range, getD-flatMap-range}}
+use Rattle.mesh.{specs.Limits.{max-radios, max-neighbours}, specs.Cores.{number}, specs.Tables.{Tables, graph-in}, specs.Sound.{number-in, sound}}
+use Rattle.mesh.{proofs.Cores.Peeling.{getD-numbers}, proofs.Tables.Soundness.{sound-right}, proofs.Images.Tables.{valid-graph-in, number-most}}
+use Rattle.text.{specs.Text.{bytes-of, space, line-feed, digit-byte, decimal}, proofs.DecimalLaws.{decimal-digit, decimal-more, length-decimal-le}}
+use Rattle.calls.specs.{Sheet.{cell-width, line-cells, line-width, line-bytes, right-aligned, filled, cell, cells, sheet-line, sheet-lines, sheet}}
+use Rattle.calls.specs.{Sheet.{sheet-length, Columns}, SheetCells.{column-at, digit-column, Cells-fit}}
 
 -- ---- texts in columns
 

@@ -4,29 +4,13 @@
 --   switched-graph      which is then in the graph, or not
 --   all-good, all-graph the same after a list of links
 --   good-right          numbers are core numbers and the order is a k-order
-use mathlib.Core.Path.{_≡_, refl, sym, ap, subst, _∙_}
-use mathlib.Core.Bool.{true}
-use mathlib.Core.List.{List, [], _∷_}
-use Prim.Native.Nat.{ℕ}
-use lib.ListN.{length}
-use Rattle.mesh.specs.Limits.{max-neighbours}
-use Rattle.mesh.specs.Graph.{Link, Graph, graph, relinked, new-links, Allowed}
-use Rattle.mesh.specs.Cores.{numbers}
-use Rattle.mesh.specs.Levels.{new-order}
-use Rattle.mesh.specs.Tables.{Tables, graph-in}
-use Rattle.mesh.specs.Sound.{sound}
-use Rattle.mesh.specs.Valid.{Valid}
-use Rattle.lists.proofs.Range.{once-length}
-use Rattle.mesh.proofs.Cores.Peeling.{length-numbers}
-use Rattle.mesh.proofs.Cores.KOrders.{k-order-certificate}
-use Rattle.mesh.proofs.Tables.Laws.{length-put-link}
-use Rattle.mesh.proofs.Links.Laws.{link-valid}
-use Rattle.mesh.proofs.Images.Tables.{valid-graph-in}
-use Rattle.calls.specs.Questions.{lengths-of}
-use Rattle.calls.specs.Switches.{Switch, pairs-after, switched, tables-after, All-allowed}
-use Rattle.calls.specs.Results.{Site-right, Commit-right}
-use Rattle.calls.proofs.ChainLaws.{Site-good}
-use Rattle.calls.proofs.Accepted.{switched-right, site-right}
+use Rattle.lists.{specs.Kit.{_≡_, refl, sym, ap, subst, _∙_, true, List, [], _∷_, ℕ, length}, proofs.Range.{once-length}}
+use Rattle.mesh.{specs.Limits.{max-neighbours}, specs.Graph.{Link, Graph, graph, relinked, new-links, Allowed}, specs.Cores.{numbers}, specs.Levels.{new-order}}
+use Rattle.mesh.{specs.Tables.{Tables, graph-in}, specs.Sound.{sound}, specs.Valid.{Valid}, proofs.Cores.Peeling.{length-numbers}}
+use Rattle.mesh.{proofs.Cores.KOrders.{k-order-certificate}, proofs.Tables.Laws.{length-put-link}, proofs.Links.Laws.{link-valid}}
+use Rattle.mesh.{proofs.Images.Tables.{valid-graph-in}}
+use Rattle.calls.specs.{Questions.{lengths-of}, Switches.{Switch, pairs-after, switched, tables-after, All-allowed}, Results.{Site-right, Commit-right}}
+use Rattle.calls.proofs.{ChainLaws.{Site-good}, Accepted.{switched-right, site-right}}
 
 abbrev pub Good : (n : ℕ) → Tables → Type 0
 Good n t = Site-good n (lengths-of t) true (sound n t)

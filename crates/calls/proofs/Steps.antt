@@ -3,45 +3,27 @@
 --   Stepped o      what one call keeps, where o is the book's outcome of it
 --   step           every call keeps it
 -- A further call takes a lemma and a clause of `step` here: that its links are allowed in turn, and what it answers.
-use mathlib.Core.Path.{_≡_, refl, ap, sym, subst, _∙_}
-use mathlib.Core.Bool.{Bool, true}
-use mathlib.Core.List.{List, [], _∷_}
-use mathlib.Core.Option.{Option, none, some}
-use Prim.Native.Nat.{ℕ, zero, suc}
-use lib.ListN.{length, replicate, length-replicate}
-use lib.IntN.{ℤ, pos}
-use Rattle.mesh.specs.Limits.{max-neighbours}
-use Rattle.lists.specs.Lists.{overwrite}
-use Rattle.mesh.specs.Graph.{Link, Graph, graph}
-use Rattle.mesh.specs.Levels.{changed, step-of}
-use Rattle.mesh.specs.Tables.{Tables, graph-in}
-use Rattle.mesh.specs.Sound.{sound}
-use Rattle.mesh.specs.Image.{image-links}
-use Rattle.lists.proofs.Overwrite.{take-overwrite}
-use Rattle.calls.specs.Questions.{lengths-of, answer-length, ask, ends-then, ends-refusal, is-proposal, tables-refusal, link-refusal}
-use Rattle.calls.specs.Questions.{commit-refusal, read-refusal}
-use Rattle.calls.specs.Switches.{Switch, switch, pairs-after, tables-after, All-allowed}
-use Rattle.calls.specs.Batches.{list-length, batch-refusal, batch-switches, batch-stop}
-use Rattle.calls.specs.Heard.{heard-lengths, heard-proper, agreed-few, hear-refusal, one-sided-count, heard-switches}
-use Rattle.calls.specs.Marks.{store-length, marks-good, is-marked, has-place, mark-refusal, set-refusal, named-refusal, mark-image}
-use Rattle.calls.specs.Book.{Call, clearing, reading, linking, committing, batching, hearing, setting, removing, returning, other, Outcome}
-use Rattle.calls.specs.Book.{Answer, plain, reported, committed, counted}
-use Rattle.calls.specs.Book.{image-under, Beginning, from-clearing, from-image, Marking, no-mark, sets, removes, returns, outcome-of, outcome-with, unless-refused, outcome}
-use Rattle.calls.specs.Book.{beginning-pairs, first-pairs, pairs-of, radios, beginning-tables}
-use Rattle.calls.specs.Outcomes.{by-number, links-taken, clear-outcome, read-outcome, link-outcome, commit-outcome, batch-outcome, hear-outcome}
-use Rattle.calls.specs.MarkOutcomes.{store-outcome, set-outcome, remove-outcome, return-outcome}
-use Rattle.calls.specs.Runs.{answer-of, replied, Done, done}
-use Rattle.calls.specs.Demand.{ended, Call-kept, Start, cleared, read, By-history}
-use Rattle.calls.specs.declared.Reply.{Reply}
-use Rattle.calls.proofs.ChainLaws.{lent-zero, site-zero, link-zero, commit-zero, read-zero}
-use Rattle.calls.proofs.Runs.{Does}
-use Rattle.calls.proofs.MarkCalls.{named-zero, mark-read}
-use Rattle.calls.proofs.Holds.{clear-is, read-is}
-use Rattle.calls.proofs.Holds.{Holds, clear-holds, read-holds, unchanged-holds, same-n, read-back, site-asked, with-n, all-holds}
-use Rattle.calls.proofs.Holds.{all-switching}
-use Rattle.calls.proofs.QuestionLaws.{ask-zero}
-use Rattle.calls.proofs.Batches.{batch-allowed}
-use Rattle.calls.proofs.HeardLaws.{hear-allowed}
+use Rattle.lists.{specs.Kit.{_≡_, refl, ap, sym, subst, _∙_, Bool, true, List, [], _∷_, Option, none, some, ℕ, zero, suc, length, replicate, length-replicate}}
+use Rattle.lists.{specs.Kit.{take-nil}}
+use Rattle.lists.{specs.Kit.{ℤ, pos}, specs.Lists.{overwrite}, proofs.Overwrite.{take-overwrite}}
+use Rattle.mesh.specs.{Limits.{max-neighbours}, Graph.{Link, Graph, graph}, Levels.{changed, step-of}, Tables.{Tables, graph-in}, Sound.{sound}}
+use Rattle.mesh.specs.{Image.{image-links}}
+use Rattle.calls.specs.{Questions.{lengths-of, answer-length, ask, ends-then, ends-refusal, is-proposal, tables-refusal, commit-refusal}}
+use Rattle.calls.specs.{Questions.{read-refusal}, Switches.{Switch, switch, pairs-after, tables-after, All-allowed}, Batches.{list-length, batch-refusal}}
+use Rattle.calls.specs.{Batches.{batch-switches, batch-stop}, Heard.{heard-lengths, heard-proper, agreed-few, hear-refusal, one-sided-count}}
+use Rattle.calls.specs.{Heard.{heard-switches}, Marks.{store-length, marks-good, is-marked, has-place, mark-refusal, set-refusal, named-refusal}}
+use Rattle.calls.specs.{Marks.{mark-image}, Book.{Call, clearing, reading, linking, committing, batching, hearing, setting, removing, returning, other}}
+use Rattle.calls.specs.{Book.{Outcome, Answer, reported, committed, counted, image-under, Beginning, from-clearing, from-image, Marking, no-mark}}
+use Rattle.calls.specs.{Book.{sets, removes, returns, outcome-of, outcome-with, unless-refused, outcome, beginning-pairs, first-pairs, pairs-of}}
+use Rattle.calls.specs.{Book.{site-size}}
+use Rattle.calls.specs.{Book.{beginning-tables}, Outcomes.{links-taken, clear-outcome, read-outcome, link-outcome, commit-outcome}}
+use Rattle.calls.specs.{Outcomes.{batch-outcome, hear-outcome}, MarkOutcomes.{store-outcome, set-outcome, remove-outcome, return-outcome}}
+use Rattle.calls.specs.{Runs.{answer-of, Done, done}, Demand.{ended, Call-kept, Start, cleared, read, By-history}, declared.Reply.{Reply}}
+use Rattle.calls.proofs.{ChainLaws.{lent-zero, site-zero, link-zero, commit-zero, read-zero}, Runs.{Does}, MarkCalls.{named-zero, mark-read}}
+use Rattle.calls.proofs.{Holds.{clear-is, read-is, Holds, clear-holds, read-holds, unchanged-holds, same-n, read-back, site-asked, with-n, all-holds}}
+use Rattle.calls.proofs.{Holds.{all-switching}, QuestionLaws.{ask-zero}, Batches.{batch-allowed}, HeardLaws.{hear-allowed}}
+use Rattle.calls.specs.Questions.{by-number}
+use Rattle.calls.specs.Chains.{link-refusal}
 
 pub record Stepped (n : ℕ) (ps : List Link) (o : Outcome) (t : Tables) (hs : List Answer) (v : Tables) : Type 0 where
   pub kept : Call-kept n ps o t hs v
@@ -73,8 +55,8 @@ pub answer-accepted :
 unfolding answer-of reported
 answer-accepted u r cs w x e f g h = rw (e, f, g, h, take-overwrite cs w)
 
-pub answer-refused : (r : Reply) (q : ℕ) (x : List ℕ) → r .number ≡ q → r .step ≡ pos 0 → r .count ≡ 0 → answer-of r x ≡ plain q
-unfolding answer-of plain
+pub answer-refused : (r : Reply) (q : ℕ) (x : List ℕ) → r .number ≡ q → r .step ≡ pos 0 → r .count ≡ 0 → answer-of r x ≡ counted q 0
+unfolding answer-of counted
 answer-refused r q x e f g = rw (e, f, g)
 
 module _ (n : ℕ) (ps : List Link) (t : Tables) (k : Holds n ps t) where
@@ -82,15 +64,19 @@ module _ (n : ℕ) (ps : List Link) (t : Tables) (k : Holds n ps t) where
 
   -- a refused call
   refused :
-      (q : ℕ) (o : Outcome) (hs : List Answer) (v : Tables) → hs ≡ one (plain (suc q)) → v ≡ t → Stepped n ps (unless-refused (suc q) o) t hs v
-  unfolding unless-refused pairs-of first-pairs pairs-after tables-after
-  refused q o hs v e f = record { kept = record { answered = e; tables = λ j. f; switching = λ j. rw f ended; started = λ qs j. absurd (none-some j) }; holds = unchanged-holds n ps t k f }
+      (q : ℕ) (hs : List Answer) (v : Tables) → hs ≡ one (counted (suc q) 0) → v ≡ t → Stepped n ps (outcome-of (one (counted (suc q) 0)) none []) t hs v
+  unfolding pairs-of first-pairs pairs-after tables-after
+  refused q hs v e f = record {
+    kept = record { answered = e; tables = λ j. f; switching = λ j. rw f ended; started = λ qs j. absurd (none-some j) };
+    holds =
+        unchanged-holds n ps t k f;
+  }
 
   -- a clearing, a reading or a coming back
   restarted :
-      (hs rs : List Answer) (b : Beginning) (m : Marking) (v : Tables) → hs ≡ rs → radios b ≡ n → v ≡ beginning-tables b → Start n (beginning-pairs b) v →
+      (hs rs : List Answer) (b : Beginning) (m : Marking) (v : Tables) → hs ≡ rs → site-size b ≡ n → v ≡ beginning-tables b → Start n (beginning-pairs b) v →
       Holds n (beginning-pairs b) v → Stepped n ps (unless-refused 0 (outcome-with rs (some b) [] m)) t hs v
-  unfolding unless-refused pairs-of first-pairs pairs-after tables-after the-beginning
+  unfolding by-number pairs-of first-pairs pairs-after tables-after the-beginning
   restarted hs rs b m v e z f s k′ = record {
     kept = record {
       answered = e;
@@ -106,7 +92,7 @@ module _ (n : ℕ) (ps : List Link) (t : Tables) (k : Holds n ps t) where
   -- a call that leaves links, numbers and order, and sets or removes a mark
   left-alone :
       (hs rs : List Answer) (m : Marking) (v : Tables) → hs ≡ rs → v ≡ t → Stepped n ps (unless-refused 0 (outcome-with rs none [] m)) t hs v
-  unfolding unless-refused pairs-of first-pairs pairs-after tables-after
+  unfolding by-number pairs-of first-pairs pairs-after tables-after
   left-alone hs rs m v e f = record {
     kept = record { answered = e; tables = λ j. f; switching = λ j. rw f ended; started = λ qs j. absurd (none-some j) };
     holds = unchanged-holds n ps t k f;
@@ -116,7 +102,7 @@ module _ (n : ℕ) (ps : List Link) (t : Tables) (k : Holds n ps t) where
   carried :
       (hs rs : List Answer) (ss : List Switch) (v : Tables) → hs ≡ rs → All-allowed n ps ss → v ≡ tables-after n ss t →
       Stepped n ps (unless-refused 0 (outcome-of rs none ss)) t hs v
-  unfolding unless-refused pairs-of first-pairs
+  unfolding by-number pairs-of first-pairs
   carried hs rs ss v e ok f = record {
     kept = record { answered = e; tables = λ j. f; switching = λ j. rw f (all-switching n ps ss t k ok); started = λ qs j. absurd (none-some j) };
     holds = rw f (all-holds n ps ss t k ok);
@@ -137,19 +123,20 @@ module _ (n : ℕ) (ps : List Link) (t : Tables) (k : Holds n ps t) where
 
   clear-step :
       (R m : ℕ) → tables-refusal m (lengths-of t) ≡ R → let o = clear-outcome m t in
-      Stepped n ps (unless-refused R (outcome-of (one (plain 0)) (some (from-clearing m)) [])) t (one (plain (o .reply))) (o .tables)
-  unfolding tables-refusal radios beginning-pairs clear-outcome by-number
+      Stepped n ps (unless-refused R (outcome-of (one (counted 0 0)) (some (from-clearing m)) [])) t (one (counted (o .reply) 0)) (o .tables)
+  unfolding tables-refusal site-size beginning-pairs clear-outcome by-number
   clear-step zero m p =
       let lent = lent-zero m (lengths-of t) true 0 p .0 in
       rw (clear-is m t p) (restarted _ _ (from-clearing m) no-mark _ refl (same-n n ps t k m true lent) refl (clear-start m p)
       (with-n n ps t k m [] _ true lent (clear-holds m t p)))
-  clear-step (suc x) m p = rw p (refused x _ _ t refl refl)
+  clear-step (suc x) m p = rw p (refused x _ t refl refl)
 
   -- of an image that reading takes
   image-step :
       (m : ℕ) (bs : List ℕ) (mark : Marking) → read-refusal m (lengths-of t) bs ≡ 0 →
-      Stepped n ps (unless-refused 0 (outcome-with (one (plain 0)) (some (from-image m bs)) [] mark)) t (one (plain 0)) (beginning-tables (from-image m bs))
-  unfolding radios beginning-pairs
+      Stepped n ps (unless-refused 0 (outcome-with (one (counted 0 0)) (some (from-image m bs)) [] mark)) t (one (counted 0 0))
+      (beginning-tables (from-image m bs))
+  unfolding site-size beginning-pairs
   image-step m bs mark p =
       let lent = read-zero m (lengths-of t) bs p .0 in
       restarted _ _ (from-image m bs) mark _ refl (same-n n ps t k m true lent) refl (read-start m bs p)
@@ -157,10 +144,10 @@ module _ (n : ℕ) (ps : List Link) (t : Tables) (k : Holds n ps t) where
 
   read-step :
       (R m : ℕ) (bs : List ℕ) → read-refusal m (lengths-of t) bs ≡ R → let o = read-outcome m bs t in
-      Stepped n ps (unless-refused R (outcome-of (one (plain 0)) (some (from-image m bs)) [])) t (one (plain (o .reply))) (o .tables)
+      Stepped n ps (unless-refused R (outcome-of (one (counted 0 0)) (some (from-image m bs)) [])) t (one (counted (o .reply) 0)) (o .tables)
   unfolding read-outcome by-number
   read-step zero m bs p = rw (read-is m bs t p) (image-step m bs no-mark p)
-  read-step (suc x) m bs p = rw p (refused x _ _ t refl refl)
+  read-step (suc x) m bs p = rw p (refused x _ t refl refl)
 
   -- ---- a link call
 
@@ -168,8 +155,8 @@ module _ (n : ℕ) (ps : List Link) (t : Tables) (k : Holds n ps t) where
       (R : ℕ) (u : Bool) (m a b : ℕ) (w : List ℕ) → link-refusal u m a b (lengths-of t) (length w) true (graph m ps) ≡ R →
       let o = link-outcome u m a b t w in
       Stepped n ps (unless-refused R (outcome-of (one (reported u (changed u a b (graph m ps)))) none (switch u a b ∷ []))) t
-      (one (answer-of (o .reply) (o .answer))) (o .tables)
-  unfolding link-outcome link-refusal sound by-number All-allowed tables-after answer-of reported plain
+      (one (answer-of (o .reply) (o .lent))) (o .tables)
+  unfolding link-outcome sound by-number All-allowed tables-after answer-of reported counted
   link-step zero u m a b w p =
       let z = link-zero u a b (lengths-of t) (length w) true (graph m ps) p in
       let i = same-n n ps t k m (answer-length m (length w)) (z .0 .lent) in
@@ -177,7 +164,7 @@ module _ (n : ℕ) (ps : List Link) (t : Tables) (k : Holds n ps t) where
       rw (site-asked n ps t k m (answer-length m (length w)) (λ g. ends-refusal max-neighbours u m a b g) ∙ p)
       (carried _ _ (switch u a b ∷ []) _ (rw (f, take-overwrite (changed u a b (graph m ps)) w)) (rw i at (z .1), tt) (rw i refl))
   link-step (suc y) u m a b w p =
-      rw (site-asked n ps t k m (answer-length m (length w)) (λ g. ends-refusal max-neighbours u m a b g) ∙ p) (refused y _ _ t refl refl)
+      rw (site-asked n ps t k m (answer-length m (length w)) (λ g. ends-refusal max-neighbours u m a b g) ∙ p) (refused y _ t refl refl)
 
   -- ---- committing
 
@@ -185,16 +172,16 @@ module _ (n : ℕ) (ps : List Link) (t : Tables) (k : Holds n ps t) where
       (R : ℕ) (u : Bool) (m a b : ℕ) (z : ℤ) (xs : List ℕ) → commit-refusal u m a b z xs (lengths-of t) true (graph m ps) ≡ R →
       let o = commit-outcome u m a b z xs t in
       Stepped n ps (unless-refused R (outcome-of (one (committed u (changed u a b (graph m ps)))) none (switch u a b ∷ []))) t
-      (one (replied (o .reply))) (o .tables)
-  unfolding commit-outcome commit-refusal by-number All-allowed tables-after committed replied plain
+      (one (answer-of (o .reply) [])) (o .tables)
+  unfolding commit-outcome commit-refusal by-number All-allowed tables-after committed answer-of counted
   commit-step zero u m a b z xs p =
       let y = commit-zero u a b z xs (lengths-of t) true (graph m ps) p in
       let i = same-n n ps t k m true (y .0 .lent) in
       let f : graph-in m (t .links) ≡ graph m ps = rw i (read-back n ps t k) in
       rw (site-asked n ps t k m true (λ g. ends-then max-neighbours u m a b g (ask 16 (is-proposal u a b z xs g) 0)) ∙ p)
-      (carried _ _ (switch u a b ∷ []) _ (rw f) (rw i at (y .1), tt) (rw i refl))
+      (carried _ _ (switch u a b ∷ []) _ (rw (f, take-nil (length (changed u a b (graph m ps))))) (rw i at (y .1), tt) (rw i refl))
   commit-step (suc y) u m a b z xs p =
-      rw (site-asked n ps t k m true (λ g. ends-then max-neighbours u m a b g (ask 16 (is-proposal u a b z xs g) 0)) ∙ p) (refused y _ _ t refl refl)
+      rw (site-asked n ps t k m true (λ g. ends-then max-neighbours u m a b g (ask 16 (is-proposal u a b z xs g) 0)) ∙ p) (refused y _ t refl refl)
 
   -- ---- a batch
 
@@ -202,12 +189,12 @@ module _ (n : ℕ) (ps : List Link) (t : Tables) (k : Holds n ps t) where
       (R m : ℕ) (xs : List ℕ) → batch-refusal m (lengths-of t) (length xs) true ≡ R → let o = batch-outcome m xs t in
       Stepped n ps (unless-refused R (outcome-of (one (counted (batch-stop m xs ps) (length (batch-switches m xs ps)))) none (batch-switches m xs ps))) t
       (one (counted (o .reply .number) (o .reply .value))) (o .tables)
-  unfolding batch-outcome batch-refusal links-taken by-number counted plain
+  unfolding batch-outcome batch-refusal links-taken by-number counted
   batch-step zero m xs p =
       let i = same-n n ps t k m (list-length (length xs)) (site-zero m (lengths-of t) (list-length (length xs)) true 0 p .0 .lent) in
       let f : graph-in m (t .links) .links ≡ ps = rw i (ap (λ (g : Graph). g .links) (read-back n ps t k)) in
       rw (site-asked n ps t k m (list-length (length xs)) (λ g. 0) ∙ p, f, i) (carried _ _ (batch-switches n xs ps) _ refl (batch-allowed n xs ps) refl)
-  batch-step (suc y) m xs p = rw (site-asked n ps t k m (list-length (length xs)) (λ g. 0) ∙ p) (refused y _ _ t refl refl)
+  batch-step (suc y) m xs p = rw (site-asked n ps t k m (list-length (length xs)) (λ g. 0) ∙ p) (refused y _ t refl refl)
 
   -- ---- a hearing
 
@@ -221,7 +208,7 @@ module _ (n : ℕ) (ps : List Link) (t : Tables) (k : Holds n ps t) where
       (R m : ℕ) (xs w : List ℕ) → hear-refusal m (lengths-of t) xs (length w) true ≡ R → let o = hear-outcome m xs t w in
       Stepped n ps (unless-refused R (outcome-of (one (counted 0 (one-sided-count m xs))) none (heard-switches (graph m ps) xs))) t
       (one (counted (o .reply .number) (o .reply .value))) (o .tables)
-  unfolding hear-outcome hear-refusal by-number counted plain
+  unfolding hear-outcome hear-refusal by-number counted
   hear-step zero m xs w p =
       let z = site-zero m (lengths-of t) (heard-lengths m (length xs) (length w)) true _ p in
       let y = ask-zero 13 (heard-proper m xs) _ (z .1) in
@@ -232,7 +219,7 @@ module _ (n : ℕ) (ps : List Link) (t : Tables) (k : Holds n ps t) where
       (carried _ _ (heard-switches (graph n ps) xs) _ refl
       (hear-allowed n xs ps (k .most) (record { is-proper = k .valid .links-proper; is-ascending = k .valid .links-ascending }) (rw i at (y .0)) (rw i at few))
       refl)
-  hear-step (suc y) m xs w p = rw (hear-asked m xs w ∙ p) (refused y _ _ t refl refl)
+  hear-step (suc y) m xs w p = rw (hear-asked m xs w ∙ p) (refused y _ t refl refl)
 
   -- ---- marks (W-211)
 
@@ -243,20 +230,20 @@ module _ (n : ℕ) (ps : List Link) (t : Tables) (k : Holds n ps t) where
   -- setting and removing
   store-step :
       (R : ℕ) (new old : List ℕ) (mark : Marking) →
-      Stepped n ps (unless-refused R (outcome-with (one (plain 0)) none [] mark)) t (one (plain (store-outcome R new old .reply))) t
+      Stepped n ps (unless-refused R (outcome-with (one (counted 0 0)) none [] mark)) t (one (counted (store-outcome R new old .reply) 0)) t
   unfolding store-outcome by-number
   store-step zero new old mark = left-alone _ _ mark t refl refl
-  store-step (suc y) new old mark = refused y _ _ t refl refl
+  store-step (suc y) new old mark = refused y _ t refl refl
 
   return-step :
       (R m : ℕ) (x bs : List ℕ) → named-refusal m (lengths-of t) true x bs ≡ R → let o = return-outcome m x bs t in
-      Stepped n ps (unless-refused R (outcome-with (one (plain 0)) (some (from-image m (mark-image m x bs))) [] (returns x))) t
-      (one (plain (o .reply))) (o .tables)
+      Stepped n ps (unless-refused R (outcome-with (one (counted 0 0)) (some (from-image m (mark-image m x bs))) [] (returns x))) t
+      (one (counted (o .reply) 0)) (o .tables)
   unfolding return-outcome named-refusal by-number beginning-tables
   return-step zero m x bs p =
       let a = named-zero m (lengths-of t) true x bs p in
       rw (mark-asked m x bs (ask 18 (is-marked x bs) 0) ∙ p) (image-step m (mark-image m x bs) (returns x) (mark-read m (lengths-of t) true x bs (a .0) (a .1)))
-  return-step (suc y) m x bs p = rw (mark-asked m x bs (ask 18 (is-marked x bs) 0) ∙ p) (refused y _ _ t refl refl)
+  return-step (suc y) m x bs p = rw (mark-asked m x bs (ask 18 (is-marked x bs) 0) ∙ p) (refused y _ t refl refl)
 
   -- ---- any call
 

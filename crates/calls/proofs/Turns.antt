@@ -4,21 +4,12 @@
 --   Room G ps ls    links and list lie in a graph G in which no radio has too many neighbours
 --   switches-of     the links of a list going up or down
 --   turns           the links of a sorted list may be taken up or down in turn, and what is then linked
-use mathlib.Core.Path.{_≡_, refl, sym, ap, subst, _∙_}
-use mathlib.Core.Logic.{inl, inr}
-use mathlib.Core.Bool.{Bool, true, false, _||_, not, cond}
-use mathlib.Core.List.{List, [], _∷_}
-use Prim.Native.Nat.{ℕ, _≤_, _<_}
-use native.Mathlib.Omega.{arith}
-use Rattle.mesh.specs.Limits.{max-neighbours}
-use Rattle.lists.specs.Lists.{range, count, member}
-use Rattle.mesh.specs.Graph.{Link, Graph, graph, In-links, radios, other-ends, linked, neighbours-among, degree, relinked, new-links, proper, ascending}
-use Rattle.mesh.specs.Graph.{Allowed}
-use Rattle.lists.proofs.Count.{count-less}
-use Rattle.lists.proofs.Range.{range-in, in-range}
-use Rattle.mesh.proofs.GraphLaws.{Ends, ends, ends-of, linked-by, linked-by-cons, linked-sym, joins, Proper, proper-of, of-proper, proper-new-links}
-use Rattle.mesh.proofs.Tables.AscendingLinks.{Before, Sorted, sorted-of, sorted-eq, in-links-proper, link-less, in-linked, linked-in}
-use Rattle.mesh.proofs.Tables.Relinked.{linked-relinked, ascending-new-links}
+use Rattle.lists.{specs.Kit.{_≡_, refl, sym, ap, subst, _∙_, inl, inr, Bool, true, false, _||_, not, cond, List, [], _∷_, ℕ, _≤_, _<_, arith}}
+use Rattle.lists.{specs.Lists.{range, count, member}, proofs.Count.{count-less}, proofs.Range.{range-in, in-range}}
+use Rattle.mesh.{specs.Limits.{max-neighbours}, specs.Graph.{Link, Graph, graph, In-links, radios, other-ends, linked, neighbours-among, degree, relinked}}
+use Rattle.mesh.{specs.Graph.{new-links, proper, ascending, Allowed}, proofs.GraphLaws.{Ends, ends, ends-of, linked-by, linked-by-cons, linked-sym, joins}}
+use Rattle.mesh.{proofs.GraphLaws.{Proper, proper-of, of-proper, proper-new-links}, proofs.Tables.AscendingLinks.{Before, Sorted, sorted-of, sorted-eq}}
+use Rattle.mesh.{proofs.Tables.AscendingLinks.{in-links-proper, link-less, in-linked, linked-in}, proofs.Tables.Relinked.{linked-relinked, ascending-new-links}}
 use Rattle.calls.specs.Switches.{Switch, switch, pairs-after, All-allowed}
 
 pub record Ordered (n : ℕ) (ps : List Link) : Type 0 where

@@ -1,31 +1,16 @@
 -- Demand 3, closed: by induction over the list of calls, from the theory of mesh.
-use mathlib.Core.Path.{_≡_, refl, ap, sym, subst, _∙_}
-use mathlib.Core.Bool.{Bool, true}
-use mathlib.Core.List.{List, [], _∷_, _++_}
-use mathlib.Core.Option.{none}
-use Prim.Native.Nat.{ℕ, zero, suc, _<_}
-use native.Mathlib.Omega.{arith}
-use Rattle.mesh.specs.Graph.{Link, graph}
-use Rattle.mesh.specs.Cores.{Core}
-use Rattle.mesh.specs.Orders.{is-k-order}
-use Rattle.mesh.specs.Tables.{Tables, tables-of}
-use Rattle.mesh.specs.Sound.{number-in}
-use Rattle.mesh.specs.Levels.{changed}
-use Rattle.mesh.specs.Image.{image-links}
-use Rattle.mesh.proofs.Cores.Peeling.{number-core, getD-numbers}
-use Rattle.calls.specs.Questions.{lengths-of, answer-length, tables-refusal, read-refusal, link-refusal}
-use Rattle.calls.specs.Outcomes.{Numbered, numbered, clear-outcome, read-outcome}
-use Rattle.calls.specs.Switches.{Switch, switch, pairs-after, tables-after}
-use Rattle.calls.specs.Book.{Call, linking, given, Answer, plain, reported, outcome-of, unless-refused, outcome, pairs-of}
-use Rattle.calls.specs.Book.{booked, book-answers, book-after, from-clearing, from-image, beginning-pairs, radios, beginning-tables, fresh, past, history, past-of}
-use Rattle.calls.specs.Runs.{Event, event, events, after, givens, answers}
-use Rattle.calls.proofs.Runs.{Run, ended, next, run}
-use Rattle.calls.specs.Demand.{Kept, Link-kept, Switching, Start, cleared, read, beginning, Demand-3}
-use Rattle.calls.proofs.ChainLaws.{link-zero}
-use Rattle.calls.proofs.Holds.{Holds, clear-holds, read-holds, clear-is, read-is, same-n, is-sound, read-back}
-use Rattle.calls.proofs.ContractLaws.{accepted-is}
-use Rattle.calls.proofs.Steps.{Stepped, step}
-use Rattle.calls.proofs.Histories.{Traced, Past-holds, past-kept}
+use Rattle.lists.specs.Kit.{_≡_, refl, ap, sym, subst, _∙_, Bool, true, List, [], _∷_, _++_, none, ℕ, zero, suc, _<_, arith}
+use Rattle.mesh.{specs.Graph.{Link, graph}, specs.Cores.{Core}, specs.Orders.{is-k-order}, specs.Tables.{Tables, tables-of}, specs.Sound.{number-in}}
+use Rattle.mesh.{specs.Levels.{changed}, specs.Image.{image-links}, proofs.Cores.Peeling.{number-core, getD-numbers}}
+use Rattle.calls.specs.{Questions.{lengths-of, answer-length, tables-refusal, read-refusal}, Outcomes.{Tabled, tabled, clear-outcome}}
+use Rattle.calls.specs.{Outcomes.{read-outcome}, Switches.{Switch, switch, pairs-after, tables-after}, Book.{Call, linking, given, Answer, counted}}
+use Rattle.calls.specs.{Book.{reported, outcome-of, unless-refused, outcome, pairs-of, booked, book-answers, book-after, from-clearing, from-image}}
+use Rattle.calls.specs.{Book.{beginning-pairs, site-size, beginning-tables, fresh, past, history, past-of}, Runs.{Event, event, events, after, givens}}
+use Rattle.calls.specs.{Runs.{answers}, Demand.{Kept, Link-kept, Switching, Start, cleared, read, beginning, Demand-3}}
+use Rattle.calls.proofs.{Runs.{Run, ended, next, run}, ChainLaws.{link-zero}, Holds.{Holds, clear-holds, read-holds, clear-is, read-is, same-n}}
+use Rattle.calls.proofs.{Holds.{is-sound, read-back}, ContractLaws.{accepted-is}, Steps.{Stepped, step}, Histories.{Traced, Past-holds, past-kept}}
+use Rattle.calls.specs.Questions.{by-number}
+use Rattle.calls.specs.Chains.{link-refusal}
 
 -- each call of a list, with the tables before it
 Each : (n : ℕ) → (ps : List Link) → List Event → Type 0
@@ -75,7 +60,7 @@ link-by-number :
     (R : ℕ) → link-refusal u m a b (lengths-of t) w true (graph m ps) ≡ R →
     Stepped n ps (unless-refused R (outcome-of (reported u (changed u a b (graph m ps)) ∷ []) none (switch u a b ∷ []))) t (h ∷ []) v →
     Link-kept u a b (graph n ps) t h v
-unfolding unless-refused first-answer plain
+unfolding by-number first-answer counted
 link-by-number n ps u m a b w t v h k z zero e s =
     let y = link-zero u a b (lengths-of t) w true (graph m ps) e in
     let f = same-n n ps t k m (answer-length m w) (y .0 .lent) in
@@ -103,19 +88,19 @@ k-order-at n ps v k = rw (k .is) (k .valid .k-order)
 -- ---- the start
 
 -- the number 0 is no refusal, and the tables are the ones that the list begins from
-cleared-is : (n : ℕ) (t v : Tables) → numbered 0 v ≡ clear-outcome n t → (tables-refusal n (lengths-of t) ≡ 0) × (v ≡ beginning-tables (from-clearing n))
+cleared-is : (n : ℕ) (t v : Tables) → tabled 0 v ≡ clear-outcome n t → (tables-refusal n (lengths-of t) ≡ 0) × (v ≡ beginning-tables (from-clearing n))
 unfolding clear-outcome
 cleared-is n t v d =
-    let p = accepted-is (λ (o : Numbered). o .reply) (numbered 0 v) (tables-refusal n (lengths-of t)) _ _ (λ q. refl) d refl .0 in
-    (p, ap (λ (o : Numbered). o .tables) (d ∙ clear-is n t p))
+    let p = accepted-is (λ (o : Tabled ℕ). o .reply) (tabled 0 v) (tables-refusal n (lengths-of t)) _ _ (λ q. refl) d refl .0 in
+    (p, ap (λ (o : Tabled ℕ). o .tables) (d ∙ clear-is n t p))
 
 read-in-is :
-    (n : ℕ) (bs : List ℕ) (t v : Tables) → numbered 0 v ≡ read-outcome n bs t →
+    (n : ℕ) (bs : List ℕ) (t v : Tables) → tabled 0 v ≡ read-outcome n bs t →
     (read-refusal n (lengths-of t) bs ≡ 0) × (v ≡ beginning-tables (from-image n bs))
 unfolding read-outcome
 read-in-is n bs t v d =
-    let p = accepted-is (λ (o : Numbered). o .reply) (numbered 0 v) (read-refusal n (lengths-of t) bs) _ _ (λ q. refl) d refl .0 in
-    (p, ap (λ (o : Numbered). o .tables) (d ∙ read-is n bs t p))
+    let p = accepted-is (λ (o : Tabled ℕ). o .reply) (tabled 0 v) (read-refusal n (lengths-of t) bs) _ _ (λ q. refl) d refl .0 in
+    (p, ap (λ (o : Tabled ℕ). o .tables) (d ∙ read-is n bs t p))
 
 pub start : {n : ℕ} {ps : List Link} {t : Tables} → Start n ps t → Holds n ps t
 start (cleared n t v d) = let a = cleared-is n t v d in subst (Holds n []) (sym (a .1)) (clear-holds n t (a .0))
@@ -125,13 +110,18 @@ start (read n bs t v d) = let a = read-in-is n bs t v d in subst (Holds n (image
 
 -- what a list began from makes the tables that it started with
 start-traced : {n : ℕ} {ps : List Link} {t : Tables} → (s : Start n ps t) → Traced n (fresh (beginning s)) ps t
-unfolding beginning fresh radios beginning-pairs pairs-after tables-after
+unfolding beginning fresh site-size beginning-pairs pairs-after tables-after
 start-traced (cleared n t v d) =
     let e = cleared-is n t v d .1 in
     record { holds = start (cleared n t v d); by = record { size = refl; start = subst (Start n []) e (cleared n t v d); tables = e }; pairs = refl }
 start-traced (read n bs t v d) =
     let e = read-in-is n bs t v d .1 in
-    record { holds = start (read n bs t v d); by = record { size = refl; start = subst (Start n (image-links n bs)) e (read n bs t v d); tables = e }; pairs = refl }
+    record {
+      holds = start (read n bs t v d);
+      by = record { size = refl; start = subst (Start n (image-links n bs)) e (read n bs t v d); tables = e };
+      pairs =
+          refl;
+    }
 
 -- with no mark set
 pub start-past : {n : ℕ} {ps : List Link} {t : Tables} → (s : Start n ps t) → Past-holds n ps (past (fresh (beginning s)) []) t

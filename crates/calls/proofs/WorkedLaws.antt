@@ -2,45 +2,26 @@
 --   Alike         what link calls leave holds the pairs, the order and the answers of a state
 --   by-state      a row that is right on pairs and order is right over the outcomes, whatever the lent tables held
 -- In order: what is lent, what calls answer, the state, link calls, what is wanted, rows.
-use mathlib.Core.Path.{_≡_, refl, ap, sym, _∙_}
-use mathlib.Core.Bool.{true, false, _&&_}
-use mathlib.Core.List.{List, [], _∷_, _++_, flatMap}
-use Prim.Native.Nat.{ℕ, zero, suc, _+_, _*_, _≤_}
-use native.Mathlib.Omega.{arith}
-use lib.Dec.{eqb}
-use lib.ListN.{length, take, length-map}
-use borrow.Author.Tests.{eqb-true, eq-eqb}
-use Rattle.mesh.specs.Limits.{max-neighbours, row-bytes}
-use Rattle.lists.specs.Lists.{range, same, overwrite}
-use Rattle.mesh.specs.Graph.{Link, Graph, graph, radios}
-use Rattle.mesh.specs.Staircase.{staircase, link-entries}
-use Rattle.mesh.specs.Levels.{changed}
-use Rattle.mesh.specs.Tables.{Tables, graph-in, tables-of}
-use Rattle.mesh.specs.Sound.{sound}
-use Rattle.mesh.specs.Connected.{core-of, backbone}
-use Rattle.mesh.specs.Tree.{node, node-name, tree, node-names}
-use Rattle.mesh.specs.Image.{long, image-of}
-use Rattle.mesh.specs.declared.Node.{Node}
-use Rattle.lists.proofs.Tests.{never, and-left, and-right, and-both}
-use Rattle.lists.proofs.Range.{length-range}
-use Rattle.lists.proofs.All.{same-refl, same-eq}
-use Rattle.lists.proofs.Overwrite.{take-overwrite}
-use Rattle.mesh.proofs.Images.Of.{length-image-of}
-use Rattle.calls.specs.Questions.{link-refusal, lengths-of, size-good, level-refusal, image-length, tables-refusal, ends-refusal, read-refusal}
-use Rattle.calls.specs.Switches.{Switch, switched}
-use Rattle.calls.specs.Outcomes.{link-outcome, by-number, Numbered, Listing, reply, value, listing-outcome, clear-outcome, read-outcome, write-outcome, tree-outcome}
-use Rattle.calls.specs.Book.{beginning-tables}
-use Rattle.calls.specs.Worked.{entries, lent-tables, lent-nodes, Left, left, left-by, played, after, Want, last-answers, all-numbers, whole-order}
-use Rattle.calls.specs.Worked.{shell-tree, connected-core, backbone-radios, image-checks, printed, soundness, staircase-list, formerly, script, bad-text, image-reading, same-nodes, block-checks}
-use Rattle.calls.specs.Worked.{is-value, is-listing, image-written, meets, meets-all, Row, right, Right, All-right}
-use Rattle.calls.proofs.ContractLaws.{number-by}
-use Rattle.calls.proofs.QuestionLaws.{size-good-true}
-use Rattle.calls.proofs.ChainLaws.{lent-yes, ends-zero}
-use Rattle.calls.proofs.Holds.{Holds, clear-is, clear-holds, read-back, switched-holds}
-use Rattle.calls.proofs.Steps.{answer-accepted, answer-refused}
-use Rattle.calls.proofs.ByPairs.{link-asked, core-by-pairs, backbone-by-pairs, write-by-pairs, tree-by-pairs, staircase-by-pairs}
-use Rattle.calls.proofs.WorkedState.{State, state, carried-out, state-played, state-after, right-lengths, state-meets, state-meets-all, state-right}
-use Rattle.calls.proofs.WorkedState.{all-state-right}
+use Rattle.lists.{specs.Kit.{_≡_, refl, ap, sym, _∙_, true, false, _&&_, List, [], _∷_, _++_, flatMap, ℕ, zero, suc, _+_, _*_, _≤_, arith, eqb, length, take}}
+use Rattle.lists.{specs.Kit.{length-map, eqb-true, eq-eqb}, specs.Lists.{range, same, overwrite}, proofs.Tests.{never, and-left, and-right, and-both}}
+use Rattle.lists.{proofs.Range.{length-range}, proofs.All.{same-refl, same-eq}, proofs.Overwrite.{take-overwrite}}
+use Rattle.mesh.{specs.Limits.{max-neighbours, row-bytes}, specs.Graph.{Link, Graph, graph, radios}, specs.Staircase.{staircase, link-entries}}
+use Rattle.mesh.{specs.Levels.{changed}, specs.Tables.{Tables, graph-in, tables-of}, specs.Sound.{sound}, specs.Connected.{core-of, backbone}}
+use Rattle.mesh.{specs.Tree.{node, node-name, tree, node-names}, specs.Image.{long, image-of}, specs.declared.Node.{Node}, proofs.Images.Of.{length-image-of}}
+use Rattle.calls.specs.{Questions.{lengths-of, size-good, image-length, tables-refusal, ends-refusal, read-refusal}}
+use Rattle.calls.specs.{Switches.{Switch, switched}, Outcomes.{link-outcome, Tabled, Listing, reply, value, listing-outcome, clear-outcome}}
+use Rattle.calls.specs.{Outcomes.{read-outcome, write-outcome, tree-outcome}, Book.{beginning-tables}, Worked.{entries, lent-tables, lent-nodes, Left}}
+use Rattle.calls.specs.{Worked.{left, left-by, played, after, Want, last-answers, all-numbers, whole-order, shell-tree, connected-core, backbone-radios}}
+use Rattle.calls.specs.{Worked.{image-checks, printed, soundness, staircase-list, formerly, script, bad-text, image-reading, same-nodes, block-checks}}
+use Rattle.calls.specs.{Worked.{is-value, is-listing, image-written, meets, meets-all, Row, right, Right, All-right}}
+use Rattle.calls.proofs.{ContractLaws.{number-by}, QuestionLaws.{size-good-true}, ChainLaws.{lent-yes, ends-zero}, Holds.{Holds, clear-is, clear-holds}}
+use Rattle.calls.proofs.{Holds.{read-back, switched-holds}, Steps.{answer-accepted, answer-refused}, ByPairs.{link-asked, core-by-pairs}}
+use Rattle.calls.proofs.{ByPairs.{backbone-by-pairs, write-by-pairs, tree-by-pairs, staircase-by-pairs}, WorkedState.{State, state, carried-out}}
+use Rattle.calls.proofs.{WorkedState.{state-played, state-after, right-lengths, state-meets, state-meets-all, state-right, all-state-right}}
+use Rattle.calls.specs.Chains.{level-refusal}
+use Rattle.calls.specs.Questions.{by-number}
+use Rattle.calls.specs.declared.Value.{Value}
+use Rattle.calls.specs.Chains.{link-refusal}
 
 -- ---- what is lent
 
@@ -121,7 +102,7 @@ kept-right (suc y) r ks old xs p =
 
 number-read : (n : ℕ) (bs : List ℕ) (t : Tables) → read-outcome n bs t .reply ≡ read-refusal n (lengths-of t) bs
 unfolding read-outcome
-number-read n bs t = number-by (λ (o : Numbered). o .reply) (read-refusal n (lengths-of t) bs) _ _ refl (λ q. refl)
+number-read n bs t = number-by (λ (o : Tabled ℕ). o .reply) (read-refusal n (lengths-of t) bs) _ _ refl (λ q. refl)
 
 -- ---- a state
 
@@ -168,7 +149,7 @@ module _ (f : ℕ → ℕ) (n : ℕ) (size : size-good n ≡ true) where
     asked = link-asked n (q .pairs) (s .tables) (k .holds) least (c .up) (c .a) (c .b) (length (entries f n)) enough-entries
 
     alike-by : (R : ℕ) → ends-refusal max-neighbours (c .up) n (c .a) (c .b) g ≡ R → Alike n (carried-out R n c q) (played f n c s)
-    unfolding carried-out played left-by link-outcome link-refusal sound by-number switched
+    unfolding carried-out played left-by link-outcome sound by-number switched
     alike-by zero e =
         let same : graph-in n (s .tables .links) ≡ g = read-back n (q .pairs) (s .tables) (k .holds) in
         rw (asked ∙ e)
@@ -207,8 +188,8 @@ module _ (f : ℕ → ℕ) (n : ℕ) (size : size-good n ≡ true) where
     unfolding image-length
     image-taken w l =
         let e = write-by-pairs n (q .pairs) (s .tables) (k .holds) least w l in (
-          ap (λ (o : Listing). o .reply) e,
-          ap (λ (o : Listing). take (image-length site) (o .lent)) e
+          ap (λ (o : Listing Value (List ℕ)). o .reply) e,
+          ap (λ (o : Listing Value (List ℕ)). take (image-length site) (o .lent)) e
               ∙ rw (k .order, ← length-image-of site (q .order), take-overwrite (image-of site (q .order)) w),
         )
 
@@ -235,7 +216,7 @@ module _ (f : ℕ → ℕ) (n : ℕ) (size : size-good n ≡ true) where
     tree-right :
         (ns : List Node) (vs : List ℕ) → same-nodes (tree site) ns ≡ true → same (node-names site) vs ≡ true →
         let o = tree-outcome n (s .tables) (lent-nodes f n) (entries f n) in
-        (is-value (o .reply) 0 (length ns) && (same-nodes (take (length ns) (o .nodes)) ns && same (take n (o .answer)) vs)) ≡ true
+        (is-value (o .reply) 0 (length ns) && (same-nodes (take (length ns) (o .lent .0)) ns && same (take n (o .lent .1)) vs)) ≡ true
     tree-right ns vs p r =
         let e = tree-by-pairs n (q .pairs) (s .tables) (k .holds) least (lent-nodes f n) (entries f n) (omega (arith, length-lent-nodes f n)) enough-entries in
         rw (
@@ -253,7 +234,8 @@ module _ (f : ℕ → ℕ) (n : ℕ) (size : size-good n ≡ true) where
     meets-by (all-numbers ns) p = rw tables-are p
     meets-by (whole-order xs) p = rw (k .order) p
     meets-by (shell-tree ns vs) p =
-        tree-right ns vs (and-left (same-nodes (tree site) ns) (same (node-names site) vs) p) (and-right (same-nodes (tree site) ns) (same (node-names site) vs) p)
+        tree-right ns vs (and-left (same-nodes (tree site) ns) (same (node-names site) vs) p)
+        (and-right (same-nodes (tree site) ns) (same (node-names site) vs) p)
     meets-by (connected-core v i r xs) p =
         rw (core-by-pairs n (q .pairs) (s .tables) (k .holds) least v i (entries f n) enough-entries) (
         listing-right (level-refusal n v i site) r (core-of site v i) (entries f n) xs p)

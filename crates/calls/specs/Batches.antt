@@ -6,14 +6,9 @@
 --   batch-stop n xs ps       the number of the link that is refused, or 0
 --   ups xs                   every link of the list xs, going up
 -- Definitions only.
-use mathlib.Core.Bool.{Bool, true}
-use mathlib.Core.List.{List, [], _∷_}
-use Prim.Native.Nat.{ℕ, zero, suc, _%_}
-use lib.Dec.{eqb}
-use Rattle.mesh.specs.Limits.{max-neighbours}
-use Rattle.mesh.specs.Graph.{Link, graph, new-links}
-use Rattle.calls.specs.Questions.{Lengths, site-refusal, ends-refusal}
-use Rattle.calls.specs.Switches.{Switch, switch}
+use Rattle.lists.specs.Kit.{Bool, true, List, [], _∷_, ℕ, _%_, eqb}
+use Rattle.mesh.specs.{Limits.{max-neighbours}, Graph.{Link, graph, new-links}}
+use Rattle.calls.specs.{Questions.{by-number, Lengths, site-refusal, ends-refusal}, Switches.{Switch, switch}}
 
 -- ---- questions
 
@@ -30,26 +25,16 @@ batch-refusal n l k sound = site-refusal n l (list-length k) sound 0
 abbrev pub up-refusal : (n a b : ℕ) → (pairs : List Link) → ℕ
 up-refusal n a b ps = ends-refusal max-neighbours true n a b (graph n ps)
 
--- the switches ss, unless the link was refused
-unfoldable pub unless : (refusal : ℕ) → (ss : List Switch) → List Switch
-unless zero ss = ss
-unless (suc q) ss = []
-
--- the first refusal of two
-unfoldable pub then : (refusal later : ℕ) → ℕ
-then zero later = later
-then (suc q) later = suc q
-
 unfoldable pub batch-switches : (n : ℕ) → (list : List ℕ) → (pairs : List Link) → List Switch
 batch-switches n [] ps = []
 batch-switches n (a ∷ []) ps = []
 batch-switches n (a ∷ b ∷ xs) ps =
-    unless (up-refusal n a b ps) (switch true a b ∷ batch-switches n xs (new-links true a b ps))
+    by-number (up-refusal n a b ps) (switch true a b ∷ batch-switches n xs (new-links true a b ps)) (λ q. [])
 
 unfoldable pub batch-stop : (n : ℕ) → (list : List ℕ) → (pairs : List Link) → ℕ
 batch-stop n [] ps = 0
 batch-stop n (a ∷ []) ps = 0
-batch-stop n (a ∷ b ∷ xs) ps = then (up-refusal n a b ps) (batch-stop n xs (new-links true a b ps))
+batch-stop n (a ∷ b ∷ xs) ps = by-number (up-refusal n a b ps) (batch-stop n xs (new-links true a b ps)) (λ q. q)
 
 unfoldable pub ups : (list : List ℕ) → List Switch
 ups [] = []

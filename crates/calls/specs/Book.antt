@@ -14,22 +14,15 @@
 --   all-leave x i     no accepted call of a list sets, replaces or removes a mark of the name x and the image i
 -- A further call is a constructor of `Call` and a clause of `outcome` here, and a clause of `Does` in specs/Runs.antt.
 -- Definitions only.
-use mathlib.Core.Bool.{Bool, true, false, _&&_, _||_, not, cond}
-use mathlib.Core.List.{List, [], _∷_, _++_}
-use mathlib.Core.Option.{Option, none, some}
-use Prim.Native.Nat.{ℕ, zero, suc}
-use lib.IntN.{ℤ, pos}
-use lib.ListN.{length}
-use Rattle.lists.specs.Lists.{range, same}
-use Rattle.mesh.specs.Graph.{Link, graph}
-use Rattle.mesh.specs.Levels.{changed, step-of}
-use Rattle.mesh.specs.Tables.{Tables, tables-of, graph-in}
-use Rattle.mesh.specs.Image.{image-links, image-graph, image-order, image-of}
-use Rattle.calls.specs.Questions.{Lengths, tables-refusal, link-refusal, commit-refusal, read-refusal}
-use Rattle.calls.specs.Switches.{Switch, switch, pairs-after, tables-after}
-use Rattle.calls.specs.Batches.{batch-refusal, batch-switches, batch-stop}
-use Rattle.calls.specs.Heard.{hear-refusal, one-sided-count, heard-switches}
-use Rattle.calls.specs.Marks.{set-refusal, named-refusal, is-marked, mark-image}
+use Rattle.lists.specs.{Kit.{Bool, true, false, _&&_, _||_, not, cond, List, [], _∷_, _++_, Option, none, some, ℕ, ℤ, pos, length}, Lists.{range}}
+use Rattle.lists.specs.{Lists.{same}}
+use Rattle.mesh.specs.{Limits.{max-neighbours}, Graph.{Link, graph}, Levels.{changed, step-of}, Tables.{Tables, tables-of, graph-in}, Image.{image-links}}
+use Rattle.mesh.specs.{Image.{image-graph, image-order}}
+use Rattle.mesh.specs.{Image.{image-of}}
+use Rattle.calls.specs.{Questions.{by-number, Lengths, tables-refusal, link-refusal-within, commit-refusal, read-refusal}, Switches.{Switch, switch}}
+use Rattle.calls.specs.{Switches.{pairs-after}}
+use Rattle.calls.specs.{Switches.{tables-after}, Batches.{batch-refusal, batch-switches, batch-stop}, Heard.{hear-refusal, one-sided-count}}
+use Rattle.calls.specs.{Heard.{heard-switches}, Marks.{set-refusal, named-refusal, is-marked, mark-image}}
 
 -- document 01, with the calls of W-205, W-210, W-211 and W-213
 -- what the book is given of a call, beside the lengths of links, numbers and order: `answer` is the answer table's length, `further` that of
@@ -53,10 +46,6 @@ pub record Answer : Type 0 where
   pub count : ℕ
   pub listed : List ℕ
 
--- a number and zeros
-unfoldable pub plain : (number : ℕ) → Answer
-plain r = record { number = r; step = pos 0; count = 0; listed = [] }
-
 -- an accepted link call
 unfoldable pub reported : (up : Bool) → (changed : List ℕ) → Answer
 reported up cs = record { number = 0; step = step-of up cs; count = length cs; listed = cs }
@@ -65,7 +54,7 @@ reported up cs = record { number = 0; step = step-of up cs; count = length cs; l
 unfoldable pub committed : (up : Bool) → (changed : List ℕ) → Answer
 committed up cs = record { number = 0; step = step-of up cs; count = length cs; listed = [] }
 
--- document 01: calls that report a count, W-205's and W-213's
+-- document 01: a number and zeros, with the count of calls that report one, W-205's and W-213's
 -- a batch: the number of the link refused, or 0, and the count of links done; a hearing: 0, and the count of one-sided pairs
 unfoldable pub counted : (number count : ℕ) → Answer
 counted r k = record { number = r; step = pos 0; count = k; listed = [] }
@@ -101,9 +90,8 @@ abbrev pub outcome-of : List Answer → Option Beginning → List Switch → Out
 outcome-of hs b ss = outcome-with hs b ss no-mark
 
 -- a "no" gives its number and zeros, and the pairs stay
-unfoldable pub unless-refused : (refusal : ℕ) → Outcome → Outcome
-unless-refused zero o = o
-unless-refused (suc q) o = outcome-of (plain (suc q) ∷ []) none []
+abbrev pub unless-refused : (refusal : ℕ) → Outcome → Outcome
+unless-refused R o = by-number R o (λ q. outcome-of (counted q 0 ∷ []) none [])
 
 -- the image that the store has under the name, if it has one (W-211)
 unfoldable pub image-under : (n : ℕ) → (name store : List ℕ) → Option (List ℕ)
@@ -112,11 +100,11 @@ image-under n x bs = cond (is-marked x bs) (some (mark-image n x bs)) none
 -- document 01, with the calls of W-205, W-210, W-211 and W-213
 -- each call is put its questions: 3 gets yes, 6 and 7 are asked of the pairs; any other call is passed over
 unfoldable pub outcome : Call → Lengths → (pairs : List Link) → Outcome
-outcome (clearing n) l ps = unless-refused (tables-refusal n l) (outcome-of (plain 0 ∷ []) (some (from-clearing n)) [])
-outcome (reading n bs) l ps = unless-refused (read-refusal n l bs) (outcome-of (plain 0 ∷ []) (some (from-image n bs)) [])
+outcome (clearing n) l ps = unless-refused (tables-refusal n l) (outcome-of (counted 0 0 ∷ []) (some (from-clearing n)) [])
+outcome (reading n bs) l ps = unless-refused (read-refusal n l bs) (outcome-of (counted 0 0 ∷ []) (some (from-image n bs)) [])
 outcome (linking up n a b w) l ps =
     unless-refused
-    (link-refusal up n a b l w true (graph n ps))
+    (link-refusal-within max-neighbours up n a b l w true (graph n ps))
     (outcome-of (reported up (changed up a b (graph n ps)) ∷ []) none (switch up a b ∷ []))
 outcome (committing up n a b z xs) l ps =
     unless-refused
@@ -131,11 +119,11 @@ outcome (hearing n hs w) l ps =
     (hear-refusal n l hs w true)
     (outcome-of (counted 0 (one-sided-count n hs) ∷ []) none (heard-switches (graph n ps) hs))
 outcome (setting n x bs) l ps =
-    unless-refused (set-refusal n l true x bs) (outcome-with (plain 0 ∷ []) none [] (sets x (image-under n x bs)))
+    unless-refused (set-refusal n l true x bs) (outcome-with (counted 0 0 ∷ []) none [] (sets x (image-under n x bs)))
 outcome (removing n x bs) l ps =
-    unless-refused (named-refusal n l true x bs) (outcome-with (plain 0 ∷ []) none [] (removes x (mark-image n x bs)))
+    unless-refused (named-refusal n l true x bs) (outcome-with (counted 0 0 ∷ []) none [] (removes x (mark-image n x bs)))
 outcome (returning n x bs) l ps =
-    unless-refused (named-refusal n l true x bs) (outcome-with (plain 0 ∷ []) (some (from-image n (mark-image n x bs))) [] (returns x))
+    unless-refused (named-refusal n l true x bs) (outcome-with (counted 0 0 ∷ []) (some (from-image n (mark-image n x bs))) [] (returns x))
 outcome other l ps = outcome-of [] none []
 
 -- the pairs that a beginning leaves
@@ -193,9 +181,9 @@ history-by none ss h = record { began = h .began; calls = h .calls ++ ss }
 history-by (some b) ss h = record { began = b; calls = ss }
 
 -- the radios of a beginning, and the tables that it leaves
-unfoldable pub radios : Beginning → ℕ
-radios (from-clearing n) = n
-radios (from-image n bs) = n
+unfoldable pub site-size : Beginning → ℕ
+site-size (from-clearing n) = n
+site-size (from-image n bs) = n
 
 unfoldable pub beginning-tables : Beginning → Tables
 beginning-tables (from-clearing n) = tables-of (graph n []) (range 0 n)
@@ -204,7 +192,7 @@ beginning-tables (from-image n bs) = tables-of (image-graph n bs) (image-order n
 -- document 02, W-211: the image of the tables that a history leaves
 unfoldable pub image-at : History → List ℕ
 image-at h =
-    let n = radios (h .began) in
+    let n = site-size (h .began) in
     let v = tables-after n (h .calls) (beginning-tables (h .began)) in
     image-of (graph-in n (v .links)) (v .order)
 
@@ -224,13 +212,13 @@ abbrev pub past : History → List Marked → Past
 past h ms = record { history = h; marks = ms }
 
 -- a mark is known by its name and its image: with several stores, that is how the book tells them apart
-unfoldable pub is-mark : (name image : List ℕ) → Marked → Bool
-is-mark x i m = same (m .name) x && same (image-at (m .history)) i
+unfoldable pub matches : (name image : List ℕ) → Marked → Bool
+matches x i m = same (m .name) x && same (image-at (m .history)) i
 
 -- without the newest mark of that name and image
 unfoldable pub struck : (name image : List ℕ) → List Marked → List Marked
 struck x i [] = []
-struck x i (m ∷ ms) = let rest = struck x i ms in cond (is-mark x i m) ms (m ∷ rest)
+struck x i (m ∷ ms) = let rest = struck x i ms in cond (matches x i m) ms (m ∷ rest)
 
 unfoldable pub replacing : (name : List ℕ) → (replaced : Option (List ℕ)) → List Marked → List Marked
 replacing x none ms = ms
@@ -240,7 +228,7 @@ replacing x (some i) ms = struck x i ms
 -- the newest; else the mark was put there by other hands, and counts as a read image
 unfoldable pub recalled : (name : List ℕ) → History → List Marked → History
 recalled x h [] = h
-recalled x h (m ∷ ms) = let rest = recalled x h ms in cond (is-mark x (image-at h) m) (m .history) rest
+recalled x h (m ∷ ms) = let rest = recalled x h ms in cond (matches x (image-at h) m) (m .history) rest
 
 -- what a call's mark makes of the past, where h is the history after the call
 unfoldable pub marked-by : Marking → History → List Marked → Past
@@ -266,13 +254,13 @@ unfoldable pub history : List Given → (pairs : List Link) → Beginning → Hi
 history cs ps b = past-of cs ps b .history
 
 -- no accepted call of a list, where p is the past before it, sets, replaces or removes a mark of the name x and the image i
-unfoldable pub is-image : Option (List ℕ) → (image : List ℕ) → Bool
-is-image none i = false
-is-image (some j) i = same j i
+unfoldable pub replaces : Option (List ℕ) → (image : List ℕ) → Bool
+replaces none i = false
+replaces (some j) i = same j i
 
 unfoldable pub leaves : (name image : List ℕ) → Marking → History → Bool
 leaves x i no-mark h = true
-leaves x i (sets y r) h = not (same y x && (same (image-at h) i || is-image r i))
+leaves x i (sets y r) h = not (same y x && (same (image-at h) i || replaces r i))
 leaves x i (removes y j) h = not (same y x && same j i)
 leaves x i (returns y) h = true
 

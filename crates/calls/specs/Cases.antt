@@ -1,11 +1,9 @@
--- Document 01's cases M1 to M10, and further cases of documents 01 and 02, as one table. That every row is right is `cases-right` in proofs/Cases.antt. Definitions only.
-use mathlib.Core.List.{List, [], _∷_, _++_, map}
-use Prim.Native.Nat.{ℕ}
-use Rattle.lists.specs.Lists.{range}
+-- Document 01's cases M1 to M10, and further cases of documents 01 and 02, as one table. That every row is right is `cases-right` in proofs/Cases.antt.
+-- Definitions only.
+use Rattle.lists.specs.{Kit.{List, [], _∷_, _++_, map, ℕ}, Lists.{range}}
 use Rattle.mesh.specs.Tree.{node}
-use Rattle.calls.specs.Switches.{Switch}
-use Rattle.calls.specs.Worked.{up, down, risen, fallen, unchanged, refused, last-answers, all-numbers, whole-order, shell-tree, connected-core}
-use Rattle.calls.specs.Worked.{backbone-radios, image-checks, printed, staircase-list, formerly, script, bad-text, Row, row}
+use Rattle.calls.specs.{Switches.{Switch}, Worked.{up, down, risen, fallen, unchanged, refused, last-answers, all-numbers, whole-order, shell-tree}}
+use Rattle.calls.specs.{Worked.{connected-core, backbone-radios, image-checks, printed, staircase-list, formerly, script, bad-text, Row, row}}
 
 unfoldable pub triangle : (a b c : ℕ) → List Switch
 triangle a b c = up a b ∷ up b c ∷ up a c ∷ []

@@ -6,28 +6,14 @@
 --   Kept              what the list keeps: tables, answers, each call, each accepted link call
 --   Demand-3          every list of calls from such a start keeps it
 -- The proof is `demand-3` in proofs/WholeList.antt. Definitions only.
-use mathlib.Core.Path.{_≡_}
-use mathlib.Core.Logic.{_⊎_}
-use mathlib.Core.Bool.{Bool, true, false}
-use mathlib.Core.List.{List, [], _∷_, _++_}
-use mathlib.Core.Option.{none, some}
-use Prim.Native.Nat.{ℕ, suc, _+_, _<_}
-use lib.ListN.{length, take, drop}
-use Rattle.lists.specs.Lists.{member}
-use Rattle.mesh.specs.Graph.{Link, Graph, graph, relinked, new-links}
-use Rattle.mesh.specs.Cores.{Core, number, numbers}
-use Rattle.mesh.specs.Orders.{is-k-order}
-use Rattle.mesh.specs.Levels.{changed, lower-level, stretch-start, stretch-length, new-stretch}
-use Rattle.mesh.specs.Tables.{Tables, put-link, links-table, graph-in}
-use Rattle.mesh.specs.Sound.{sound, number-in}
-use Rattle.mesh.specs.Connected.{Reachable}
-use Rattle.mesh.specs.Image.{image-links}
-use Rattle.calls.specs.Outcomes.{numbered, clear-outcome, read-outcome}
-use Rattle.calls.specs.Switches.{Switch, pairs-after, tables-after}
-use Rattle.calls.specs.Book.{Call, linking, Answer, reported, Outcome, given, booked, book-answers, book-after, Beginning, from-clearing, from-image}
-use Rattle.calls.specs.Book.{beginning-pairs, radios, beginning-tables, History, history}
-use Rattle.calls.specs.Questions.{lengths-of}
-use Rattle.calls.specs.Runs.{Event, event, events, after, givens, answers}
+use Rattle.lists.specs.{Kit.{_≡_, _⊎_, Bool, true, false, List, [], _∷_, _++_, none, some, ℕ, suc, _+_, _<_, length, take, drop}, Lists.{member}}
+use Rattle.mesh.specs.{Graph.{Link, Graph, graph, relinked, new-links}, Cores.{Core, number, numbers}, Orders.{is-k-order}, Levels.{changed, lower-level}}
+use Rattle.mesh.specs.{Levels.{stretch-start, stretch-length, new-stretch}, Tables.{Tables, put-link, links-table, graph-in}, Sound.{sound, number-in}}
+use Rattle.mesh.specs.{Connected.{Reachable}, Image.{image-links}}
+use Rattle.calls.specs.{Outcomes.{tabled, clear-outcome, read-outcome}, Switches.{Switch, pairs-after, tables-after}, Book.{Call, linking, Answer}}
+use Rattle.calls.specs.{Book.{reported, Outcome, given, booked, book-answers, book-after, Beginning, from-clearing, from-image, beginning-pairs}}
+use Rattle.calls.specs.{Book.{site-size}}
+use Rattle.calls.specs.{Book.{beginning-tables, History, history}, Questions.{lengths-of}, Runs.{Event, event, events, after, givens, answers}}
 
 -- ---- an accepted link call
 
@@ -86,8 +72,8 @@ pub data Switching (n : ℕ) : List Link → List Switch → Tables → Tables �
 
 -- left by an accepted clearing: no pairs; left by an accepted reading: the pairs that the image lists
 pub data Start : (n : ℕ) → (pairs : List Link) → Tables → Type 0 where
-  cleared : (n : ℕ) (t v : Tables) → numbered 0 v ≡ clear-outcome n t → Start n [] v
-  read : (n : ℕ) (image : List ℕ) (t v : Tables) → numbered 0 v ≡ read-outcome n image t → Start n (image-links n image) v
+  cleared : (n : ℕ) (t v : Tables) → tabled 0 v ≡ clear-outcome n t → Start n [] v
+  read : (n : ℕ) (image : List ℕ) (t v : Tables) → tabled 0 v ≡ read-outcome n image t → Start n (image-links n image) v
 
 -- what a list that starts there began from
 unfoldable pub beginning : {n : ℕ} {ps : List Link} {t : Tables} → Start n ps t → Beginning
@@ -96,7 +82,7 @@ beginning (read n bs t v d) = from-image n bs
 
 -- links, numbers and order are what the link history makes of the tables that the clearing or reading left from which it began
 pub record By-history (n : ℕ) (h : History) (v : Tables) : Type 0 where
-  pub size : radios (h .began) ≡ n
+  pub size : site-size (h .began) ≡ n
   pub start : Start n (beginning-pairs (h .began)) (beginning-tables (h .began))
   pub tables : v ≡ tables-after n (h .calls) (beginning-tables (h .began))
 

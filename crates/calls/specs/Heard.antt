@@ -11,18 +11,10 @@
 --   switches-where up n f   the links that pass the test f going up or down, by lower radio and then higher
 --   heard-switches g hs     the links to go down, then the links to come up
 -- Definitions only.
-use mathlib.Core.Bool.{Bool, true, false, _&&_, not}
-use mathlib.Core.List.{List, _++_, map, flatMap}
-use Prim.Native.Nat.{ℕ, suc, _*_, _-_}
-use lib.Dec.{leb, eqb}
-use lib.ListN.{length}
-use Rattle.mesh.specs.Limits.{max-neighbours, row-bytes}
-use Rattle.lists.specs.Lists.{range, count, total, filter, all}
-use Rattle.mesh.specs.Graph.{Graph, linked}
-use Rattle.mesh.specs.Tables.{marked, bit-table}
-use Rattle.mesh.specs.Sound.{irreflexive, within}
-use Rattle.calls.specs.Questions.{Lengths, ask, site-refusal}
-use Rattle.calls.specs.Switches.{Switch, switch}
+use Rattle.lists.specs.{Kit.{Bool, true, false, _&&_, not, List, _++_, map, flatMap, ℕ, suc, _*_, _-_, leb, eqb, length}, Lists.{range, count, total, filter}}
+use Rattle.lists.specs.{Lists.{all}}
+use Rattle.mesh.specs.{Limits.{max-neighbours, row-bytes}, Graph.{Graph, linked}, Tables.{marked, bit-table}, Sound.{irreflexive, within}}
+use Rattle.calls.specs.{Questions.{Lengths, ask, site-refusal}, Switches.{Switch, switch}}
 
 -- ---- agreed links and one-sided pairs
 

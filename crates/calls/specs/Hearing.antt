@@ -5,14 +5,10 @@
 --   Row-left         of row a the radios bs are left, and the rows after it
 --   downs, ups       the two phases
 -- Laws are in proofs/HearingLaws.antt. Definitions only.
-use mathlib.Core.Path.{_≡_}
-use mathlib.Core.Bool.{Bool, true, false, _&&_}
-use mathlib.Core.List.{List, [], _++_, map, flatMap}
-use Prim.Native.Nat.{ℕ, suc, _-_, _≤_, _<_}
-use Rattle.lists.specs.Lists.{range, filter, In, Ascending}
+use Rattle.lists.specs.{Kit.{_≡_, Bool, true, false, _&&_, List, [], _++_, map, flatMap, ℕ, suc, _-_, _≤_, _<_}, Lists.{range, filter, In, Ascending}}
 use Rattle.mesh.specs.Tables.{Tables, marked, graph-in}
-use Rattle.calls.specs.Switches.{Switch, switch, tables-after, All-allowed}
-use Rattle.calls.specs.Heard.{agreed, row-switches, switches-where, goes-down, comes-up, heard-switches}
+use Rattle.calls.specs.{Switches.{Switch, switch, tables-after, All-allowed}, Heard.{agreed, row-switches, switches-where, goes-down, comes-up}}
+use Rattle.calls.specs.{Heard.{heard-switches}}
 
 -- the ones done brought t to the tables u, and ss may be made of these
 pub record Left (n : ℕ) (all : List Switch) (t : Tables) (ss : List Switch) (u : Tables) : Type 0 where

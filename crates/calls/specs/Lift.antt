@@ -3,17 +3,11 @@
 --   lifting-from     the pairs that lift v and have the lower radio a, by the higher radio
 --   lifting g v      the pairs that lift v, by lower radio and then higher
 --   first-pair ls    the first of them
---   lift-refusal     1 to 4, and 20: is there a pair that lifts the radio?
+--   is-lifted ls     20: is there a pair that lifts the radio?
 -- That these are core numbers by the largest group is `lift-core` in crate lifting. Definitions only.
-use mathlib.Core.Bool.{Bool, true, false, _&&_}
-use mathlib.Core.List.{List, [], _∷_, map, flatMap}
-use Prim.Native.Nat.{ℕ, suc, _-_}
-use lib.Dec.{ltb, eqb}
-use Rattle.lists.specs.Lists.{range, filter}
-use Rattle.mesh.specs.Limits.{max-neighbours}
-use Rattle.mesh.specs.Graph.{Link, link-of, Graph, radios, relinked}
-use Rattle.mesh.specs.Cores.{number}
-use Rattle.calls.specs.Questions.{Lengths, ask, is-radio, site-refusal, ends-refusal}
+use Rattle.lists.specs.{Kit.{Bool, true, false, _&&_, List, [], _∷_, map, flatMap, ℕ, suc, _-_, ltb, eqb}, Lists.{range, filter}}
+use Rattle.mesh.specs.{Limits.{max-neighbours}, Graph.{Link, link-of, Graph, radios, relinked}, Cores.{number}}
+use Rattle.calls.specs.Questions.{ends-refusal}
 
 -- document 02: a pair whose link is down, would be accepted now, and would raise that radio's core number
 unfoldable pub lifts : Graph → (v : ℕ) → Link → Bool
@@ -36,7 +30,3 @@ first-pair (l ∷ ls) = l
 unfoldable pub is-lifted : List Link → Bool
 is-lifted [] = false
 is-lifted (l ∷ ls) = true
-
--- one link that lifts a radio: 1 to 4 and 20
-unfoldable pub lift-refusal : (n v : ℕ) → Lengths → (sound : Bool) → Graph → ℕ
-lift-refusal n v l sound g = site-refusal n l true sound (ask 4 (is-radio n v) (ask 20 (is-lifted (lifting g v)) 0))

@@ -4,14 +4,8 @@
 --   Removed-right   after removing: the name is gone
 --   Same-mark       what the store has of a name is as it was, byte for byte
 -- Definitions only.
-use mathlib.Core.Path.{_≡_}
-use mathlib.Core.Bool.{true, false, cond}
-use mathlib.Core.List.{List}
-use Prim.Native.Nat.{ℕ, suc, _+_}
-use lib.ListN.{length}
-use Rattle.mesh.specs.Tables.{Tables, graph-in}
-use Rattle.mesh.specs.Image.{image-of}
-use Rattle.mesh.specs.Marks.{store-bytes, is-store, Store-rules, marks-in, found}
+use Rattle.lists.specs.Kit.{_≡_, true, false, cond, List, ℕ, suc, _+_, length}
+use Rattle.mesh.specs.{Tables.{Tables, graph-in}, Image.{image-of}, Marks.{store-bytes, is-store, Store-rules, marks-in, found}}
 use Rattle.calls.specs.Marks.{is-marked, mark-image}
 
 -- document 02, W-211

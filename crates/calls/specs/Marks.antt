@@ -1,21 +1,15 @@
--- Named marks (W-211): questions 17 to 19, the chains of the three calls, and the store after them.
+-- Named marks (W-211): questions 17 to 19, and the chains of the three calls.
 --   marks-good        17. Do every place and the given name keep the rules?
 --   is-marked         18. Is the name there?
 --   has-place         19. Is the name there, or a place unused?
 --   mark-refusal      1, 2 (the store's length too), 3, 17; then the later question
 --   set-refusal       setting: 19 last
 --   named-refusal     removing and coming back: 18 last
---   set-store, removed-store   the store after
 --   mark-image n x bs the image that the mark x of the store bs holds
 -- Definitions only.
-use mathlib.Core.Bool.{Bool, _&&_, _||_}
-use mathlib.Core.List.{List}
-use Prim.Native.Nat.{ℕ}
-use lib.Dec.{ltb, eqb}
-use lib.ListN.{length}
-use Rattle.mesh.specs.Tables.{Tables, graph-in}
-use Rattle.mesh.specs.Image.{image-of}
-use Rattle.mesh.specs.Marks.{places, store-bytes, is-name, is-store, image-in, place-of, marks-in, store-of, has-mark, found, with-mark, without-mark}
+use Rattle.lists.specs.Kit.{Bool, _&&_, _||_, List, ℕ, ltb, eqb, length}
+use Rattle.mesh.specs.{Tables.{Tables, graph-in}, Image.{image-of}, Marks.{places, store-bytes, is-name, is-store, image-in, place-of, marks-in, store-of}}
+use Rattle.mesh.specs.{Marks.{has-mark, found, with-mark, without-mark}}
 use Rattle.calls.specs.Questions.{ask, Lengths, site-refusal}
 
 -- ---- questions
@@ -44,14 +38,7 @@ set-refusal n l sound x bs = mark-refusal n l sound x bs (ask 19 (has-place x bs
 unfoldable pub named-refusal : (n : ℕ) → Lengths → (sound : Bool) → (name store : List ℕ) → ℕ
 named-refusal n l sound x bs = mark-refusal n l sound x bs (ask 18 (is-marked x bs) 0)
 
--- ---- the store after an accepted call, and a mark's image
-
--- the mark is the image of the tables
-unfoldable pub set-store : (n : ℕ) → (name : List ℕ) → Tables → (store : List ℕ) → List ℕ
-set-store n x t bs = store-of (with-mark (place-of x (image-of (graph-in n (t .links)) (t .order))) (marks-in bs))
-
-unfoldable pub removed-store : (name store : List ℕ) → List ℕ
-removed-store x bs = store-of (without-mark x (marks-in bs))
+-- ---- a mark's image
 
 unfoldable pub mark-image : (n : ℕ) → (name store : List ℕ) → List ℕ
 mark-image n x bs = image-in n (found x (marks-in bs))

@@ -1,32 +1,26 @@
 -- Document 01's questions, each a definition of its own, and the chains in which calls put them.
 --   ask r yes later        question r: a "no" gives its number, a "yes" goes on
+--   by-number refusal accepted refused   what comes of the number that the questions give
 --   Lengths                the lengths of links, numbers and order
 --   size-good .. is-image  questions 1 to 13, 15 and 16 (1 is `size-good`, 3 `sound`, 10 `checks-good`, 15 `other-size`, 11 `is-image` of mesh)
---   tables-refusal .. block-refusal   the first "no" of a call's questions, or 0
+--   tables-refusal .. read-refusal   the first "no" of a call's questions, or 0; where one call alone puts them, its outcome says them (Outcomes.antt)
 -- A chain takes the answer to question 3 and the graph that 6 to 8 are put to, since the link book answers these from its
 -- pairs and gives 3 a yes. A chain `..-within most` asks with that bound on neighbours; without it, with a site's own. The numbers
 -- of document 02 stand where it puts them: 12 and 13 after 3, 16 after 7, 15 after 10.
 -- Definitions only.
-use mathlib.Core.Bool.{Bool, true, false, _&&_, not}
-use mathlib.Core.List.{List}
-use Prim.Native.Nat.{ℕ, zero, suc, _+_, _*_}
-use lib.Dec.{ltb, leb, eqb}
-use lib.IntN.{ℤ, pos, negsuc}
-use lib.ListN.{length}
-use Rattle.mesh.specs.Limits.{max-neighbours, row-bytes}
-use Rattle.lists.specs.Lists.{same}
-use Rattle.mesh.specs.Graph.{Graph, linked, degree}
-use Rattle.mesh.specs.Cores.{number}
-use Rattle.mesh.specs.Levels.{changed, step-of}
-use Rattle.mesh.specs.Tables.{Tables}
-use Rattle.mesh.specs.Image.{block-bytes, block-count, whole-blocks, checks-good, other-size, is-image}
-use Rattle.calls.specs.Sheet.{sheet-length}
-use Rattle.calls.specs.Script.{script-length}
+use Rattle.lists.specs.{Kit.{Bool, true, false, _&&_, not, List, ℕ, zero, suc, _+_, _*_, ltb, leb, eqb, ℤ, pos, negsuc, length}, Lists.{same}}
+use Rattle.mesh.specs.{Limits.{max-neighbours, row-bytes}, Graph.{Graph, linked, degree}, Cores.{number}, Levels.{changed, step-of}, Tables.{Tables}}
+use Rattle.mesh.specs.{Image.{block-bytes, block-count, whole-blocks, checks-good, other-size, is-image}}
 unfoldable pub use Rattle.mesh.specs.Limits.{size-good}
 
 unfoldable pub ask : (number : ℕ) → (yes : Bool) → (later : ℕ) → ℕ
 ask r true later = later
 ask r false later = r
+
+-- no "no": the accepted outcome; else that of the refusal
+unfoldable pub by-number : {A : Type 0} → (refusal : ℕ) → (accepted : A) → (refused : ℕ → A) → A
+by-number zero accepted refused = accepted
+by-number (suc q) accepted refused = refused (suc q)
 
 -- ---- questions 1 and 2: sizes and lengths
 
@@ -44,13 +38,6 @@ site-lengths n l = eqb (l .links) (row-bytes * n) && (eqb (l .numbers) n && eqb 
 
 unfoldable pub answer-length : (n answer : ℕ) → Bool
 answer-length n w = leb n w
-
-unfoldable pub nodes-length : (n nodes : ℕ) → Bool
-nodes-length n w = leb (n + 1) w
-
--- document 02, W-209: two entries a link, and there are fewer links than radios
-unfoldable pub staircase-length : (n table : ℕ) → Bool
-staircase-length n w = leb (2 * n) w
 
 -- ---- questions 4 to 8: radios, links, levels
 
@@ -94,24 +81,9 @@ is-proposal up a b z xs g = let cs = changed up a b g in same-step z (step-of up
 
 -- ---- question 9: images
 
--- writing: does the buffer hold the image?
+-- writing: does the buffer hold that many bytes?
 unfoldable pub image-length : Graph → ℕ
 image-length g = block-bytes * block-count (g .n) (length (g .links))
-
-unfoldable pub holds-image : Graph → (buffer : ℕ) → Bool
-holds-image g room = leb (image-length g) room
-
--- ---- question 12: pages
-
--- document 02, W-201: does the page hold the site sheet?
-unfoldable pub holds-sheet : (n page : ℕ) → Bool
-holds-sheet n room = leb (sheet-length n) room
-
--- ---- question 13: scripts
-
--- document 02, W-203: does the text buffer hold the script?
-unfoldable pub holds-script : Graph → (text : ℕ) → Bool
-holds-script g room = leb (script-length g) room
 
 -- ---- chains
 
@@ -142,9 +114,6 @@ abbrev pub link-refusal-within :
 link-refusal-within most up n a b l w sound g =
     site-refusal n l (answer-length n w) sound (ends-refusal most up n a b g)
 
-unfoldable pub link-refusal : (up : Bool) → (n a b : ℕ) → Lengths → (answer : ℕ) → (sound : Bool) → Graph → ℕ
-link-refusal up n a b l w sound g = link-refusal-within max-neighbours up n a b l w sound g
-
 -- document 02, W-210: committing: 1 to 7 and 16; there is no answer table, and 2 does not ask for the list's length
 unfoldable pub commit-refusal :
     (up : Bool) → (n a b : ℕ) → (step : ℤ) → (list : List ℕ) → Lengths → (sound : Bool) → Graph → ℕ
@@ -159,59 +128,14 @@ radio-refusal n v l sound = site-refusal n l true sound (ask 4 (is-radio n v) 0)
 unfoldable pub pair-refusal : (n a b : ℕ) → Lengths → (sound : Bool) → ℕ
 pair-refusal n a b l sound = site-refusal n l true sound (ask 4 (are-radios n a b) 0)
 
--- 4 and 8
-unfoldable pub level-refusal : (n v k : ℕ) → Graph → ℕ
-level-refusal n v k g = ask 4 (is-radio n v) (ask 8 (has-level g v k) 0)
-
--- a connected core: 1 to 4 and 8
-unfoldable pub core-refusal : (n v k : ℕ) → Lengths → (answer : ℕ) → (sound : Bool) → Graph → ℕ
-core-refusal n v k l w sound g =
-    site-refusal n l (answer-length n w) sound (level-refusal n v k g)
-
--- the backbone: 1 to 3
-unfoldable pub backbone-refusal : (n : ℕ) → Lengths → (answer : ℕ) → (sound : Bool) → ℕ
-backbone-refusal n l w sound = site-refusal n l (answer-length n w) sound 0
-
--- the shell tree: 1 to 3
-unfoldable pub tree-refusal : (n : ℕ) → Lengths → (nodes answer : ℕ) → (sound : Bool) → ℕ
-tree-refusal n l m w sound = site-refusal n l (nodes-length n m && answer-length n w) sound 0
-
--- document 02, W-209: the staircase tree: 1 to 3
-unfoldable pub staircase-refusal : (n : ℕ) → Lengths → (table : ℕ) → (sound : Bool) → ℕ
-staircase-refusal n l w sound = site-refusal n l (staircase-length n w) sound 0
-
--- writing an image: 1 to 3 and 9
-unfoldable pub write-refusal : (n : ℕ) → Lengths → (buffer : ℕ) → (sound : Bool) → Graph → ℕ
-write-refusal n l room sound g = site-refusal n l true sound (ask 9 (holds-image g room) 0)
-
--- document 02, W-201: the site sheet: 1 to 3 and 12
-unfoldable pub sheet-refusal : (n : ℕ) → Lengths → (page : ℕ) → (sound : Bool) → ℕ
-sheet-refusal n l room sound = site-refusal n l true sound (ask 12 (holds-sheet n room) 0)
-
--- document 02, W-203: a script's length: 1 to 3
-unfoldable pub script-length-refusal : (n : ℕ) → Lengths → (sound : Bool) → ℕ
-script-length-refusal n l sound = site-refusal n l true sound 0
-
--- document 02, W-203: the script: 1 to 3 and 13
-unfoldable pub script-refusal : (n : ℕ) → Lengths → (text : ℕ) → (sound : Bool) → Graph → ℕ
-script-refusal n l room sound g = site-refusal n l true sound (ask 13 (holds-script g room) 0)
-
 -- 9 and 10 of the whole image; then the later questions
 unfoldable pub blocks-refusal : (image : List ℕ) → (later : ℕ) → ℕ
 blocks-refusal bs later = ask 9 (whole-blocks bs) (ask 10 (checks-good bs) later)
 
--- document 01, question 11, and W-207's 15: 15 and 11: of which tables it is the image
-abbrev pub source-refusal : (n : ℕ) → (image : List ℕ) → ℕ
-source-refusal n bs = ask 15 (not (other-size n bs)) (ask 11 (is-image n bs) 0)
-
--- 9, 10, 15, 11
+-- document 01, question 11, and W-207's 15: 9, 10, 15, 11
 unfoldable pub image-refusal : (n : ℕ) → (image : List ℕ) → ℕ
-image-refusal n bs = blocks-refusal bs (source-refusal n bs)
+image-refusal n bs = blocks-refusal bs (ask 15 (not (other-size n bs)) (ask 11 (is-image n bs) 0))
 
 -- reading an image: 1, 2, 9, 10, 15, 11
 unfoldable pub read-refusal : (n : ℕ) → Lengths → (image : List ℕ) → ℕ
 read-refusal n l bs = lent-refusal n l true (image-refusal n bs)
-
--- a step of the block reader: 9 and 10
-unfoldable pub block-refusal : (image : List ℕ) → ℕ
-block-refusal bs = blocks-refusal bs 0

@@ -6,9 +6,7 @@
 --   bad-line l                    what ends the run at line l of another form
 --   answer-line h, lines hs ns xs the line of an answer; a line for each, then the closing lines
 -- Decimal numbers and lines of fields are in crate text. Definitions only.
-use mathlib.Core.List.{List, [], _∷_, _++_, map, flatMap}
-use Prim.Native.Nat.{ℕ, zero, suc, _+_}
-use lib.IntN.{ℤ, pos, negsuc}
+use Rattle.lists.specs.Kit.{List, [], _∷_, _++_, map, flatMap, ℕ, zero, suc, ℤ, pos, negsuc}
 use Rattle.text.specs.Text.{bytes-of, decimal, printed-line}
 use Rattle.calls.specs.Book.{Answer}
 

@@ -9,7 +9,7 @@
 --   Hear-right        after a hearing: the links are exactly the agreed ones, and the one-sided pairs are marked and counted
 --   Listed            a list of radios in front of a lent list
 --   Later-right       the later neighbours of a radio: how many, and the first of them
---   Core-listed, Backbone-listed   the radios listed
+--   Radios-listed     the radios listed: those of a connected core, of the backbone
 --   Tree-listed       the nodes listed, and each radio's node name
 --   Sheet-right       the site sheet, column by column
 --   Script-right      the script that rebuilds the site
@@ -19,35 +19,15 @@
 --   Image-answered    the number that reading answers where 1, 2, 9 and 10 got yes
 --   Block-part, Block-end   what a step of the block reader gives
 -- Definitions only.
-use mathlib.Core.Path.{_≡_}
-use mathlib.Core.Logic.{_↔_}
-use mathlib.Core.Bool.{Bool, true, _&&_, not, cond}
-use mathlib.Core.List.{List}
-use lib.Dec.{eqb}
-use Prim.Native.Nat.{ℕ, _+_, _*_, _/_, _≤_, _<_}
-use lib.ListN.{length, getD, take, drop}
-use Rattle.mesh.specs.Limits.{max-radios, max-neighbours}
-use Rattle.lists.specs.Lists.{range, total, member, Ascending}
-use Rattle.mesh.specs.Graph.{Graph, graph, linked, relinked}
-use Rattle.mesh.specs.Cores.{Core, number}
-use Rattle.mesh.specs.Orders.{is-k-order, later-in, nobody, First-later}
-use Rattle.mesh.specs.Tables.{Tables, marked, graph-in}
-use Rattle.mesh.specs.Sound.{row-degree, rows-proper, number-in, sound}
-use Rattle.mesh.specs.Connected.{In-core, In-backbone}
-use Rattle.mesh.specs.Tree.{Is-tree, Node-name}
-use Rattle.mesh.specs.Staircase.{staircase, link-entries, Staircase-tree}
-use Rattle.mesh.specs.Image.{block-bytes, payload-bytes, payload-at, image-of, image-graph, Tables-image, Other-size, Image-of-none}
-use Rattle.mesh.specs.declared.Node.{Node}
-use Rattle.calls.specs.Sheet.{line-bytes, sheet, sheet-lines, Columns}
-use Rattle.calls.specs.Script.{script-of}
-use Rattle.calls.specs.Outcomes.{no-block}
-use Rattle.calls.specs.Switches.{pairs-after, tables-after, All-allowed}
-use Rattle.calls.specs.Questions.{ends-refusal}
-use Rattle.calls.specs.Batches.{ups}
-use Rattle.calls.specs.Heard.{heard-switches}
-use Rattle.calls.specs.declared.Reply.{Reply}
-use Rattle.calls.specs.declared.Value.{Value}
-use Rattle.calls.specs.declared.Block.{Block}
+use Rattle.lists.specs.{Kit.{_≡_, _↔_, Bool, true, _&&_, not, cond, List, eqb, ℕ, _+_, _*_, _/_, _≤_, _<_, length, getD, take, drop}, Lists.{range, total}}
+use Rattle.lists.specs.{Lists.{member, Ascending}}
+use Rattle.mesh.specs.{Limits.{max-radios, max-neighbours}, Graph.{Graph, graph, linked, relinked}, Cores.{Core, number}, Orders.{is-k-order, later-in, nobody}}
+use Rattle.mesh.specs.{Orders.{First-later}, Tables.{Tables, marked, graph-in}, Sound.{row-degree, rows-proper, number-in, sound}, Tree.{Is-tree, Node-name}}
+use Rattle.mesh.specs.{Staircase.{staircase, link-entries, Staircase-tree}, Image.{block-bytes}}
+use Rattle.mesh.specs.{Image.{payload-bytes, payload-at, image-of, image-graph, Tables-image, Other-size, Image-of-none}, declared.Node.{Node}}
+use Rattle.calls.specs.{Sheet.{line-bytes, sheet, sheet-lines, Columns}, Script.{script-of}, Outcomes.{no-block}, Switches.{pairs-after, tables-after}}
+use Rattle.calls.specs.{Switches.{All-allowed}, Questions.{ends-refusal}, Batches.{ups}, Heard.{heard-switches}, declared.Reply.{Reply}}
+use Rattle.calls.specs.{declared.Value.{Value}, declared.Block.{Block}}
 
 -- ---- numbers and order
 
@@ -127,12 +107,9 @@ pub record Later-right (g : Graph) (v : ℕ) (xs : List ℕ) (count first : ℕ)
 
 -- ---- connected cores, backbone, shell tree
 
-pub record Core-listed (g : Graph) (v k count : ℕ) (w x : List ℕ) : Type 0 where
-  pub exactly : (y : ℕ) → (member y (take count x) ≡ true) ↔ In-core g v k y
-  pub listed : Listed count w x
-
-pub record Backbone-listed (g : Graph) (count : ℕ) (w x : List ℕ) : Type 0 where
-  pub exactly : (y : ℕ) → (member y (take count x) ≡ true) ↔ In-backbone g y
+-- exactly the radios of which P holds are listed
+pub record Radios-listed (P : ℕ → Type 0) (count : ℕ) (w x : List ℕ) : Type 0 where
+  pub exactly : (y : ℕ) → (member y (take count x) ≡ true) ↔ P y
   pub listed : Listed count w x
 
 -- m and w are the list of nodes and the answer table before the call, p and x the same after it

@@ -5,9 +5,7 @@
 --   script-of g          the script: line 1, then one `up` line for each link of the graph, in its order
 --   script-length g      the script's length in bytes
 -- The links of a graph stand ascending, by lower and then higher radio. Crate script parses these texts. Definitions only.
-use mathlib.Core.List.{List, [], _∷_, _++_, flatMap}
-use Prim.Native.Nat.{ℕ}
-use lib.ListN.{length}
+use Rattle.lists.specs.Kit.{List, [], _∷_, _++_, flatMap, ℕ, length}
 use Rattle.mesh.specs.Graph.{Link, Graph}
 use Rattle.text.specs.Text.{bytes-of, decimal, printed-line}
 

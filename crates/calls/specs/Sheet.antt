@@ -11,11 +11,7 @@
 --   sheet-length n           the sheet's length in bytes
 --   Columns n num bs         what stands in each column of the page bs
 -- That the sheet has this length and these columns is `length-sheet` and `sheet-columns` in proofs/SheetLaws.antt. Definitions only.
-use mathlib.Core.Path.{_≡_}
-use mathlib.Core.List.{List, [], _∷_, _++_, flatMap}
-use Prim.Native.Nat.{ℕ, _+_, _*_, _-_, _/_, _≤_, _<_, min}
-use lib.ListN.{length, getD, replicate}
-use Rattle.lists.specs.Lists.{range}
+use Rattle.lists.specs.{Kit.{_≡_, List, [], _∷_, _++_, flatMap, ℕ, _+_, _*_, _-_, _/_, _≤_, _<_, min, length, getD, replicate}, Lists.{range}}
 use Rattle.mesh.specs.Sound.{number-in}
 use Rattle.text.specs.Text.{bytes-of, space, line-feed, decimal}
 

@@ -3,11 +3,8 @@
 --   cell-good, sheet-good    is the row right
 --   cell-cases, sheet-cases  the tables
 -- Definitions only.
-use mathlib.Core.Bool.{Bool, true, _&&_}
-use mathlib.Core.List.{List, [], _∷_, flatMap}
-use Prim.Native.Nat.{ℕ}
+use Rattle.lists.specs.{Kit.{Bool, true, _&&_, List, [], _∷_, flatMap, ℕ}, Lists.{same}}
 use Prim.Native.String.{String}
-use Rattle.lists.specs.Lists.{same}
 use Rattle.text.specs.Text.{bytes-of}
 use Rattle.calls.specs.Sheet.{cell, sheet}
 

@@ -3,11 +3,7 @@
 --   digit-column p x   one column of a number: its digit that counts p
 --   Cells-fit ns       radios have at most three digits, and their numbers at most two
 -- Definitions only.
-use mathlib.Core.Bool.{cond}
-use mathlib.Core.List.{List}
-use Prim.Native.Nat.{ℕ, _+_, _*_, _/_, _%_, _≤_, _<_}
-use lib.Dec.{ltb}
-use lib.ListN.{length}
+use Rattle.lists.specs.Kit.{cond, List, ℕ, _+_, _*_, _/_, _%_, _≤_, _<_, ltb, length}
 use Rattle.mesh.specs.Sound.{number-in}
 use Rattle.text.specs.Text.{space, digit-byte}
 use Rattle.calls.specs.Sheet.{cell-width, line-bytes}

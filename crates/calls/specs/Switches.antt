@@ -5,14 +5,9 @@
 --   tables-after n ss t the same of a list, one after the other
 --   All-allowed n ps ss questions 4 to 7 of each get yes in turn, where ps are the pairs before the first
 -- Definitions only.
-use mathlib.Core.Bool.{Bool}
-use mathlib.Core.List.{List, [], _∷_}
-use Prim.Native.Nat.{ℕ}
-use Rattle.mesh.specs.Limits.{max-neighbours}
-use Rattle.mesh.specs.Graph.{Link, graph, relinked, new-links, Allowed}
-use Rattle.mesh.specs.Cores.{numbers}
-use Rattle.mesh.specs.Levels.{new-order}
-use Rattle.mesh.specs.Tables.{Tables, tables, put-link, graph-in}
+use Rattle.lists.specs.Kit.{Bool, List, [], _∷_, ℕ}
+use Rattle.mesh.specs.{Limits.{max-neighbours}, Graph.{Link, graph, relinked, new-links, Allowed}, Cores.{numbers}, Levels.{new-order}, Tables.{Tables, tables}}
+use Rattle.mesh.specs.{Tables.{put-link, graph-in}}
 
 -- the link between a and b goes up or down
 pub record Switch : Type 0 where

@@ -7,29 +7,15 @@
 --   meets want             is it so, by the outcome of the call that is asked
 --   Row, Right             a row, and that its wants are met whatever the lent tables held
 -- Definitions only.
-use mathlib.Core.Path.{_≡_}
-use mathlib.Core.Bool.{Bool, true, false, _&&_, cond}
-use mathlib.Core.List.{List, [], _∷_, _++_, map, flatMap}
-use Prim.Native.Nat.{ℕ, zero, suc, _+_, _*_, _-_}
+use Rattle.lists.specs.{Kit.{_≡_, Bool, true, false, _&&_, cond, List, [], _∷_, _++_, map, flatMap, ℕ, zero, suc, _+_, _*_, _-_, eqb, length, drop, take, set}}
+use Rattle.lists.specs.{Lists.{range, same}}
 use Prim.Native.String.{String}
-use lib.Dec.{eqb}
-use lib.ListN.{length, drop, take, set}
-use Rattle.mesh.specs.Limits.{row-bytes, former-neighbours}
-use Rattle.lists.specs.Lists.{range, same}
-use Rattle.mesh.specs.Tables.{Tables, tables, graph-in}
-use Rattle.mesh.specs.Tree.{node}
-use Rattle.mesh.specs.Image.{block-bytes, long}
-use Rattle.mesh.specs.declared.Node.{Node}
-use Rattle.calls.specs.Questions.{image-length, same-step, ends-refusal}
-use Rattle.calls.specs.Switches.{Switch, switch}
-use Rattle.calls.specs.Outcomes.{Linked, Listing, clear-outcome, read-outcome, link-outcome, check-outcome, core-outcome, backbone-outcome, write-outcome, tree-outcome}
-use Rattle.calls.specs.Outcomes.{staircase-outcome}
-use Rattle.calls.specs.Script.{script-of}
-use Rattle.calls.specs.Book.{Answer, plain, reported}
-use Rattle.calls.specs.Runs.{answer-of}
+use Rattle.mesh.specs.{Limits.{row-bytes, former-neighbours}, Tables.{Tables, tables, graph-in}, Tree.{node}, Image.{block-bytes, long}, declared.Node.{Node}}
+use Rattle.calls.specs.{Questions.{image-length, same-step, ends-refusal}, Switches.{Switch, switch}, Outcomes.{Linked, Listing, clear-outcome}}
+use Rattle.calls.specs.{Outcomes.{read-outcome, link-outcome, check-outcome, core-outcome, backbone-outcome, write-outcome, tree-outcome}}
+use Rattle.calls.specs.{Outcomes.{staircase-outcome}, Script.{script-of}, Book.{Answer, counted, reported}, Runs.{answer-of}, Replay.{lines, bad-line}}
+use Rattle.calls.specs.{declared.Reply.{Reply}, declared.Value.{Value}}
 use Rattle.text.specs.Text.{bytes-of}
-use Rattle.calls.specs.Replay.{lines, bad-line}
-use Rattle.calls.specs.declared.Value.{Value}
 
 -- ---- what is lent
 
@@ -61,10 +47,10 @@ unfoldable pub fallen : (changed : List ℕ) → Answer
 fallen cs = reported false cs
 
 unfoldable pub unchanged : Answer
-unchanged = plain 0
+unchanged = counted 0 0
 
 unfoldable pub refused : (number : ℕ) → Answer
-refused r = plain r
+refused r = counted r 0
 
 pub record Left : Type 0 where
   pub tables : Tables
@@ -74,8 +60,8 @@ abbrev pub left : Tables → List Answer → Left
 left t hs = record { tables = t; answers = hs }
 
 -- one outcome more
-unfoldable pub left-by : Left → Linked → Left
-left-by s o = left (o .tables) (s .answers ++ (answer-of (o .reply) (o .answer) ∷ []))
+unfoldable pub left-by : Left → Linked Reply → Left
+left-by s o = left (o .tables) (s .answers ++ (answer-of (o .reply) (o .lent) ∷ []))
 
 -- a link call, lent an answer table of n entries
 unfoldable pub played : (ℕ → ℕ) → (n : ℕ) → Switch → Left → Left
@@ -152,7 +138,7 @@ unfoldable pub is-value : Value → (number value : ℕ) → Bool
 is-value r q x = eqb (r .number) q && eqb (r .value) x
 
 -- the number, the count of xs, and xs in front of the lent list
-unfoldable pub is-listing : Listing → (number : ℕ) → (xs : List ℕ) → Bool
+unfoldable pub is-listing : Listing Value (List ℕ) → (number : ℕ) → (xs : List ℕ) → Bool
 is-listing o q xs = is-value (o .reply) q (length xs) && same (take (length xs) (o .lent)) xs
 
 -- the image, written into a buffer that just holds it
@@ -166,7 +152,7 @@ meets f n s (all-numbers ns) = same (s .tables .numbers) ns
 meets f n s (whole-order xs) = same (s .tables .order) xs
 meets f n s (shell-tree ns vs) =
     let o = tree-outcome n (s .tables) (lent-nodes f n) (entries f n) in
-    is-value (o .reply) 0 (length ns) && (same-nodes (take (length ns) (o .nodes)) ns && same (take n (o .answer)) vs)
+    is-value (o .reply) 0 (length ns) && (same-nodes (take (length ns) (o .lent .0)) ns && same (take n (o .lent .1)) vs)
 meets f n s (connected-core v k r xs) = is-listing (core-outcome n v k (s .tables) (entries f n)) r xs
 meets f n s (backbone-radios xs) = is-listing (backbone-outcome n (s .tables) (entries f n)) 0 xs
 meets f n s (image-checks m cs) =

@@ -1,36 +1,18 @@
 -- Questions 14 and 7, row by row.
 --   Proper-below     the rows before row a mark neither their own radio nor one at n or above
 --   Few-below        the radios before radio a have few enough agreed links
-use mathlib.Core.Path.{_≡_, refl, sym, ap, _∙_, subst}
-use mathlib.Core.Logic.{_⊎_, inl, inr}
-use mathlib.Core.Bool.{Bool, true, false, _&&_, not}
-use mathlib.Core.List.{List, [], _∷_}
-use Prim.Native.Nat.{ℕ, suc, _+_, _*_, _-_, _/_, _%_, _^_, _≤_, _<_}
-use native.Mathlib.Omega.{arith}
-use native.Mathlib.Numerals.{add-one}
-use lib.Bits.{bitAnd}
-use lib.Count.{trailingZeros}
-use lib.Dec.{leb, eqb}
-use lib.ListN.{length, getD}
+use Rattle.lists.{specs.Kit.{_≡_, refl, sym, ap, _∙_, subst, _⊎_, inl, inr, Bool, true, false, _&&_, not, List, [], _∷_, ℕ, _+_, _*_, _-_, _/_, _%_, _^_}}
+use Rattle.lists.{specs.Kit.{_≤_, _<_, arith, bitAnd, trailingZeros, leb, eqb, length, getD, leb-true, leb-false, le-leb, not-true}}
+use Rattle.lists.{specs.Lists.{range, count, filter, all, In}, proofs.Tests.{bool-cases, never, and-left, and-right, and-both}, proofs.Count.{count-mono}}
+use Rattle.lists.{proofs.Count.{count-le-length}, proofs.Range.{count-front, count-below, length-range, range-append}, proofs.Filter.{in-filter, filter-in}}
+use Rattle.lists.{proofs.All.{all-in, in-all, all-below, below-all, all-append}}
 use lib.Pow.{shr-shr, shr-lt}
-use borrow.Author.Tests.{leb-true, leb-false, le-leb, not-true}
-use Rattle.mesh.specs.Limits.{max-radios, max-neighbours, row-bytes}
-use Rattle.lists.specs.Lists.{range, count, filter, all, In}
-use Rattle.lists.proofs.Tests.{bool-cases, never, and-left, and-right, and-both}
-use Rattle.lists.proofs.Count.{count-mono, count-le-length}
-use Rattle.lists.proofs.Range.{count-front, count-below, length-range, range-append}
-use Rattle.lists.proofs.Filter.{in-filter, filter-in}
-use Rattle.lists.proofs.All.{all-in, in-all, all-below, below-all, all-append}
-use Rattle.mesh.specs.Tables.{digit, marked}
-use Rattle.mesh.specs.Sound.{irreflexive, within, row-degree}
-use Rattle.mesh.proofs.Tables.Rows.{irreflexive-of, of-irreflexive}
-use Rattle.rows.specs.Rows.{neighbours-of, row-listed, row-count, set-bits, row-word}
-use Rattle.rows.proofs.MaskLaws.{marked-past}
-use Rattle.rows.proofs.WordLaws.{set-bits-filter, set-bits-nothing, set-bits-lowest, word-at-less}
-use Rattle.rows.proofs.RowWords.{marked-word, row-listed-short}
-use Rattle.rows.proofs.RowListLaws.{count-neighbours-of, length-row-listed-radio}
-use Rattle.calls.specs.Questions.{ask}
-use Rattle.calls.specs.Heard.{agreed, agreed-degree, heard-proper, agreed-few}
+use Rattle.mesh.{specs.Limits.{max-radios, max-neighbours, row-bytes}, specs.Tables.{digit, marked}, specs.Sound.{irreflexive, within, row-degree}}
+use Rattle.mesh.{proofs.Tables.Rows.{irreflexive-of, of-irreflexive}}
+use Rattle.rows.{specs.Rows.{neighbours-of, row-listed, row-count, set-bits, row-word}, proofs.MaskLaws.{marked-past}, proofs.WordLaws.{set-bits-filter}}
+use Rattle.rows.{proofs.WordLaws.{set-bits-nothing, set-bits-lowest, word-at-less}, proofs.RowWords.{marked-word, row-listed-short}}
+use Rattle.rows.{proofs.RowListLaws.{count-neighbours-of, length-row-listed-radio}}
+use Rattle.calls.specs.{Questions.{ask}, Heard.{agreed, agreed-degree, heard-proper, agreed-few}}
 use Rattle.conditions.specs.Hearing.{Of-size, hears, none-from, rows-refusal}
 
 -- ---- no radio at n or above
@@ -40,20 +22,8 @@ module _ (hs : List ℕ) (a b : ℕ) where
   unfolding none-from range all
   none-end l = let e : max-radios - b ≡ 0 = omega arith in rw e
 
-  none-first : b < max-radios → none-from b hs a ≡ (not (marked hs a b) && none-from (b + 1) hs a)
-  unfolding none-from range all
-  none-first l =
-      let e : max-radios - b ≡ suc (max-radios - (b + 1)) = omega arith in
-      rw (e, add-one b)
-
   pub within-end : (n : ℕ) → none-from n hs a ≡ none-from b hs a → max-radios ≤ b → true ≡ none-from n hs a
   within-end n h l = sym (h ∙ none-end l)
-
-  pub within-turn : (n : ℕ) → none-from n hs a ≡ none-from b hs a → b < max-radios → marked hs a b ≡ false → none-from n hs a ≡ none-from (b + 1) hs a
-  within-turn n h l e = h ∙ none-first l ∙ rw e
-
-  pub within-no : (n : ℕ) → none-from n hs a ≡ none-from b hs a → b < max-radios → marked hs a b ≡ true → false ≡ none-from n hs a
-  within-no n h l e = sym (h ∙ none-first l ∙ rw e)
 
 -- ---- no radio at n or above, word by word
 

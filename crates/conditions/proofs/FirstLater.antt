@@ -1,32 +1,14 @@
 -- The later neighbours of a radio of tables with proper rows: what is counted of its row is what the order says.
 -- In order: the first of some radios by its key, the entries after a radio's place, the first of them.
-use mathlib.Core.Path.{_≡_, refl, sym, ap, _∙_}
-use mathlib.Core.Logic.{_⊎_, inl, inr}
-use mathlib.Core.Bool.{Bool, true, false, _&&_, cond}
-use mathlib.Core.List.{List, [], _∷_}
-use Prim.Native.Nat.{ℕ, suc, _+_, _*_, _-_, _%_, _≤_, _<_, min}
-use native.Mathlib.Omega.{arith}
-use lib.Dec.{ltb, leb}
-use lib.ListN.{length, getD, drop, length-drop}
-use lib.Seq.{getD-drop}
-use borrow.Author.Tests.{ltb-true, ltb-false, lt-ltb, leb-true, leb-false}
-use Rattle.mesh.specs.Limits.{max-radios, max-neighbours}
-use Rattle.lists.specs.Lists.{range, filter, head-or, In}
-use Rattle.lists.specs.Facts.{Each-once, Rising}
-use Rattle.mesh.specs.Graph.{linked}
-use Rattle.mesh.specs.Orders.{later-in, nobody}
-use Rattle.mesh.specs.Tables.{Tables, marked, graph-in}
-use Rattle.mesh.specs.Sound.{symmetric, irreflexive, within, few, rows-proper}
-use Rattle.lists.proofs.Tests.{bool-cases, never, and-left, and-right}
-use Rattle.lists.proofs.Filter.{in-filter, filter-in, filter-ext, length-filter}
-use Rattle.lists.proofs.Range.{once-below, once-length, once-in, in-range}
-use Rattle.lists.proofs.Member.{in-getD, getD-of-in}
-use Rattle.lists.proofs.Ascending.{rising-filter, rising-index}
-use Rattle.mesh.proofs.Cores.Later.{later-in-at}
-use Rattle.mesh.proofs.Tables.ReadBack.{linked-graph-in}
-use Rattle.mesh.proofs.Tables.Rows.{within-of}
-use Rattle.rows.specs.Rows.{neighbours-of}
-use Rattle.rows.proofs.RowListLaws.{in-neighbours-of}
+use Rattle.lists.{specs.Kit.{_≡_, refl, sym, ap, _∙_, _⊎_, inl, inr, Bool, true, false, _&&_, cond, List, [], _∷_, ℕ, suc, _+_, _*_, _-_, _%_, _≤_, _<_, min}}
+use Rattle.lists.{specs.Kit.{arith, ltb, leb, length, getD, drop, length-drop, getD-drop, ltb-true, ltb-false, lt-ltb, leb-true, leb-false}}
+use Rattle.lists.{specs.Lists.{range, filter, head-or, In}, specs.Facts.{Each-once, Rising}, proofs.Tests.{bool-cases, never, and-left, and-right}}
+use Rattle.lists.{proofs.Filter.{in-filter, filter-in, filter-ext, length-filter}, proofs.Range.{once-below, once-length, once-in, in-range}}
+use Rattle.lists.{proofs.Member.{in-getD, getD-of-in}, proofs.Ascending.{rising-filter, rising-index}}
+use Rattle.mesh.{specs.Limits.{max-radios, max-neighbours}, specs.Graph.{linked}, specs.Orders.{later-in, nobody}, specs.Tables.{Tables, marked, graph-in}}
+use Rattle.mesh.{specs.Sound.{symmetric, irreflexive, within, few, rows-proper}, proofs.Cores.Later.{later-in-at}, proofs.Tables.ReadBack.{linked-graph-in}}
+use Rattle.mesh.{proofs.Tables.Rows.{within-of}}
+use Rattle.rows.{specs.Rows.{neighbours-of}, proofs.RowListLaws.{in-neighbours-of}}
 use Rattle.conditions.specs.Conditions.{Placed, sooner-key, first-key, later-count}
 use Rattle.conditions.proofs.RowByRow.{place-of, later-count-is}
 

@@ -1,18 +1,9 @@
 -- Words of a row whose set bits all are radios of a site: the ones that are not above the highest such word.
-use mathlib.Core.Path.{_≡_, sym, ap, _∙_}
-use mathlib.Core.Logic.{_⊎_, inl, inr}
-use mathlib.Core.Bool.{Bool, true, false, cond, and-false}
-use mathlib.Core.List.{_∷_}
-use Prim.Native.Nat.{ℕ, zero, suc, _+_, _*_, _-_, _/_, _%_, _^_, _≤_, _<_, min}
-use native.Mathlib.Omega.{arith}
-use native.Mathlib.Nat.{one-mul, mod-eq-of-lt, pow-succ'}
-use lib.Dec.{leb, eqb}
+use Rattle.lists.{specs.Kit.{_≡_, sym, ap, _∙_, _⊎_, inl, inr, Bool, true, false, cond, and-false, _∷_, ℕ, zero, suc, _+_, _*_, _-_, _/_, _%_, _^_, _≤_, _<_}}
+use Rattle.lists.{specs.Kit.{min, arith, one-mul, mod-eq-of-lt, pow-succ', leb, eqb, leb-true, leb-false, eqb-false}, specs.Lists.{all, In}}
+use Rattle.lists.{proofs.Tests.{bool-cases}}
 use lib.Pow.{pow-pos, pow-lt}
-use borrow.Author.Tests.{leb-true, leb-false, eqb-false}
-use Rattle.lists.specs.Lists.{all, In}
-use Rattle.lists.proofs.Tests.{bool-cases}
-use Rattle.rows.specs.Rows.{set-bits}
-use Rattle.rows.proofs.WordLaws.{set-bits-nothing}
+use Rattle.rows.{specs.Rows.{set-bits}, proofs.WordLaws.{set-bits-nothing}}
 use Rattle.conditions.specs.Conditions.{highest-word}
 
 none-set : (d i w b : ℕ) → w ≡ 0 → In b (set-bits d i w) → ⊥

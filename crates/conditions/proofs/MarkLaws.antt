@@ -2,40 +2,20 @@
 --   pair-heard, pair-alone   a pair that is passed over, a pair that is marked
 --   Row-marking              some pairs of a row are marked and counted, and give with what is left what all of them give
 --   Marking                  the rows before row a are marked, and counted with what is left as the whole
-use mathlib.Core.Path.{_≡_, refl, sym, ap, _∙_}
-use mathlib.Core.Logic.{_⊎_, inl, inr}
-use mathlib.Core.Bool.{Bool, true, false, _&&_, _||_, not, cond}
-use mathlib.Core.List.{List, [], _∷_, _++_}
-use Prim.Native.Nat.{ℕ, suc, _+_, _*_, _-_, _^_, _≤_, _<_}
-use native.Mathlib.Omega.{arith}
-use native.Mathlib.Numerals.{add-one}
-use mir.Syntax.{w32}
-use mir.Val.{boolByte, Fits}
-use lib.Bits.{bitAnd}
-use lib.Count.{trailingZeros}
-use lib.Dec.{ltb, eqb}
-use lib.ListN.{length, getD, replicate, length-replicate}
-use borrow.Author.Tests.{eqb-true, eq-eqb, ne-eqb, lt-ltb, le-ltb}
-use Rattle.mesh.specs.Limits.{max-radios, row-bytes}
-use Rattle.lists.specs.Facts.{Bytes, folded}
-use Rattle.lists.specs.Lists.{In, range, count, total, member}
-use Rattle.lists.proofs.Tests.{trichotomy}
-use Rattle.lists.proofs.Count.{count-le-length}
-use Rattle.lists.proofs.Range.{count-below}
-use Rattle.lists.proofs.Filter.{count-filter}
-use Rattle.lists.proofs.Loops.{length-folded, folded-append}
-use Rattle.lists.proofs.Parts.{bytes-replicate}
-use Rattle.mesh.specs.Tables.{marked, put-bit}
-use Rattle.mesh.specs.Sound.{within}
-use Rattle.mesh.proofs.Tables.Laws.{table-eq, marked-replicate, byte-at-less, length-put-bit}
-use Rattle.mesh.proofs.Tables.Laws.{bytes-put-bit, marked-put-bit, length-bit-table, bytes-bit-table, marked-bit-table}
-use Rattle.mesh.proofs.Tables.Rows.{within-of}
-use Rattle.rows.specs.Rows.{neighbours-of, row-from, set-bits, row-word}
-use Rattle.rows.proofs.RowWords.{row-from-zero, row-from-end}
-use Rattle.rows.proofs.RowListLaws.{in-neighbours-of, member-neighbours-of}
+use Rattle.lists.{specs.Kit.{_≡_, refl, sym, ap, _∙_, _⊎_, inl, inr, Bool, true, false, _&&_, _||_, not, cond, List, [], _∷_, _++_, ℕ, suc, _+_, _*_, _-_, _^_}}
+use Rattle.lists.{specs.Kit.{_≤_, _<_, arith, add-one, bitAnd, trailingZeros, ltb, eqb, length, getD, replicate, length-replicate, eqb-true, eq-eqb, ne-eqb}}
+use Rattle.lists.{specs.Kit.{lt-ltb, le-ltb}, specs.Facts.{Bytes, folded}, specs.Lists.{In, range, count, total, member}, proofs.Tests.{trichotomy}}
+use Rattle.lists.{proofs.Count.{count-le-length}, proofs.Range.{count-below}, proofs.Filter.{count-filter}, proofs.Loops.{length-folded, folded-append}}
+use Rattle.lists.{proofs.Parts.{bytes-replicate}}
+use mir.{Syntax.{w32}, Val.{boolByte, Fits}}
+use Rattle.mesh.{specs.Limits.{max-radios, row-bytes}, specs.Tables.{marked, put-bit}, specs.Sound.{within}, proofs.Tables.Laws.{table-eq, marked-replicate}}
+use Rattle.mesh.{proofs.Tables.Laws.{byte-at-less, length-put-bit, bytes-put-bit, marked-put-bit, length-bit-table, bytes-bit-table, marked-bit-table}}
+use Rattle.mesh.{proofs.Tables.Rows.{within-of}}
+use Rattle.rows.{specs.Rows.{neighbours-of, row-from, set-bits, row-word}, proofs.RowWords.{row-from-zero, row-from-end}, proofs.RowListLaws.{in-neighbours-of}}
+use Rattle.rows.{proofs.RowWords.{row-split}, proofs.WordLaws.{word-lowest, word-less, word-none}, proofs.RowListLaws.{member-neighbours-of}}
 use Rattle.calls.specs.Heard.{heard-alone, one-sided, one-sided-count}
 use Rattle.conditions.specs.Hearing.{Of-size, hears, alone-put, Pair-marked, Row-marked, One-sided-marked}
-use Rattle.conditions.proofs.TallyLaws.{Counting, counting-none, counting-one, counting-part, counting-end, word-lowest, word-less, word-none, neighbours-most, row-split}
+use Rattle.conditions.proofs.TallyLaws.{Counting, counting-none, counting-one, counting-part, counting-end, neighbours-most}
 
 -- ---- a pair
 
@@ -179,7 +159,8 @@ module _ {hs : List ℕ} (bytes : (j : ℕ) → getD hs j 0 < 256) {a : ℕ} {w 
   pub words-marking-turn : Words-marking hs a w (k + 1) (r + s) y
   words-marking-turn = (omega (arith, l), row-part (rw (row-split hs bytes a k word l e) at (m .1)) d)
 
-pub words-marking-end : {hs : List ℕ} {a : ℕ} {w : List ℕ} {k r : ℕ} {x : List ℕ} → Words-marking hs a w k r x → 8 ≤ k → Row-marked hs a (neighbours-of hs a) w r x
+pub words-marking-end : {hs : List ℕ} {a : ℕ} {w : List ℕ} {k r : ℕ} {x : List ℕ} → Words-marking hs a w k r x → 8 ≤ k
+    → Row-marked hs a (neighbours-of hs a) w r x
 words-marking-end {hs} {a} {w} {k} m h = row-end (row-from-end hs a k h) (m .1)
 
 -- ---- a table
@@ -271,9 +252,9 @@ module _ (n : ℕ) (hs : List ℕ) (room : ℕ) (s : Of-size n hs) where
   unfolding one-sided one-sided-count
   marking-end w further k a e m l = record {
     counted =
-        λ t h. let c : k + total (pairs-of n hs) (range a (n - a)) ≡ total (pairs-of n hs) (range 0 n) = m .counted h in sym
+        λ h. let c : k + total (pairs-of n hs) (range a (n - a)) ≡ total (pairs-of n hs) (range 0 n) = m .counted h in sym
         (sym c ∙ rw (pairs-past n hs a l) (omega arith));
-    table = λ t long.
+    table = λ long.
         table-eq n further _ (m .long ∙ e ∙ long) (length-bit-table n (heard-alone hs)) (m .bytes) (bytes-bit-table n (heard-alone hs))
         (λ x y lx ly. m .marks (e ∙ long) x y lx ly ∙ rw (lt-ltb x a (omega (arith, lx, l))) (sym (marked-bit-table n (heard-alone hs) x y lx ly)));
   }

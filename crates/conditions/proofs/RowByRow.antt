@@ -1,33 +1,17 @@
 -- Soundness row by row: with each radio once in the order and its places known, tables are sound exactly when numbers rise
 -- along the order and every row is good.
-use mathlib.Core.Path.{_≡_, refl, sym, ap, _∙_}
-use mathlib.Core.Logic.{_⊎_, inl, inr}
-use mathlib.Core.Bool.{Bool, true, false, _&&_, not, and-false, and-true}
-use mathlib.Core.List.{List, [], _∷_}
-use Prim.Native.Nat.{ℕ, zero, suc, _+_, _-_, _≤_, _<_}
-use native.Mathlib.Omega.{arith}
-use native.Mathlib.Nat.{le-trans, le-of-eq}
-use lib.Dec.{ltb, leb, eqb}
-use lib.ListN.{length, getD, take, drop, take-append-drop, length-take, length-drop}
-use lib.Seq.{getD-take, getD-drop}
-use borrow.Author.Tests.{ltb-true, ltb-false, lt-ltb, leb-true, le-leb, lt-leb, eq-eqb, ne-eqb, not-true}
-use Rattle.mesh.specs.Limits.{max-radios}
-use Rattle.lists.specs.Lists.{range, count, all, In}
-use Rattle.lists.specs.Facts.{Each-once}
-use Rattle.mesh.specs.Orders.{each-once, rising, few-later}
-use Rattle.mesh.specs.Tables.{Tables, marked}
-use Rattle.mesh.specs.Sound.{symmetric, irreflexive, within, few, rows-proper, row-degree, enough, number-in, sound-within}
-use Rattle.lists.proofs.Tests.{bool-cases, never, and-left, and-right, and-both, iff-eq}
-use Rattle.lists.proofs.Filter.{filter-in}
-use Rattle.lists.proofs.Range.{in-range, once-in, once-below, once-length, count-below}
-use Rattle.lists.proofs.Count.{count-append, count-none, count-ext}
-use Rattle.lists.proofs.All.{all-in, in-all, all-below, below-all}
-use Rattle.mesh.proofs.Cores.Orders.{of-each-once, Few-later, few-later-of, of-few-later}
-use Rattle.mesh.proofs.Tables.Rows.{symmetric-of, of-symmetric, irreflexive-of, of-irreflexive, within-of, of-within, few-of, of-few}
-use Rattle.rows.specs.Rows.{neighbours-of}
-use Rattle.rows.proofs.RowListLaws.{in-neighbours-of, length-neighbours-of, count-neighbours-of}
+use Rattle.lists.{specs.Kit.{_≡_, refl, sym, ap, _∙_, _⊎_, inl, inr, Bool, true, false, _&&_, not, and-false, and-true, List, [], _∷_, ℕ, zero, suc, _+_, _≤_}}
+use Rattle.lists.{specs.Kit.{_<_, arith, le-trans, le-of-eq, ltb, leb, eqb, length, getD, take, drop, take-append-drop, length-take, length-drop, getD-take}}
+use Rattle.lists.{specs.Kit.{getD-drop, ltb-true, ltb-false, lt-ltb, leb-true, le-leb, lt-leb, eq-eqb, ne-eqb, not-true}, specs.Lists.{range, count, all, In}}
+use Rattle.lists.{specs.Facts.{Each-once}, proofs.Tests.{bool-cases, never, and-left, and-right, and-both, iff-eq}, proofs.Filter.{filter-in}}
+use Rattle.lists.{proofs.Range.{in-range, once-in, once-below, once-length, count-below}, proofs.Count.{count-append, count-none, count-ext}}
+use Rattle.lists.{proofs.All.{all-in, in-all, all-below, below-all}, proofs.Member.{in-getD, getD-of-in}}
+use Rattle.mesh.{specs.Limits.{max-radios}, specs.Orders.{each-once, rising, few-later}, specs.Tables.{Tables, marked}, specs.Sound.{symmetric, irreflexive}}
+use Rattle.mesh.{specs.Sound.{within, few, rows-proper, row-degree, enough, number-in, sound-within}, proofs.Cores.Orders.{of-each-once, Few-later}}
+use Rattle.mesh.{proofs.Cores.Orders.{few-later-of, of-few-later}, proofs.Tables.Rows.{symmetric-of, of-symmetric, irreflexive-of, of-irreflexive, within-of}}
+use Rattle.mesh.{proofs.Tables.Rows.{of-within, few-of, of-few}}
+use Rattle.rows.{specs.Rows.{neighbours-of}, proofs.RowListLaws.{in-neighbours-of, length-neighbours-of, count-neighbours-of}}
 use Rattle.conditions.specs.Conditions.{Placed, rising-from, later-count, high-count, ends-good, row-good}
-use Rattle.lists.proofs.Member.{in-getD, getD-of-in}
 
 -- ---- numbers along the order
 
@@ -275,7 +259,8 @@ module _ (most n : ℕ) (t : Tables) (places : List ℕ) (small : n ≤ max-radi
           let h2 = and-right o (r && (f && e)) h1 in
           let h3 = and-right r (f && e) h2 in
           and-both r rows (and-left r (f && e) h2)
-          (below-all (row-good most n (t .links) (t .numbers) places) n (λ a l. of-good a (good-row (and-left p (o && (r && (f && e))) h) (and-left f e h3) (and-right f e h3) a l)))
+          (below-all (row-good most n (t .links) (t .numbers) places) n
+          (λ a l. of-good a (good-row (and-left p (o && (r && (f && e))) h) (and-left f e h3) (and-right f e h3) a l)))
 
       from : (r && rows) ≡ true → sound-within most n t ≡ true
       from h =

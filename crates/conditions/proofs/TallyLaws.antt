@@ -2,26 +2,13 @@
 --   Counting           some radios are counted, and with what is left they come to what all of them come to
 --   Word-counting      the same of the radios of a word
 --   Words-counting     the same of the words of a row
-use mathlib.Core.Path.{_≡_, sym, ap, _∙_}
-use mathlib.Core.Bool.{Bool, cond}
-use mathlib.Core.List.{List, [], _∷_, _++_}
-use Prim.Native.Nat.{ℕ, _+_, _*_, _-_, _^_, _≤_, _<_}
-use native.Mathlib.Omega.{arith}
-use mir.Syntax.{w32}
-use mir.Val.{boolByte, Fits}
-use lib.Bits.{bitAnd, and-le-l}
-use lib.Count.{trailingZeros}
-use lib.ListN.{length, getD, length-append}
-use Rattle.mesh.specs.Limits.{max-radios, row-bytes}
-use Rattle.mesh.specs.Tables.{marked}
-use Rattle.lists.specs.Lists.{range, count}
-use Rattle.lists.proofs.Tests.{byte-bit, bit-one}
-use Rattle.lists.proofs.Count.{count-le-length, count-append}
-use Rattle.lists.proofs.Range.{length-range}
-use Rattle.lists.proofs.Filter.{filter-le}
-use Rattle.rows.specs.Rows.{neighbours-of, row-from, set-bits, row-word}
-use Rattle.rows.proofs.WordLaws.{set-bits-nothing, set-bits-lowest, length-set-bits-le}
-use Rattle.rows.proofs.RowWords.{row-from-zero, row-from-word, row-from-end}
+use Rattle.lists.{specs.Kit.{_≡_, ap, Bool, cond, List, [], _∷_, _++_, ℕ, _+_, _*_, _-_, _^_, _≤_, _<_, arith, bitAnd, trailingZeros}}
+use Rattle.lists.{specs.Kit.{length, getD, length-append}, specs.Lists.{range, count}, proofs.Tests.{byte-bit, bit-one}, proofs.Count.{count-le-length}}
+use Rattle.lists.{proofs.Count.{count-append}, proofs.Range.{length-range}, proofs.Filter.{filter-le}}
+use mir.{Syntax.{w32}, Val.{boolByte, Fits}}
+use Rattle.mesh.specs.{Limits.{max-radios, row-bytes}, Tables.{marked}}
+use Rattle.rows.{specs.Rows.{neighbours-of, row-from, set-bits, row-word}, proofs.WordLaws.{word-lowest, word-less, word-none}}
+use Rattle.rows.{proofs.WordLaws.{length-set-bits-le}, proofs.RowWords.{row-from-zero, row-split, row-from-end}}
 
 -- r of the radios `whole` are counted, and `rest` are left
 pub record Counting (g : ℕ → Bool) (whole rest : List ℕ) (r : ℕ) : Type 0 where
@@ -51,16 +38,6 @@ module _ {g : ℕ → Bool} {whole : List ℕ} {r : ℕ} where
 
 -- ---- the radios of a word
 
-pub word-lowest : (first rest : ℕ) → rest < 2 ^ 64 → (rest ≡ 0 → ⊥)
-    → set-bits 64 first rest ≡ (first + trailingZeros 64 rest) ∷ set-bits 64 first (bitAnd rest (rest - 1))
-word-lowest first rest h some = set-bits-lowest 64 first rest (omega (arith, some)) h
-
-pub word-less : (rest : ℕ) → rest < 2 ^ 64 → bitAnd rest (rest - 1) < 2 ^ 64
-word-less rest h = omega (arith, and-le-l rest (rest - 1), h)
-
-pub word-none : (first rest : ℕ) → rest ≡ 0 → set-bits 64 first rest ≡ []
-word-none first rest z = ap (set-bits 64 first) z ∙ set-bits-nothing 64 first
-
 -- of the radios of a word no more are counted than it has bits
 pub word-fits : {g : ℕ → Bool} (first word rest : ℕ) {r : ℕ} → rest < 2 ^ 64 → (rest ≡ 0 → ⊥) → Counting g (set-bits 64 first word) (set-bits 64 first rest) r
     → (t : Bool) → Fits w32 (r + boolByte t)
@@ -87,10 +64,6 @@ neighbours-most ts a = filter-le (λ b. marked ts a b) (range 0 max-radios) max-
 
 pub row-fits : {g : ℕ → Bool} (ts : List ℕ) (a : ℕ) {rest : List ℕ} {r : ℕ} → Counting g (neighbours-of ts a) rest r → Fits w32 r
 row-fits ts a i = record { fits = omega (arith, i .few, neighbours-most ts a) }
-
-pub row-split : (ts : List ℕ) → ((j : ℕ) → getD ts j 0 < 256) → (a k word : ℕ) → k < 8 → word ≡ row-word 8 ts (row-bytes * a + 8 * k)
-    → row-from ts a k ≡ set-bits 64 (64 * k) word ++ row-from ts a (k + 1)
-row-split ts bytes a k word l e = row-from-word ts bytes a k l ∙ ap (λ (z : ℕ). set-bits 64 (64 * k) z ++ row-from ts a (k + 1)) (sym e)
 
 abbrev pub Words-counting : (ℕ → Bool) → (table : List ℕ) → (a k r : ℕ) → Type 0
 Words-counting g ts a k r = (k ≤ 8) × Counting g (neighbours-of ts a) (row-from ts a k) r

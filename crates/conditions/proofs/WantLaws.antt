@@ -2,34 +2,17 @@
 --   digit-without    bits of a word that another word lacks
 --   Listing-from     the radios of a word that are above a, written into a list, and what is left of them
 --   Words-listing    the same of the words of a row
-use mathlib.Core.Path.{_≡_, refl, sym, ap, ap₂, _∙_}
-use mathlib.Core.Bool.{Bool, true, false, _&&_, not, cond}
-use mathlib.Core.List.{List, [], _∷_, _++_, append-nil, append-assoc}
-use Prim.Native.Nat.{ℕ, zero, suc, _+_, _*_, _-_, _/_, _%_, _^_, _≤_, _<_, min}
-use native.Mathlib.Omega.{arith}
-use native.Mathlib.Nat.{pow-succ', le-of-suc-le-suc}
+use Rattle.lists.{specs.Kit.{_≡_, refl, sym, ap, ap₂, _∙_, Bool, true, false, _&&_, not, cond, List, [], _∷_, _++_, append-nil, append-assoc, ℕ, zero, suc}}
+use Rattle.lists.{specs.Kit.{_+_, _*_, _-_, _/_, _%_, _^_, _≤_, _<_, min, arith, pow-succ', le-of-suc-le-suc, bitAnd, and-step, and-le-l, trailingZeros, ltb}}
+use Rattle.lists.{specs.Kit.{eqb, length, getD, set, take, length-set, length-append, take-set-le, take-suc-set, length-take-le, lt-ltb, le-ltb}}
+use Rattle.lists.{specs.Lists.{range, filter}, proofs.Tests.{byte-bit}, proofs.Range.{range-in, range-append}, proofs.Filter.{filter-ext, filter-filter}}
+use Rattle.lists.{proofs.Filter.{filter-append, filter-none}}
 use mir.Val.{boolByte}
-use lib.Bits.{bitAnd, and-step, and-le-l}
-use lib.Count.{trailingZeros}
-use lib.Dec.{ltb, eqb}
-use lib.ListN.{length, getD, set, take, length-set, length-append}
-use lib.Seq.{take-set-le, take-suc-set, length-take-le}
-use borrow.Author.Tests.{lt-ltb, le-ltb}
-use Rattle.mesh.specs.Limits.{max-radios, row-bytes}
-use Rattle.lists.specs.Lists.{range, filter}
-use Rattle.lists.proofs.Tests.{byte-bit}
-use Rattle.lists.proofs.Range.{range-in, range-append}
-use Rattle.lists.proofs.Filter.{filter-ext, filter-filter, filter-append, filter-none}
-use Rattle.mesh.specs.Tables.{digit, marked}
-use Rattle.mesh.specs.Sound.{within}
-use Rattle.mesh.proofs.Tables.Digits.{digit-zero, digit-suc}
-use Rattle.mesh.proofs.Tables.Laws.{length-bit-table, marked-bit-table}
-use Rattle.mesh.proofs.Tables.Rows.{within-of}
-use Rattle.rows.specs.Rows.{set-bits, row-word}
-use Rattle.rows.proofs.RowWords.{marked-word, words-from, words-end}
+use Rattle.mesh.{specs.Limits.{max-radios, row-bytes}, specs.Tables.{digit, marked}, specs.Sound.{within}, proofs.Tables.Digits.{digit-zero, digit-suc}}
+use Rattle.mesh.{proofs.Tables.Laws.{length-bit-table, marked-bit-table}, proofs.Tables.Rows.{within-of}}
+use Rattle.rows.{specs.Rows.{set-bits, row-word}, proofs.WordLaws.{word-lowest, word-less, word-none}, proofs.RowWords.{marked-word, words-from, words-end}}
 use Rattle.calls.specs.Heard.{agreed, heard-alone, one-sided}
-use Rattle.conditions.specs.Hearing.{Of-size, Is-prefix, wanted, wanted-by, wanted-in, above-from, Listed-from, Wanted-listed}
-use Rattle.conditions.proofs.TallyLaws.{word-lowest, word-less, word-none}
+use Rattle.conditions.specs.Hearing.{Of-size, Is-prefix, wanted, wanted-by, wanted-in, above-from, Listed-from}
 use Rattle.conditions.proofs.AskLaws.{agreed-past}
 
 -- ---- words
@@ -281,12 +264,8 @@ module _ (u : Bool) (hs ws ts : List ℕ) (a n : ℕ) (sh : Of-size n hs) (sw : 
       let o = d .is (omega (arith, room, ap length above-is)) in
       record { counted = omega (arith, o .0, ap length above-is); listed = o .1 ∙ above-is }
 
--- ---- a row that is not whole
+-- ---- the one-sided pairs
 
-pub further-long : (n : ℕ) (hs ws : List ℕ) → ws ≡ one-sided n hs → length ws ≡ row-bytes * n
+pub length-one-sided : (n : ℕ) (hs ws : List ℕ) → ws ≡ one-sided n hs → length ws ≡ row-bytes * n
 unfolding one-sided
-further-long n hs ws e = ap length e ∙ length-bit-table n (heard-alone hs)
-
-pub wanted-short : (u : Bool) (hs ws ts : List ℕ) (a : ℕ) (old new : List ℕ) → ((n : ℕ) → Of-size n hs → ws ≡ one-sided n hs → Of-size n ts → a < n → ⊥)
-    → Wanted-listed u hs ws ts a old 0 new
-wanted-short u hs ws ts a old new never = record { is = λ n sh sw st w l o. absurd (never n sh sw st l) }
+length-one-sided n hs ws e = ap length e ∙ length-bit-table n (heard-alone hs)

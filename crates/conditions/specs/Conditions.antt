@@ -4,22 +4,15 @@
 --   later-count              how many of some radios stand later in the order than a: document 01's "neighbours later in the order"
 --   first-key                the place and the radio, as one number, of the first of some radios that stands later in the order than a
 --   high-count               how many of some radios have a number that is not below that of a
---   Highs n links numbers highs   the table of high counts has the one of each radio
+--   Not-lower n links numbers counts   the table of not-lower counts has the one of each radio
 --   ends-good                each of some radios is below n, is not a, and marks a too
 --   row-good                 the conditions of document 01 on radio a: its row, its later neighbours, its neighbours that are not below it
 --   highest-word n first     the highest word whose bits, counted from radio `first`, all are radios below n
 --   rising-from              numbers never fall along a list, and do not begin below the given one
 -- That tables are sound when the order holds each radio once, numbers rise along it and every row is good is `sound-rows` in
 -- proofs/RowByRow.antt. Definitions only.
-use mathlib.Core.Path.{_≡_}
-use mathlib.Core.Bool.{Bool, true, _&&_, not, cond}
-use mathlib.Core.List.{List, [], _∷_}
-use Prim.Native.Nat.{ℕ, _+_, _*_, _-_, _^_, _<_, min}
-use lib.Dec.{ltb, leb, eqb}
-use lib.ListN.{length, getD}
-use Rattle.lists.specs.Lists.{count, all}
-use Rattle.mesh.specs.Tables.{marked}
-use Rattle.mesh.specs.Sound.{number-in}
+use Rattle.lists.specs.{Kit.{_≡_, Bool, true, _&&_, not, cond, List, [], _∷_, ℕ, _+_, _*_, _-_, _^_, _<_, min, ltb, leb, eqb, length, getD}, Lists.{count, all}}
+use Rattle.mesh.specs.{Tables.{marked}, Sound.{number-in}}
 use Rattle.rows.specs.Rows.{neighbours-of}
 
 -- entry i of the order stands at place i
@@ -50,9 +43,9 @@ row-good most n ts ns ps a =
     leb (length xs) most
     && (ends-good n ts a xs && (leb (later-count ps a xs) (number-in ns a) && leb (number-in ns a) (high-count ns a xs)))
 
--- the table `highs` holds the high count of each radio
-pub record Highs (n : ℕ) (links numbers highs : List ℕ) : Type 0 where
-  pub at : (v : ℕ) → v < n → getD highs v 0 ≡ high-count numbers v (neighbours-of links v)
+-- the table `counts` holds how many neighbours of each radio have a number that is not below its own
+pub record Not-lower (n : ℕ) (links numbers counts : List ℕ) : Type 0 where
+  pub at : (v : ℕ) → v < n → getD counts v 0 ≡ high-count numbers v (neighbours-of links v)
 
 unfoldable pub highest-word : (n first : ℕ) → ℕ
 highest-word n first = 2 ^ min 64 (n - first) - 1

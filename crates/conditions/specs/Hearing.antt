@@ -4,27 +4,17 @@
 --   hears hs a b           b hears a
 --   none-from n hs a       row a marks no radio at n or above
 --   rows-refusal n hs      questions 14 and 7
---   alone-put              the further table after the pair of a and a radio that it hears: marked unless that radio hears a
+--   alone-put              the one-sided pairs after the pair of a and a radio that it hears: marked unless that radio hears a
 --   Pair-marked, Row-marked, One-sided-marked   what marking a pair, a row and a table comes back with
 --   wanted up hs ts a b    the link between a and b is to come up, or to go down, by the links table ts
 --   wanted-by              the same, by whether a hears b, alone, and is linked with it
 --   above-from             the radios above a whose link with a is wanted, by three rows, whose words from that of a on are read
 --   Listed-from            entries written into a list from a place on
---   Wanted-listed          the radios above a whose link with a is wanted, in front of a list
 -- Definitions only.
-use mathlib.Core.Path.{_≡_}
-use mathlib.Core.Bool.{Bool, true, _&&_, not, cond}
-use mathlib.Core.List.{List, _++_}
-use Prim.Native.Nat.{ℕ, suc, _+_, _*_, _-_, _/_, _≤_, _<_}
-use lib.Dec.{ltb}
-use lib.ListN.{length, take}
-use Rattle.mesh.specs.Limits.{max-radios, max-neighbours, row-bytes}
-use Rattle.lists.specs.Lists.{range, count, filter, all}
-use Rattle.lists.specs.Facts.{folded}
-use Rattle.mesh.specs.Tables.{marked, put-bit}
-use Rattle.mesh.specs.Sound.{within}
-use Rattle.calls.specs.Questions.{ask}
-use Rattle.calls.specs.Heard.{agreed, heard-proper, agreed-few, one-sided, one-sided-count}
+use Rattle.lists.specs.{Kit.{_≡_, Bool, true, _&&_, not, cond, List, _++_, ℕ, _+_, _*_, _-_, _/_, _≤_, _<_, ltb, length, take}, Lists.{range, count}}
+use Rattle.lists.specs.{Lists.{filter, all}, Facts.{folded}}
+use Rattle.mesh.specs.{Limits.{max-radios, max-neighbours, row-bytes}, Tables.{marked, put-bit}, Sound.{within}}
+use Rattle.calls.specs.{Questions.{ask}, Heard.{agreed, heard-proper, agreed-few, one-sided, one-sided-count}}
 
 pub record Of-size (n : ℕ) (hs : List ℕ) : Type 0 where
   pub most : n ≤ max-radios
@@ -48,7 +38,7 @@ rows-refusal n hs = ask 14 (heard-proper n hs) (ask 7 (agreed-few max-neighbours
 
 -- ---- one-sided pairs
 
-unfoldable pub alone-put : (heard : List ℕ) → (a b : ℕ) → (further : List ℕ) → List ℕ
+unfoldable pub alone-put : (heard : List ℕ) → (a b : ℕ) → (one-sided : List ℕ) → List ℕ
 alone-put hs a b w = cond (hears hs a b) w (put-bit true a b w)
 
 pub record Pair-marked (hs : List ℕ) (a b : ℕ) (w : List ℕ) (r : Bool) (x : List ℕ) : Type 0 where
@@ -60,8 +50,8 @@ pub record Row-marked (hs : List ℕ) (a : ℕ) (xs w : List ℕ) (r : ℕ) (x :
   pub table : x ≡ folded (alone-put hs a) xs w
 
 pub record One-sided-marked (n : ℕ) (hs w : List ℕ) (r : ℕ) (x : List ℕ) : Type 0 where
-  pub counted : Of-size n hs → within n hs ≡ true → r ≡ one-sided-count n hs
-  pub table : Of-size n hs → length w ≡ row-bytes * n → x ≡ one-sided n hs
+  pub counted : within n hs ≡ true → r ≡ one-sided-count n hs
+  pub table : length w ≡ row-bytes * n → x ≡ one-sided n hs
 
 -- ---- links to come up or to go down
 
@@ -72,20 +62,14 @@ wanted u hs ts a b = cond u (agreed hs a b && not (marked ts a b)) (marked ts a 
 unfoldable pub wanted-by : (up hears alone linked : Bool) → Bool
 wanted-by u h f l = cond u ((h && not f) && not l) (l && not (h && not f))
 
--- `further` tells what is heard alone
-unfoldable pub wanted-in : (up : Bool) → (heard further links : List ℕ) → (a b : ℕ) → Bool
+-- `alone` tells what is heard alone
+unfoldable pub wanted-in : (up : Bool) → (heard alone links : List ℕ) → (a b : ℕ) → Bool
 wanted-in u hs ws ts a b = wanted-by u (marked hs a b) (marked ws a b) (marked ts a b)
 
-unfoldable pub above-from : (up : Bool) → (heard further links : List ℕ) → (a : ℕ) → List ℕ
+unfoldable pub above-from : (up : Bool) → (heard alone links : List ℕ) → (a : ℕ) → List ℕ
 above-from u hs ws ts a = filter (ltb a) (filter (wanted-in u hs ws ts a) (range (64 * (a / 64)) (max-radios - 64 * (a / 64))))
 
 -- the entries xs stand from place `count` of the list on, where it has room for one more
 pub record Listed-from (xs : List ℕ) (count : ℕ) (old : List ℕ) (r : ℕ) (new : List ℕ) : Type 0 where
   pub inside : r ≤ length old
   pub is : count + length xs < length old → (r ≡ count + length xs) × (take r new ≡ take count old ++ xs)
-
--- `further` has the one-sided pairs
-pub record Wanted-listed (up : Bool) (hs ws ts : List ℕ) (a : ℕ) (old : List ℕ) (r : ℕ) (new : List ℕ) : Type 0 where
-  pub is : (n : ℕ) → Of-size n hs → ws ≡ one-sided n hs → Of-size n ts → within n ts ≡ true → a < n
-      → length (filter (wanted up hs ts a) (range (suc a) (n - suc a))) < length old
-      → Is-prefix (filter (wanted up hs ts a) (range (suc a) (n - suc a))) r new

@@ -3,28 +3,11 @@
 --   spread-core, core-spread   what the flood spreads to is the connected core, where the set has all of it and none below the level
 --   member-flood               the radios that came in are the connected core
 --   left-flood                 the set has the connected core no more
-use mathlib.Core.Path.{_≡_, sym, ap, _∙_}
-use mathlib.Core.Logic.{_⊎_, inl, inr}
-use mathlib.Core.Bool.{Bool, true, false, _&&_, not}
-use mathlib.Core.List.{List}
-use Prim.Native.Nat.{ℕ, _≤_, _<_}
-use native.Mathlib.Omega.{arith}
-use lib.Dec.{ltb, leb}
-use lib.ListN.{length, getD, take}
-use borrow.Author.Tests.{lt-ltb, le-ltb, ltb-true, ltb-false}
-use Rattle.mesh.specs.Limits.{max-radios}
-use Rattle.lists.specs.Lists.{member}
-use Rattle.mesh.specs.Graph.{Graph}
-use Rattle.mesh.specs.Cores.{number}
-use Rattle.mesh.specs.Tables.{Tables, graph-in}
-use Rattle.mesh.specs.Connected.{Reachable, here, onward, at-least, In-core, core-of}
-use Rattle.lists.proofs.Tests.{bool-cases, iff-eq}
-use Rattle.lists.proofs.Member.{member-in}
-use Rattle.mesh.proofs.Trees.Reach.{reachable-below, core-of-iff}
-use Rattle.rows.specs.Rows.{row-listed}
-use Rattle.rows.specs.Sets.{in-set}
-use Rattle.rows.proofs.RowListLaws.{in-neighbours-of, member-neighbours-of}
-use Rattle.rows.proofs.SetLaws.{in-set-past}
+use Rattle.lists.{specs.Kit.{_≡_, sym, ap, _∙_, _⊎_, inl, inr, Bool, true, false, _&&_, not, List, ℕ, _≤_, _<_, arith, ltb, leb, length, take, lt-ltb, le-ltb}}
+use Rattle.lists.{specs.Kit.{ltb-true, ltb-false}, specs.Lists.{member}, proofs.Tests.{bool-cases, iff-eq}, proofs.Member.{member-in}}
+use Rattle.mesh.{specs.Limits.{max-radios}, specs.Graph.{Graph}, specs.Cores.{number}, specs.Tables.{Tables, graph-in}, specs.Connected.{Reachable, here}}
+use Rattle.mesh.{specs.Connected.{onward, at-least, In-core, core-of}, proofs.Trees.Reach.{reachable-below, core-of-iff}}
+use Rattle.rows.{specs.Rows.{row-listed}, specs.Sets.{in-set}, proofs.RowListLaws.{in-neighbours-of, member-neighbours-of}, proofs.SetLaws.{in-set-past}}
 use Rattle.floods.specs.Floods.{of-level, Level-set, Spread, Flood-done}
 use Rattle.soundness.proofs.SoundSite.{Sound-site, linked-marked, row-listed-neighbours, number-entry}
 
@@ -64,7 +47,8 @@ module _ (n : ℕ) (t : Tables) (s : Sound-site n t) (k : ℕ) where
           let lw = spread-below r in
           let p = inside x h in
           onward (spread-reachable r)
-          (linked-marked n t s w x lw (p .0) ∙ in-neighbours-of (t .links) w x (rw (row-listed-neighbours n t s w lw) at (member-in x (row-listed (t .links) w) e)) .1)
+          (linked-marked n t s w x lw (p .0) ∙ in-neighbours-of (t .links) w x
+          (rw (row-listed-neighbours n t s w lw) at (member-in x (row-listed (t .links) w) e)) .1)
           (p .0) (p .1)
 
       pub spread-core : (w : ℕ) → Spreads w → In-core g v k w
@@ -78,7 +62,8 @@ module _ (n : ℕ) (t : Tables) (s : Sound-site n t) (k : ℕ) where
         reachable-spread (onward {w} {x} r e lx o) =
             let lw : w < n = reachable-below radio r in
             Spread.onward (reachable-spread r)
-            (ap (member x) (row-listed-neighbours n t s w lw) ∙ member-neighbours-of (t .links) w x (omega (arith, s .small)) ∙ sym (linked-marked n t s w x lw lx) ∙ e)
+            (ap (member x) (row-listed-neighbours n t s w lw) ∙ member-neighbours-of (t .links) w x (omega (arith, s .small)) ∙ sym
+            (linked-marked n t s w x lw lx) ∙ e)
             (whole x (onward r e lx o))
 
         pub core-spread : (w : ℕ) → In-core g v k w → Spreads w

@@ -1,26 +1,13 @@
 -- The flood's invariant: what came in is what the flood spreads to over the radios done so far.
 -- In order: a layer, the queue after it, the start, the end.
-use mathlib.Core.Path.{_≡_, refl, sym, ap, _∙_}
-use mathlib.Core.Logic.{_⊎_, inl, inr}
-use mathlib.Core.Bool.{Bool, true, false, _&&_, _||_, not, cond}
-use mathlib.Core.List.{List, [], _∷_, _++_}
-use Prim.Native.Nat.{ℕ, suc, _+_, _-_, _/_, _≤_, _<_, min}
-use native.Mathlib.Omega.{arith}
-use lib.Dec.{ltb, eqb}
-use lib.ListN.{length, getD, take, drop, set, length-append, length-set, List·getD-append}
-use lib.Seq.{sets, sets-eq, length-sets, length-take-le, take-at, take-suc-set, getD-take}
-use borrow.Author.Tests.{ltb-true, ltb-false}
+use Rattle.lists.{specs.Kit.{_≡_, refl, sym, ap, _∙_, _⊎_, inl, inr, Bool, true, false, _&&_, _||_, not, cond, List, [], _∷_, _++_, ℕ, _+_, _≤_, _<_, arith}}
+use Rattle.lists.{specs.Kit.{ltb, eqb, length, getD, take, drop, set, length-append, length-set, List·getD-append, sets, sets-eq, length-sets, length-take-le}}
+use Rattle.lists.{specs.Kit.{take-at, take-suc-set, getD-take, ltb-true, ltb-false}, specs.Lists.{range, count, member, In}, specs.Facts.{Distinct}}
+use Rattle.lists.{proofs.Tests.{bool-cases, never, and-left, and-right, and-both}, proofs.Member.{member-append, in-left, in-right, in-cases, member-in}}
+use Rattle.lists.{proofs.Member.{in-member, in-getD, getD-of-in}, proofs.Range.{in-range, length-range, distinct-range}, proofs.Filter.{in-filter, filter-in}}
+use Rattle.lists.{proofs.Filter.{distinct-filter}, proofs.Distinct.{distinct-one, length-sub}}
 use Rattle.mesh.specs.Limits.{max-radios}
-use Rattle.lists.specs.Lists.{range, count, filter, member, In}
-use Rattle.lists.specs.Facts.{Distinct}
-use Rattle.lists.proofs.Tests.{bool-cases, never, and-left, and-right, and-both}
-use Rattle.lists.proofs.Member.{member-append, in-left, in-right, in-cases, member-in, in-member, in-getD, getD-of-in}
-use Rattle.lists.proofs.Range.{in-range, length-range, distinct-range}
-use Rattle.lists.proofs.Filter.{in-filter, filter-in, distinct-filter}
-use Rattle.lists.proofs.Distinct.{distinct-one, length-sub}
-use Rattle.rows.specs.Rows.{row-listed}
-use Rattle.rows.specs.Sets.{in-set, take-out, common}
-use Rattle.rows.proofs.SetLaws.{in-set-radio, length-take-out, in-take-out}
+use Rattle.rows.{specs.Rows.{row-listed}, specs.Sets.{in-set, take-out, common}, proofs.SetLaws.{in-set-radio, length-take-out, in-take-out}}
 use Rattle.floods.specs.Floods.{Spread, start, onward, Flood, flood-at, came-in, Marked-by, Layer-taken, Floodable, Flood-done}
 
 distinct-both : (xs ys : List ℕ) → Distinct xs → Distinct ys → ((w : ℕ) → In w xs → In w ys → ⊥) → Distinct (xs ++ ys)
@@ -126,7 +113,8 @@ module _ (ts : List ℕ) (v : ℕ) (old : List ℕ) where
             → (member x xs ≡ true) ⊎ (member x xs ≡ false) → In x (xs ++ new)
         taken j g l x m o (inl e) = in-left x xs new (member-in x xs e)
         taken j g l x m o (inr e) =
-            in-right x xs new (new-in x (all x (record { place = j; low = g; high = l; marks = in-member x (row-listed ts (getD xs j 0)) m })) (h .bits x ∙ rw (o, e)))
+            in-right x xs new (new-in x (all x (record { place = j; low = g; high = l; marks = in-member x (row-listed ts (getD xs j 0)) m }))
+            (h .bits x ∙ rw (o, e)))
 
         closed : (j : ℕ) → j < length xs → (x : ℕ) → In x (row-listed ts (getD xs j 0)) → in-set old x ≡ true → (ltb j i ≡ true) ⊎ (ltb j i ≡ false)
             → In x (xs ++ new)
@@ -192,7 +180,8 @@ module _ (ts : List ℕ) (v : ℕ) (old : List ℕ) where
       behind : came-in e ≡ came-in f ++ more
       behind =
           ap (λ (k : ℕ). take k (e .queue)) came ∙ ap (take (f .count + length more)) parts
-          ∙ take-at (came-in f ++ more) (drop (f .count + length more) (f .queue)) (f .count + length more) (omega (arith, length-append (came-in f) more, long))
+          ∙ take-at (came-in f ++ more) (drop (f .count + length more) (f .queue)) (f .count + length more)
+          (omega (arith, length-append (came-in f) more, long))
 
   -- the radio that the flood starts from
   pub walking-start : (queue : List ℕ) → v < max-radios → length old ≡ 8 → max-radios ≤ length queue

@@ -1,21 +1,9 @@
 -- The flood's steps as the code has them: rows joined, a layer.
-use mathlib.Core.Path.{_≡_, sym, ap, _∙_}
-use mathlib.Core.Logic.{_⊎_, inl, inr}
-use mathlib.Core.Bool.{true, false}
-use mathlib.Core.List.{List}
-use Prim.Native.Nat.{ℕ, _+_, _-_, _≤_}
-use native.Mathlib.Omega.{arith}
-use lib.Dec.{eqb}
-use lib.ListN.{length, getD, replicate}
-use borrow.Author.Tests.{eqb-true, eqb-false}
+use Rattle.lists.specs.Kit.{_≡_, sym, ap, _∙_, _⊎_, inl, inr, true, false, List, ℕ, _+_, _-_, _≤_, arith, eqb, length, getD, replicate, eqb-true, eqb-false}
+use Rattle.lists.specs.Kit.{⊎-elim}
+use Rattle.lists.{specs.Lists.{member}, proofs.Overwrite.{sets-front}, proofs.Tests.{bool-cases, never, or-cases, or-left, or-right}}
 use borrow.Rule.Slice.PartMut.{midOf, putMid, mid-len}
-use Rattle.lists.specs.Lists.{member}
-use Rattle.lists.proofs.Overwrite.{sets-front}
-use Rattle.lists.proofs.Tests.{bool-cases, never, or-cases, or-left, or-right}
-use Rattle.rows.specs.Rows.{row-listed}
-use Rattle.rows.specs.Sets.{in-set, Row-joined, common, Common-taken}
-use Rattle.rows.proofs.Listing.{put-rest}
-use Rattle.rows.proofs.SetLaws.{in-set-zeros}
+use Rattle.rows.{specs.Rows.{row-listed}, specs.Sets.{in-set, Row-joined, common, Common-taken}, proofs.Listing.{put-rest}, proofs.SetLaws.{in-set-zeros}}
 use Rattle.floods.specs.Floods.{flood-at, Marked-by, Rows-joined, Layer-taken}
 
 -- ---- rows joined, one by one
@@ -25,15 +13,12 @@ rows-joined-none ts list from r = record { some = λ x e. inl e; all = λ x m. a
 
 pub rows-joined-turn : (ts list : List ℕ) (from to : ℕ) (r s t : List ℕ) → from ≤ to → Row-joined ts (getD list to 0) s t
     → Rows-joined ts list from to r s → Rows-joined ts list from (to + 1) r t
-rows-joined-turn ts list from to r s t l row h = record { some = λ x e. some x (or-cases _ _ (sym (row .bits x) ∙ e)); all = λ x m. all x m (bool-cases (eqb (m .place) to)) }
+rows-joined-turn ts list from to r s t l row h = record
+    { some = λ x e. some x (or-cases _ _ (sym (row .bits x) ∙ e)); all = λ x m. all x m (bool-cases (eqb (m .place) to)) }
   where
     some : (x : ℕ) → (in-set s x ≡ true) ⊎ (member x (row-listed ts (getD list to 0)) ≡ true) → (in-set r x ≡ true) ⊎ Marked-by ts list from (to + 1) x
     some x (inr e) = inr (record { place = to; low = l; high = omega arith; marks = e })
-    some x (inl e) = go (h .some x e)
-      where
-        go : (in-set r x ≡ true) ⊎ Marked-by ts list from to x → (in-set r x ≡ true) ⊎ Marked-by ts list from (to + 1) x
-        go (inl q) = inl q
-        go (inr m) = inr (record { place = m .place; low = m .low; high = omega (arith, m .high); marks = m .marks })
+    some x (inl e) = ⊎-elim (λ q. inl q) (λ m. inr (record { place = m .place; low = m .low; high = omega (arith, m .high); marks = m .marks })) (h .some x e)
 
     all : (x : ℕ) (m : Marked-by ts list from (to + 1) x) → (eqb (m .place) to ≡ true) ⊎ (eqb (m .place) to ≡ false) → in-set t x ≡ true
     all x m (inl e) =
@@ -41,7 +26,12 @@ rows-joined-turn ts list from to r s t l row h = record { some = λ x e. some x 
         ∙ or-right (in-set s x) _ (ap (λ (j : ℕ). member x (row-listed ts (getD list j 0))) (sym (eqb-true (m .place) to e)) ∙ m .marks)
     all x m (inr e) =
         row .bits x
-        ∙ or-left (in-set s x) _ (h .all x (record { place = m .place; low = m .low; high = omega (arith, m .high, eqb-false (m .place) to e); marks = m .marks }))
+        ∙ or-left (in-set s x) _ (h .all x (record {
+          place = m .place;
+          low = m .low;
+          high = omega (arith, m .high, eqb-false (m .place) to e);
+          marks = m .marks;
+        }))
 
 pub rows-joined-end : (ts list : List ℕ) (from to i : ℕ) (r s : List ℕ) → to ≤ i → i ≤ to → Rows-joined ts list from i r s → Rows-joined ts list from to r s
 rows-joined-end ts list from to i r s l g h = let e : i ≡ to = omega arith in rw e at h

@@ -1,23 +1,10 @@
 -- The radios of a level as words: a bit more in a word, and a word more in the set.
-use mathlib.Core.Path.{_≡_, refl, sym, ap, _∙_}
-use mathlib.Core.Logic.{_⊎_, inl, inr}
-use mathlib.Core.Bool.{Bool, true, false, _&&_, _||_, cond}
-use mathlib.Core.List.{List}
-use Prim.Native.Nat.{ℕ, _+_, _*_, _-_, _/_, _%_, _^_, _≤_, _<_, min}
-use native.Mathlib.Omega.{arith}
-use native.Mathlib.Nat.{one-mul, mod-eq-of-lt}
-use lib.Bits.{bitOr, or-zero-r}
-use lib.Dec.{ltb, leb, eqb}
-use lib.ListN.{length, getD, set, length-set}
+use Rattle.lists.{specs.Kit.{_≡_, refl, ap, _∙_, _⊎_, inl, inr, Bool, true, false, _&&_, _||_, cond, List, ℕ, _+_, _*_, _-_, _/_, _%_, _^_, _≤_, _<_, min}}
+use Rattle.lists.{specs.Kit.{arith, one-mul, mod-eq-of-lt, bitOr, or-zero-r, ltb, leb, eqb, length, getD, set, length-set, getD-set-same, getD-set-other}}
+use Rattle.lists.{specs.Kit.{ltb-true, lt-ltb, le-ltb, eqb-true, eqb-false}, proofs.Tests.{bool-cases, iff-eq}}
 use lib.Pow.{pow-lt}
-use lib.Seq.{getD-set-same, getD-set-other}
-use borrow.Author.Tests.{ltb-true, ltb-false, lt-ltb, le-ltb, eqb-true, eqb-false, eq-eqb, ne-eqb}
-use Rattle.mesh.specs.Limits.{max-radios}
-use Rattle.mesh.specs.Tables.{digit, put-digit}
-use Rattle.lists.proofs.Tests.{bool-cases, iff-eq}
-use Rattle.mesh.proofs.Tables.Digits.{digit-nothing, digit-put-digit}
-use Rattle.rows.specs.Sets.{in-set}
-use Rattle.rows.proofs.MaskLaws.{put-digit-true}
+use Rattle.mesh.{specs.Tables.{digit}, proofs.Tables.Digits.{digit-nothing, digit-put-digit}}
+use Rattle.rows.{specs.Sets.{in-set}, proofs.MaskLaws.{put-digit-true}}
 use Rattle.floods.specs.Floods.{of-level, Level-word, Level-set}
 
 -- ---- a bit more in a word
@@ -85,7 +72,8 @@ pub record Level-setting (ns : List ℕ) (k j : ℕ) (t : List ℕ) : Type 0 whe
   pub long : length t ≡ 8
   pub words : (i : ℕ) → i < j → Level-word ns k (64 * i) (getD t i 0)
 
-pub level-setting-turn : (ns : List ℕ) (k j w : ℕ) (t : List ℕ) → j < 8 → Level-word ns k (64 * j) w → Level-setting ns k j t → Level-setting ns k (j + 1) (set t j w)
+pub level-setting-turn : (ns : List ℕ) (k j w : ℕ) (t : List ℕ) → j < 8 → Level-word ns k (64 * j) w → Level-setting ns k j t → Level-setting ns k (j + 1)
+    (set t j w)
 level-setting-turn ns k j w t l h a = record {
   low = omega arith;
   long = length-set t j w ∙ a .long;

@@ -9,19 +9,10 @@
 --   Flood-done             what the flood leaves
 -- That on sound tables the radios that come in are the connected core is `member-flood` in proofs/FloodCore.antt.
 -- Definitions only.
-use mathlib.Core.Path.{_≡_}
-use mathlib.Core.Logic.{_↔_, _⊎_}
-use mathlib.Core.Bool.{Bool, true, _&&_, not}
-use mathlib.Core.List.{List}
-use Prim.Native.Nat.{ℕ, _+_, _-_, _≤_, _<_, min}
-use lib.Dec.{ltb, leb, eqb}
-use lib.ListN.{length, getD, take}
-use lib.Seq.{sets}
-use Rattle.mesh.specs.Limits.{max-radios}
-use Rattle.lists.specs.Lists.{count, member}
-use Rattle.mesh.specs.Tables.{digit}
-use Rattle.rows.specs.Rows.{row-listed}
-use Rattle.rows.specs.Sets.{in-set, common}
+use Rattle.lists.specs.{Kit.{_≡_, _↔_, _⊎_, Bool, true, _&&_, not, List, ℕ, _+_, _-_, _≤_, _<_, min, ltb, leb, eqb, length, getD, take, sets}, Lists.{count}}
+use Rattle.lists.specs.{Lists.{member}}
+use Rattle.mesh.specs.{Limits.{max-radios}, Tables.{digit}}
+use Rattle.rows.specs.{Rows.{row-listed}, Sets.{in-set, common}}
 
 -- ---- the radios of a level
 

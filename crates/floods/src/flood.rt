@@ -1,8 +1,6 @@
 // The flood: from a radio, over radios of a set. Whom it reaches leaves the set. No recursion: it goes by layers, breadth first. The rows
 // of the radios that came in last are joined by words, and what the set has of them comes in next.
-ghost use mathlib.Core.Path.{_≡_};
-ghost use Prim.Native.Nat.{_≤_};
-ghost use lib.ListN.{length};
+ghost use Rattle.lists.specs.Kit.{_≡_, _≤_, length};
 ghost use Rattle.mesh.specs.Limits.{max-radios};
 ghost use Rattle.floods.specs.Floods.{flood-at, Rows-joined, Layer-taken, Floodable, Flood-done};
 use mesh::Site;

@@ -1,7 +1,5 @@
 // The radios whose number is at least a level, as a set of eight words: over whom a flood at the level goes.
-ghost use mathlib.Core.Path.{_≡_};
-ghost use Prim.Native.Nat.{_≤_};
-ghost use lib.ListN.{length};
+ghost use Rattle.lists.specs.Kit.{_≡_, _≤_, length};
 ghost use Rattle.mesh.specs.Limits.{max-radios};
 ghost use Rattle.floods.specs.Floods.{Level-word, Level-set};
 use mesh::Site;

@@ -5,20 +5,12 @@
 --   tight-acyclic     a tight list is acyclic, whatever its order
 --   grows-filter      a list that grows, filtered, grows
 --   forest-le         of two acyclic lists the one that joins more is not shorter
-use mathlib.Core.Path.{_≡_, refl, sym, ap, subst, _∙_}
-use mathlib.Core.Logic.{_⊎_, inl, inr}
-use mathlib.Core.Bool.{Bool, true, false, cond}
-use mathlib.Core.List.{List, [], _∷_, _++_}
-use Prim.Native.Nat.{ℕ, _+_, _≤_, _<_}
-use native.Mathlib.Omega.{arith}
-use lib.ListN.{length, length-append}
-use Rattle.mesh.specs.Graph.{Link, In-links}
-use Rattle.mesh.specs.Staircase.{Joined, Acyclic, filter-links}
-use Rattle.lists.proofs.Tests.{bool-cases, trichotomy}
-use Rattle.mesh.proofs.Tables.AscendingLinks.{in-links-left, in-links-right, in-links-cases}
-use Rattle.mesh.proofs.Trees.Reach.{reachable-trans}
-use Rattle.forests.proofs.JoinedLaws.{Inside, joined-sym, joined-link, joined-mono, joined-same, joined-by-links}
-use Rattle.forests.proofs.Labels.{Labels, relabel, parts, One-more, labels-none, parts-none, labels-new, parts-new, parts-le}
+use Rattle.lists.{specs.Kit.{_≡_, refl, sym, ap, subst, _∙_, _⊎_, inl, inr, Bool, true, false, cond, List, [], _∷_, _++_, ℕ, _+_, _≤_, _<_, arith, length}}
+use Rattle.lists.{specs.Kit.{length-append}, proofs.Tests.{bool-cases, trichotomy}}
+use Rattle.mesh.{specs.Graph.{Link, In-links}, specs.Staircase.{Joined, Acyclic, filter-links}, proofs.Tables.AscendingLinks.{in-links-left, in-links-right}}
+use Rattle.mesh.{proofs.Tables.AscendingLinks.{in-links-cases}, proofs.Trees.Reach.{reachable-trans}}
+use Rattle.forests.proofs.{JoinedLaws.{Inside, joined-sym, joined-link, joined-mono, joined-same, joined-by-links}, Labels.{Labels, relabel, parts}}
+use Rattle.forests.proofs.{Labels.{One-more, labels-none, parts-none, labels-new, parts-new, parts-le}}
 
 -- ---- links that pass a test
 
@@ -26,7 +18,8 @@ pub in-filter-links : (t : Link → Bool) (ls : List Link) (m : Link) → In-lin
 unfolding filter-links
 in-filter-links t (l ∷ ls) m i = go (in-filter-links t ls m) (bool-cases (t l)) i
   where
-    pick : (In-links m (filter-links t ls) → In-links m ls × (t m ≡ true)) → t l ≡ true → In-links m (l ∷ filter-links t ls) → In-links m (l ∷ ls) × (t m ≡ true)
+    pick : (In-links m (filter-links t ls) → In-links m ls × (t m ≡ true)) → t l ≡ true → In-links m (l ∷ filter-links t ls) → In-links m (l ∷ ls) ×
+        (t m ≡ true)
     pick rec e (inl q) = (inl q, ap t (sym q) ∙ e)
     pick rec e (inr k) = let r = rec k in (inr (r .0), r .1)
 
@@ -177,7 +170,8 @@ acyclic-grows n (l ∷ ls) s a = (a [] ls l refl, acyclic-grows n ls (λ m i. s 
   where
     tail : (ps qs : List Link) (m : Link) → ls ≡ ps ++ (m ∷ qs) → Joined n (ps ++ qs) (m .low) (m .high) → ⊥
     tail ps qs m e r =
-        a (l ∷ ps) qs m (ap {B = List Link} (λ zs. l ∷ zs) e) (joined-mono n (ps ++ qs) (l ∷ (ps ++ qs)) (λ k i. s k (inr (back k (in-links-cases k ps qs i)))) (λ k i. inr i) r)
+        a (l ∷ ps) qs m (ap {B = List Link} (λ zs. l ∷ zs) e)
+        (joined-mono n (ps ++ qs) (l ∷ (ps ++ qs)) (λ k i. s k (inr (back k (in-links-cases k ps qs i)))) (λ k i. inr i) r)
       where
         back : (k : Link) → In-links k ps ⊎ In-links k qs → In-links k ls
         back k (inl j) = rw e (in-links-left k ps (m ∷ qs) j)

@@ -3,28 +3,13 @@
 --   staircase-fewer      of fewer links than radios
 --   staircase-joins      the ends of a link of weight w or more are joined by kept links of weight w or more
 --   staircase-heaviest   no spanning forest weighs more
-use mathlib.Core.Path.{_≡_}
-use mathlib.Core.Logic.{_⊎_, inr}
-use mathlib.Core.Bool.{true}
-use mathlib.Core.List.{List, []}
-use lib.ListN.{length}
-use Prim.Native.Nat.{ℕ, _≤_, _<_}
-use native.Mathlib.Omega.{arith}
-use lib.Dec.{leb}
-use Rattle.lists.specs.Lists.{range}
-use Rattle.mesh.specs.Graph.{Link, Graph, radios, proper, In-links}
-use Rattle.mesh.specs.Cores.{number, numbers}
-use Rattle.mesh.specs.Connected.{greatest}
-use Rattle.mesh.specs.Staircase.{Joined, Acyclic, Spanning, weight, falling, staircase, heavy, weighs}
-use Rattle.lists.proofs.Range.{in-range}
-use Rattle.mesh.proofs.GraphLaws.{proper-of}
-use Rattle.mesh.proofs.Trees.Listed.{number-le-greatest}
-use Rattle.mesh.proofs.Tables.AscendingLinks.{in-links-proper}
-use Rattle.forests.proofs.JoinedLaws.{Inside, joined-mono, joined-by-links}
-use Rattle.forests.proofs.Labels.{parts-some}
-use Rattle.forests.proofs.Forests.{Tight, acyclic-grows, grows-filter, tight-acyclic, forest-le}
-use Rattle.forests.proofs.Keeping.{tight-none, keep-from, keep-tight, in-heavy, keep-joins, in-falling, falling-in, falling-falling}
-use Rattle.forests.proofs.Weights.{weighs-le}
+use Rattle.lists.{specs.Kit.{_≡_, _⊎_, inr, true, List, [], length, ℕ, _≤_, _<_, arith, leb}, specs.Lists.{range}, proofs.Range.{in-range}}
+use Rattle.mesh.{specs.Graph.{Link, Graph, radios, proper, In-links}, specs.Cores.{number, numbers}, specs.Connected.{greatest}, specs.Staircase.{Joined}}
+use Rattle.mesh.{specs.Staircase.{Acyclic, Spanning, weight, falling, staircase, heavy, weighs}, proofs.GraphLaws.{proper-of}}
+use Rattle.mesh.{proofs.Trees.Listed.{number-le-greatest}, proofs.Tables.AscendingLinks.{in-links-proper}}
+use Rattle.forests.proofs.{JoinedLaws.{Inside, joined-mono, joined-by-links}, Labels.{parts-some}, Forests.{Tight, acyclic-grows, grows-filter}}
+use Rattle.forests.proofs.{Forests.{tight-acyclic, forest-le}, Keeping.{tight-none, keep-from, keep-tight, in-heavy, keep-joins, in-falling, falling-in}}
+use Rattle.forests.proofs.{Keeping.{falling-falling}, Weights.{weighs-le}}
 
 module _ (g : Graph) (p : proper (g .n) (g .links) ≡ true) where
   weight-le : (l : Link) → l .low < g .n → weight g l ≤ greatest (numbers g)

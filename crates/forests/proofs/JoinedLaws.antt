@@ -2,18 +2,10 @@
 --   Inside n ls       the ends of the links of ls are below n
 --   joined-by-links   where the ends of each link of ls are joined by ms, whatever ls joins is joined by ms
 --   joined-iff        the test `joined` tells what is joined
-use mathlib.Core.Path.{_≡_, refl, sym, ap, _∙_}
-use mathlib.Core.Logic.{_⊎_, inl, inr, _↔_}
-use mathlib.Core.Bool.{true, false}
-use mathlib.Core.List.{List, [], _∷_}
-use Prim.Native.Nat.{ℕ, _<_}
-use Rattle.lists.specs.Lists.{member}
-use Rattle.mesh.specs.Graph.{Link, graph, linked, other-ends, In-links}
-use Rattle.mesh.specs.Connected.{here, onward}
-use Rattle.mesh.specs.Staircase.{anyone, Joined, joined}
-use Rattle.lists.proofs.Tests.{never, or-cases, or-left, or-right}
-use Rattle.mesh.proofs.GraphLaws.{Ends, ends-of, of-ends, joins, linked-by, linked-by-cons}
-use Rattle.mesh.proofs.Trees.Reach.{reachable-trans, reachable-sym, reached-iff}
+use Rattle.lists.{specs.Kit.{_≡_, refl, sym, ap, _∙_, _⊎_, inl, inr, _↔_, true, false, List, [], _∷_, ℕ, _<_}, specs.Lists.{member}, proofs.Tests.{never}}
+use Rattle.lists.{proofs.Tests.{or-cases, or-left, or-right}}
+use Rattle.mesh.{specs.Graph.{Link, graph, linked, other-ends, In-links}, specs.Connected.{here, onward}, specs.Staircase.{anyone, Joined, joined}}
+use Rattle.mesh.{proofs.GraphLaws.{Ends, ends-of, of-ends, joins, linked-by, linked-by-cons}, proofs.Trees.Reach.{reachable-trans, reachable-sym, reached-iff}}
 
 abbrev pub Inside : ℕ → List Link → Type 0
 Inside n ls = (l : Link) → In-links l ls → (l .low < n) × (l .high < n)
@@ -54,7 +46,8 @@ module _ (n : ℕ) where
   joined-ends ls l v w h r (inl e) = rw (e .0, e .1) r
   joined-ends ls l v w h r (inr e) = rw (e .0, e .1) (joined-sym ls h r)
 
-  pub joined-by-links : (ls ms : List Link) → Inside n ls → ((l : Link) → In-links l ls → Joined n ms (l .low) (l .high)) → {a b : ℕ} → Joined n ls a b → Joined n ms a b
+  pub joined-by-links : (ls ms : List Link) → Inside n ls → ((l : Link) → In-links l ls → Joined n ms (l .low) (l .high)) → {a b : ℕ} → Joined n ls a b → Joined
+      n ms a b
   joined-by-links ls ms s f here = here
   joined-by-links ls ms s f (onward {w} {x} r e lx o) = go (joined-by-links ls ms s f r) (linked-some ls w x (sym (linked-graph n ls w x) ∙ e))
     where

@@ -3,22 +3,12 @@
 --   keep-tight              the kept links stay tight, so acyclic
 --   keep-joins              taken by weight falling: a link of weight w or more has its ends joined by kept ones of weight w or more
 --   falling-..              the links by weight falling
-use mathlib.Core.Path.{_≡_, refl, sym, ap, subst}
-use mathlib.Core.Logic.{_⊎_, inl, inr}
-use mathlib.Core.Bool.{true, false, cond}
-use mathlib.Core.List.{List, [], _∷_, _++_}
-use Prim.Native.Nat.{ℕ, zero, suc, _+_, _≤_, _<_}
-use native.Mathlib.Omega.{arith}
-use lib.Dec.{eqb, leb}
-use lib.ListN.{length-append}
-use borrow.Author.Tests.{eqb-true, eq-eqb, le-leb, leb-true}
-use Rattle.mesh.specs.Graph.{Link, In-links}
-use Rattle.mesh.specs.Staircase.{Joined, joined, keep, of-weight, falling, heavy}
-use Rattle.lists.proofs.Tests.{bool-cases, never, trichotomy}
-use Rattle.mesh.proofs.Tables.AscendingLinks.{in-links-left, in-links-right, in-links-cases}
-use Rattle.forests.proofs.JoinedLaws.{Inside, joined-link, joined-mono, joined-iff, not-joined}
-use Rattle.forests.proofs.Labels.{relabel, One-more, labels-none, parts-none, labels-new, parts-new}
-use Rattle.forests.proofs.Forests.{Tight, same-label, in-filter-links, filter-links-in}
+use Rattle.lists.{specs.Kit.{_≡_, refl, sym, ap, subst, _⊎_, inl, inr, true, false, cond, List, [], _∷_, _++_, ℕ, zero, suc, _≤_, _<_, arith, eqb, leb}}
+use Rattle.lists.{specs.Kit.{length-append, eqb-true, eq-eqb, le-leb, leb-true}, proofs.Tests.{bool-cases, never, trichotomy}}
+use Rattle.mesh.{specs.Graph.{Link, In-links}, specs.Staircase.{Joined, joined, keep, of-weight, falling, heavy}, proofs.Tables.AscendingLinks.{in-links-left}}
+use Rattle.mesh.{proofs.Tables.AscendingLinks.{in-links-right, in-links-cases}}
+use Rattle.forests.proofs.{JoinedLaws.{Inside, joined-link, joined-mono, joined-iff, not-joined}, Labels.{relabel, One-more, labels-none, parts-none}}
+use Rattle.forests.proofs.{Labels.{labels-new, parts-new}, Forests.{Tight, same-label, in-filter-links, filter-links-in}}
 
 -- ---- one link more at the end
 
@@ -74,22 +64,26 @@ tight-end n l ks s h new t = go (trichotomy (t .label (l .low)) (t .label (l .hi
         → Tight n (ks ++ (l ∷ []))
     go (inl less) = record {
       label = relabel (t .label (l .low)) (t .label (l .high)) (t .label);
-      labels = labels-new n ks (ks ++ (l ∷ [])) l (inside-end n l ks s h) (more-end l ks) (t .label) (t .labels) (l .low) (l .high) (inl (refl, refl)) (h .0) (h .1) less;
+      labels = labels-new n ks (ks ++ (l ∷ [])) l (inside-end n l ks s h) (more-end l ks) (t .label) (t .labels) (l .low) (l .high) (inl (refl, refl)) (h .0)
+          (h .1) less;
       counted = omega (
         arith,
         t .counted,
-        parts-new n ks (ks ++ (l ∷ [])) l (inside-end n l ks s h) (more-end l ks) (t .label) (t .labels) (l .low) (l .high) (inl (refl, refl)) (h .0) (h .1) less,
+        parts-new n ks (ks ++ (l ∷ [])) l (inside-end n l ks s h) (more-end l ks) (t .label) (t .labels) (l .low) (l .high) (inl (refl, refl)) (h .0) (h .1)
+            less,
         length-append ks (l ∷ []),
       );
     }
     go (inr (inl e)) = absurd (new (same-label n ks (t .label) (t .labels) (l .low) (l .high) (h .0) (h .1) e))
     go (inr (inr less)) = record {
       label = relabel (t .label (l .high)) (t .label (l .low)) (t .label);
-      labels = labels-new n ks (ks ++ (l ∷ [])) l (inside-end n l ks s h) (more-end l ks) (t .label) (t .labels) (l .high) (l .low) (inr (refl, refl)) (h .1) (h .0) less;
+      labels = labels-new n ks (ks ++ (l ∷ [])) l (inside-end n l ks s h) (more-end l ks) (t .label) (t .labels) (l .high) (l .low) (inr (refl, refl)) (h .1)
+          (h .0) less;
       counted = omega (
         arith,
         t .counted,
-        parts-new n ks (ks ++ (l ∷ [])) l (inside-end n l ks s h) (more-end l ks) (t .label) (t .labels) (l .high) (l .low) (inr (refl, refl)) (h .1) (h .0) less,
+        parts-new n ks (ks ++ (l ∷ [])) l (inside-end n l ks s h) (more-end l ks) (t .label) (t .labels) (l .high) (l .low) (inr (refl, refl)) (h .1) (h .0)
+            less,
         length-append ks (l ∷ []),
       );
     }

@@ -6,23 +6,10 @@
 --   labels-new        labels after one link more between two parts
 --   parts-new         one part less
 --   parts-le          links that join more have no more parts
-use mathlib.Core.Path.{_≡_, refl, sym, ap, _∙_}
-use mathlib.Core.Logic.{_⊎_, inl, inr}
-use mathlib.Core.Bool.{true, false, _||_, cond}
-use mathlib.Core.List.{List, []}
-use Prim.Native.Nat.{ℕ, zero, suc, _+_, _≤_, _<_}
-use native.Mathlib.Omega.{arith}
-use lib.Dec.{eqb}
-use borrow.Author.Tests.{eqb-true, eq-eqb, ne-eqb}
-use Rattle.lists.specs.Lists.{range, count, In}
-use Rattle.mesh.specs.Graph.{Link, In-links}
-use Rattle.mesh.specs.Connected.{here}
-use Rattle.mesh.specs.Staircase.{Joined}
-use Rattle.lists.proofs.Tests.{bool-cases, never, or-cases, or-left, or-right, iff-eq}
-use Rattle.lists.proofs.Range.{range-in, length-range, count-range-one}
-use Rattle.lists.proofs.Count.{count-mono, count-all, count-cong, count-or}
-use Rattle.mesh.proofs.GraphLaws.{Ends}
-use Rattle.mesh.proofs.Trees.Reach.{reachable-trans}
+use Rattle.lists.{specs.Kit.{_≡_, refl, sym, ap, _∙_, _⊎_, inl, inr, true, false, _||_, cond, List, [], ℕ, zero, suc, _+_, _≤_, _<_, arith, eqb, eqb-true}}
+use Rattle.lists.{specs.Kit.{eq-eqb, ne-eqb}, specs.Lists.{range, count, In}, proofs.Tests.{bool-cases, never, or-cases, or-left, or-right, iff-eq}}
+use Rattle.lists.{proofs.Range.{range-in, length-range, count-range-one}, proofs.Count.{count-mono, count-all, count-cong, count-or}}
+use Rattle.mesh.{specs.Graph.{Link, In-links}, specs.Connected.{here}, specs.Staircase.{Joined}, proofs.GraphLaws.{Ends}, proofs.Trees.Reach.{reachable-trans}}
 use Rattle.forests.proofs.JoinedLaws.{Inside, joined-sym, joined-next, joined-link, joined-mono, joined-same}
 
 pub record Labels (n : ℕ) (ks : List Link) (f : ℕ → ℕ) : Type 0 where

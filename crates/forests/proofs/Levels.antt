@@ -1,14 +1,8 @@
 -- Links taken level by level are links by weight falling.
 --   levels-ext    levels by weights that agree on the links
 --   levels-all    where every link weighs something, the levels down to 1 are all that the definition takes
-use mathlib.Core.Path.{_≡_, refl, sym, ap, ap₂}
-use mathlib.Core.List.{List, _++_}
-use Prim.Native.Nat.{ℕ, zero, suc, _≤_}
-use native.Mathlib.Omega.{arith}
-use lib.Dec.{eqb}
-use borrow.Author.Tests.{ne-eqb}
-use Rattle.mesh.specs.Graph.{Link, In-links}
-use Rattle.mesh.specs.Staircase.{of-weight, falling}
+use Rattle.lists.specs.Kit.{_≡_, refl, sym, ap, ap₂, List, _++_, ℕ, zero, suc, _≤_, arith, eqb, ne-eqb}
+use Rattle.mesh.specs.{Graph.{Link, In-links}, Staircase.{of-weight, falling}}
 use Rattle.forests.specs.Growing.{levels-falling}
 use Rattle.forests.proofs.Forests.{filter-links-none, filter-links-ext}
 

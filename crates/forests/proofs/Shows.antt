@@ -1,29 +1,13 @@
 -- What grows is the kept links, with their labels.
 --   Shows n old ks s   s has the labels, the list and the count of the links ks; `old` is what the lent table held
 --   shows-all          the links ls taken in turn give what `keep` gives
-use mathlib.Core.Path.{_≡_, refl, sym, ap, subst, _∙_}
-use mathlib.Core.Logic.{_⊎_, inl, inr}
-use mathlib.Core.Bool.{true, false, cond}
-use mathlib.Core.List.{List, [], _∷_, _++_, map}
-use Prim.Native.Nat.{ℕ, zero, suc, _+_, _*_, _≤_, _<_, min, max}
-use native.Mathlib.Omega.{arith}
-use lib.Dec.{eqb}
-use lib.ListN.{length, getD, length-append, List·getD-eq-default}
-use lib.Seq.{sets}
-use borrow.Author.Tests.{eqb-true, eq-eqb}
-use Rattle.lists.specs.Lists.{range}
-use Rattle.mesh.specs.Graph.{Link}
-use Rattle.mesh.specs.Staircase.{Joined, joined, keep, link-entries}
-use Rattle.lists.proofs.Parts.{getD-any}
-use Rattle.lists.proofs.Tests.{bool-cases, never, iff-eq, trichotomy}
-use Rattle.lists.proofs.Range.{length-range, getD-range}
-use Rattle.lists.proofs.Map.{length-map}
-use Rattle.lists.proofs.Overwrite.{sets-append}
-use Rattle.forests.proofs.JoinedLaws.{Inside, joined-iff}
-use Rattle.forests.proofs.Labels.{Labels, relabel, labels-none, labels-new, relabel-miss}
-use Rattle.forests.proofs.Forests.{same-label}
-use Rattle.forests.proofs.Keeping.{now, now-inside, more-end, inside-end}
-use Rattle.forests.proofs.Tree.{length-link-entries}
+use Rattle.lists.{specs.Kit.{_≡_, refl, sym, ap, subst, _∙_, _⊎_, inl, inr, true, false, cond, List, [], _∷_, _++_, map, ℕ, zero, suc, _+_, _*_, _≤_, _<_, min}}
+use Rattle.lists.{specs.Kit.{max, arith, eqb, length, getD, length-append, List·getD-eq-default, sets, eqb-true, eq-eqb}, specs.Lists.{range}}
+use Rattle.lists.{proofs.Parts.{getD-any}, proofs.Tests.{bool-cases, never, iff-eq, trichotomy}, proofs.Range.{length-range, getD-range}}
+use Rattle.lists.{proofs.Map.{length-map}, proofs.Overwrite.{sets-append}}
+use Rattle.mesh.specs.{Graph.{Link}, Staircase.{Joined, joined, keep, link-entries}}
+use Rattle.forests.proofs.{JoinedLaws.{Inside, joined-iff}, Labels.{Labels, relabel, labels-none, labels-new, relabel-miss}, Forests.{same-label}}
+use Rattle.forests.proofs.{Keeping.{now, now-inside, more-end, inside-end}, Tree.{length-link-entries}}
 use Rattle.forests.specs.Growing.{Growing, growing, relabelled, joined-up, grown-one, grown-all}
 
 -- ---- entries of a list
@@ -91,9 +75,11 @@ shows-none n old = record {
         go (inr (inl h)) = List·getD-eq-default (range 0 n) v {n = v} (omega (arith, length-range 0 n))
         go (inr (inr h)) = List·getD-eq-default (range 0 n) v {n = v} (omega (arith, length-range 0 n))
 
-module _ (n : ℕ) (old : List ℕ) (ks : List Link) (inside : Inside n ks) (l : Link) (ends : (l .low < n) × (l .high < n)) (s : Growing) (shows : Shows n old ks s) where
+module _ (n : ℕ) (old : List ℕ) (ks : List Link) (inside : Inside n ks) (l : Link) (ends : (l .low < n) × (l .high < n)) (s : Growing)
+    (shows : Shows n old ks s) where
   labels-up : (entry (s .labels) (l .low) ≡ entry (s .labels) (l .high) → ⊥)
-      → Labels n (ks ++ (l ∷ [])) (entry (map (relabelled (min (entry (s .labels) (l .low)) (entry (s .labels) (l .high))) (max (entry (s .labels) (l .low)) (entry (s .labels) (l .high)))) (s .labels)))
+      → Labels n (ks ++ (l ∷ [])) (entry (map (relabelled (min (entry (s .labels) (l .low)) (entry (s .labels) (l .high)))
+      (max (entry (s .labels) (l .low)) (entry (s .labels) (l .high)))) (s .labels)))
   labels-up ne = go (trichotomy p q)
     where
       p : ℕ
@@ -107,14 +93,16 @@ module _ (n : ℕ) (old : List ℕ) (ks : List Link) (inside : Inside n ks) (l :
           let lo : min p q ≡ p = omega arith in
           let hi : max p q ≡ q = omega arith in
           rw (lo, hi) (labels-ext n (ks ++ (l ∷ [])) (relabel p q (entry (s .labels))) (entry (map (relabelled p q) (s .labels)))
-          (labels-new n ks (ks ++ (l ∷ [])) l (inside-end n l ks inside ends) (more-end l ks) (entry (s .labels)) (shows .labels) (l .low) (l .high) (inl (refl, refl)) (ends .0) (ends .1) h)
+          (labels-new n ks (ks ++ (l ∷ [])) l (inside-end n l ks inside ends) (more-end l ks) (entry (s .labels)) (shows .labels) (l .low) (l .high)
+          (inl (refl, refl)) (ends .0) (ends .1) h)
           (entry-relabelled (s .labels) p q (omega (arith, shows .labels .low (l .high), ends .1, shows .long))))
       go (inr (inl h)) = absurd (ne h)
       go (inr (inr h)) =
           let lo : min p q ≡ q = omega arith in
           let hi : max p q ≡ p = omega arith in
           rw (lo, hi) (labels-ext n (ks ++ (l ∷ [])) (relabel q p (entry (s .labels))) (entry (map (relabelled q p) (s .labels)))
-          (labels-new n ks (ks ++ (l ∷ [])) l (inside-end n l ks inside ends) (more-end l ks) (entry (s .labels)) (shows .labels) (l .high) (l .low) (inr (refl, refl)) (ends .1) (ends .0) h)
+          (labels-new n ks (ks ++ (l ∷ [])) l (inside-end n l ks inside ends) (more-end l ks) (entry (s .labels)) (shows .labels) (l .high) (l .low)
+          (inr (refl, refl)) (ends .1) (ends .0) h)
           (entry-relabelled (s .labels) q p (omega (arith, shows .labels .low (l .low), ends .0, shows .long))))
 
   shows-up : (entry (s .labels) (l .low) ≡ entry (s .labels) (l .high) → ⊥)
@@ -141,7 +129,12 @@ module _ (n : ℕ) (old : List ℕ) (ks : List Link) (inside : Inside n ks) (l :
   pub shows-one : Shows n old (now n ks l) (grown-one l s)
   unfolding grown-one
   shows-one =
-      rw (labels-tell, getD-any (s .labels) (l .low) 0 (l .low) (omega (arith, ends .0, shows .long)), getD-any (s .labels) (l .high) 0 (l .high) (omega (arith, ends .1, shows .long)))
+      rw (
+        labels-tell,
+        getD-any (s .labels) (l .low) 0 (l .low) (omega (arith, ends .0, shows .long)),
+        getD-any (s .labels) (l .high) 0 (l .high)
+            (omega (arith, ends .1, shows .long)),
+      )
       (go (bool-cases (eqb (entry (s .labels) (l .low)) (entry (s .labels) (l .high)))))
     where
       a : ℕ
@@ -150,11 +143,13 @@ module _ (n : ℕ) (old : List ℕ) (ks : List Link) (inside : Inside n ks) (l :
       b : ℕ
       b = entry (s .labels) (l .high)
 
-      go : (eqb a b ≡ true) ⊎ (eqb a b ≡ false) → Shows n old (cond (eqb a b) ks (ks ++ (l ∷ []))) (cond {A = Growing} (eqb a b) s (joined-up (l .low) (l .high) a b s))
+      go : (eqb a b ≡ true) ⊎ (eqb a b ≡ false) → Shows n old (cond (eqb a b) ks (ks ++ (l ∷ [])))
+          (cond {A = Growing} (eqb a b) s (joined-up (l .low) (l .high) a b s))
       go (inl e) = rw e shows
       go (inr e) = rw e (shows-up (λ q. never (eqb a b) (eq-eqb a b q) e))
 
-pub shows-all : (n : ℕ) (old : List ℕ) (ls ks : List Link) → Inside n ls → Inside n ks → (s : Growing) → Shows n old ks s → Shows n old (keep n ks ls) (grown-all ls s)
+pub shows-all : (n : ℕ) (old : List ℕ) (ls ks : List Link) → Inside n ls → Inside n ks → (s : Growing) → Shows n old ks s → Shows n old (keep n ks ls)
+    (grown-all ls s)
 unfolding keep grown-all
 shows-all n old [] ks u i s h = h
 shows-all n old (l ∷ ls) ks u i s h =

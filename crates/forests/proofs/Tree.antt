@@ -1,26 +1,15 @@
 -- The staircase tree is what document 02 asks for, and so is what the call lists.
 --   staircase-tree    of a graph whose links are proper and ascend
 --   staircase-right   after an accepted call (property 2)
-use mathlib.Core.Path.{_≡_, refl}
-use mathlib.Core.Bool.{true}
-use mathlib.Core.List.{List, [], _∷_}
-use Prim.Native.Nat.{ℕ, _*_, _≤_}
-use native.Mathlib.Omega.{arith}
-use lib.ListN.{length}
-use Rattle.mesh.specs.Graph.{Link, Graph, proper, ascending}
-use Rattle.mesh.specs.Tables.{Tables, graph-in}
-use Rattle.mesh.specs.Sound.{sound}
-use Rattle.mesh.specs.Staircase.{staircase, link-entries, Staircase-tree}
-use Rattle.calls.specs.Questions.{lengths-of, staircase-length, staircase-refusal}
-use Rattle.calls.specs.Outcomes.{staircase-outcome}
-use Rattle.calls.specs.Results.{Staircase-listed}
-use Rattle.lists.proofs.Overwrite.{take-overwrite, drop-overwrite}
-use Rattle.mesh.proofs.Tables.ReadBack.{proper-graph-in, ascending-graph-in}
-use Rattle.calls.proofs.ChainLaws.{site-zero}
-use Rattle.calls.proofs.Accepted.{listing-is}
-use Rattle.forests.proofs.Heaviest.{staircase-spanning, staircase-heaviest, staircase-fewer}
-use Rattle.forests.proofs.Widest.{staircase-way, staircase-widest, staircase-core}
-use Rattle.forests.proofs.Turns.{staircase-turn}
+use Rattle.lists.{specs.Kit.{_≡_, refl, true, List, [], _∷_, ℕ, _*_, _≤_, arith, length}, proofs.Overwrite.{take-overwrite, drop-overwrite}}
+use Rattle.mesh.{specs.Graph.{Link, Graph, proper, ascending}, specs.Tables.{Tables, graph-in}, specs.Sound.{sound}, specs.Staircase.{staircase, link-entries}}
+use Rattle.mesh.{specs.Staircase.{Staircase-tree}, proofs.Tables.ReadBack.{proper-graph-in, ascending-graph-in}}
+use Rattle.calls.{specs.Questions.{lengths-of}, specs.Outcomes.{staircase-outcome}, specs.Results.{Staircase-listed}}
+use Rattle.calls.{proofs.ChainLaws.{site-zero}, proofs.Accepted.{listing-is}}
+use Rattle.forests.proofs.{Heaviest.{staircase-spanning, staircase-heaviest, staircase-fewer}, Widest.{staircase-way, staircase-widest, staircase-core}}
+use Rattle.forests.proofs.{Turns.{staircase-turn}}
+use Rattle.calls.specs.Chains.{staircase-refusal}
+use Rattle.calls.specs.Chains.{staircase-length}
 
 pub staircase-tree : (g : Graph) → 1 ≤ g .n → proper (g .n) (g .links) ≡ true → ascending (g .links) ≡ true → Staircase-tree g (staircase g)
 staircase-tree g h p a = record {
@@ -41,7 +30,7 @@ length-link-entries (l ∷ ls) = omega (arith, length-link-entries ls)
 pub staircase-right :
     (n : ℕ) (t : Tables) (w : List ℕ) → let o = staircase-outcome n t w in
     o .reply .number ≡ 0 → Staircase-listed (graph-in n (t .links)) (o .reply .value) w (o .lent)
-unfolding staircase-outcome staircase-refusal sound graph-in
+unfolding staircase-outcome sound graph-in
 staircase-right n t w z =
     let g = graph-in n (t .links) in
     let new = link-entries (staircase g) in

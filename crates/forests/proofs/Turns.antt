@@ -2,20 +2,11 @@
 --   falling-turn     the links by weight falling are in turn, where the graph's links ascend
 --   keep-turn        and so are the kept ones
 --   staircase-turn   so is the staircase tree
-use mathlib.Core.Path.{_≡_, refl, sym, _∙_}
-use mathlib.Core.Logic.{_⊎_, inl, inr}
-use mathlib.Core.Bool.{true, false, _&&_}
-use mathlib.Core.List.{List, [], _∷_, _++_}
-use Prim.Native.Nat.{ℕ, zero, suc, _<_}
-use native.Mathlib.Omega.{arith}
-use lib.Dec.{ltb, eqb}
-use borrow.Author.Tests.{eqb-true, eq-eqb, lt-ltb}
-use Rattle.mesh.specs.Graph.{Link, Graph, In-links, link-before, ascending}
-use Rattle.mesh.specs.Cores.{numbers}
-use Rattle.mesh.specs.Connected.{greatest}
-use Rattle.mesh.specs.Staircase.{weight, filter-links, of-weight, falling, keep, staircase, goes-before, In-turn}
-use Rattle.lists.proofs.Tests.{bool-cases, and-both, or-left, or-right}
-use Rattle.mesh.proofs.Tables.AscendingLinks.{in-links-cases, Before, of-before, Sorted, sorted-of}
+use Rattle.lists.{specs.Kit.{_≡_, refl, sym, _∙_, _⊎_, inl, inr, true, false, _&&_, List, [], _∷_, _++_, ℕ, zero, suc, _<_, arith, ltb, eqb, eqb-true, eq-eqb}}
+use Rattle.lists.{specs.Kit.{lt-ltb}, proofs.Tests.{bool-cases, and-both, or-left, or-right}}
+use Rattle.mesh.{specs.Graph.{Link, Graph, In-links, link-before, ascending}, specs.Cores.{numbers}, specs.Connected.{greatest}, specs.Staircase.{weight}}
+use Rattle.mesh.{specs.Staircase.{filter-links, of-weight, falling, keep, staircase, goes-before, In-turn}, proofs.Tables.AscendingLinks.{in-links-cases}}
+use Rattle.mesh.{proofs.Tables.AscendingLinks.{Before, of-before, Sorted, sorted-of}}
 use Rattle.forests.proofs.Keeping.{now, by-outcome, in-of-weight, in-falling}
 
 module _ (wt : Link → ℕ) where

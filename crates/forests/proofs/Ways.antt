@@ -3,16 +3,9 @@
 --   way-at         a way that has a link once leads to it, and from it on, over the other links
 --   joined-way     joined radios have a way that uses no link twice
 --   least-..       the least weight along a way
-use mathlib.Core.Path.{_≡_, refl, sym, ap, subst, _∙_}
-use mathlib.Core.Logic.{_⊎_, inl, inr}
-use mathlib.Core.List.{List, [], _∷_, _++_}
-use Prim.Native.Nat.{ℕ, _≤_, _<_}
-use native.Mathlib.Omega.{arith}
-use Rattle.mesh.specs.Graph.{Link, In-links}
-use Rattle.mesh.specs.Connected.{here, onward}
-use Rattle.mesh.specs.Staircase.{Joined, Between, Way, stay, along, Once, Once-way, least}
-use Rattle.mesh.proofs.Tables.AscendingLinks.{Before, before-irreflexive, before-cases}
-use Rattle.mesh.proofs.Trees.Reach.{reachable-trans}
+use Rattle.lists.specs.Kit.{_≡_, refl, sym, ap, subst, _∙_, _⊎_, inl, inr, List, [], _∷_, _++_, ℕ, _≤_, _<_, arith}
+use Rattle.mesh.{specs.Graph.{Link, In-links}, specs.Connected.{here, onward}, specs.Staircase.{Joined, Between, Way, stay, along, Once, Once-way, least}}
+use Rattle.mesh.{proofs.Tables.AscendingLinks.{Before, before-irreflexive, before-cases}, proofs.Trees.Reach.{reachable-trans}}
 use Rattle.forests.proofs.JoinedLaws.{Inside, linked-graph, linked-some, joined-next, joined-ends}
 
 -- ---- membership decided, and a list split at a member

@@ -1,16 +1,7 @@
 -- Sums by thresholds: of two lists the one with no fewer links of each weight or more weighs no less.
-use mathlib.Core.Path.{_≡_, refl}
-use mathlib.Core.Logic.{_⊎_, inl, inr}
-use mathlib.Core.Bool.{true, false}
-use mathlib.Core.List.{List, [], _∷_}
-use Prim.Native.Nat.{ℕ, zero, suc, _+_, _≤_, min}
-use native.Mathlib.Omega.{arith}
-use lib.Dec.{leb}
-use lib.ListN.{length}
-use borrow.Author.Tests.{leb-true, leb-false}
-use Rattle.mesh.specs.Graph.{Link}
-use Rattle.mesh.specs.Staircase.{filter-links, heavy, weighs}
-use Rattle.lists.proofs.Tests.{bool-cases}
+use Rattle.lists.{specs.Kit.{_≡_, refl, _⊎_, inl, inr, true, false, List, [], _∷_, ℕ, zero, suc, _+_, _≤_, min, arith, leb, length, leb-true, leb-false}}
+use Rattle.lists.{proofs.Tests.{bool-cases}}
+use Rattle.mesh.specs.{Graph.{Link}, Staircase.{filter-links, heavy, weighs}}
 
 -- weights cut at m
 abbrev cut : (weight : Link → ℕ) → (m : ℕ) → Link → ℕ

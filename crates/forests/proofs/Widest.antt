@@ -2,27 +2,15 @@
 --   staircase-way       joined radios have a way over kept links that uses none twice
 --   staircase-widest    and the least weight along any such way is no less than along any way of the graph
 --   staircase-core      two radios are in one connected core at level k exactly if kept links of weight k or more join them
-use mathlib.Core.Path.{_≡_, refl, sym, ap, subst}
-use mathlib.Core.Logic.{_⊎_, inl, inr, _↔_}
-use mathlib.Core.Bool.{true, false}
-use mathlib.Core.List.{List, [], _∷_, _++_}
-use Prim.Native.Nat.{ℕ, _≤_, _<_}
-use native.Mathlib.Omega.{arith}
-use lib.Dec.{leb}
-use borrow.Author.Tests.{leb-true, leb-false, le-leb}
-use Rattle.mesh.specs.Graph.{Link, Graph, link, link-of, linked, proper, In-links}
-use Rattle.mesh.specs.Cores.{number}
-use Rattle.mesh.specs.Connected.{Reachable, here, onward, at-least, In-core}
-use Rattle.mesh.specs.Staircase.{Joined, Between, Way, stay, along, Once, Once-way, least, weight, heavy, staircase}
-use Rattle.lists.proofs.Tests.{bool-cases, trichotomy}
-use Rattle.mesh.proofs.GraphLaws.{proper-of}
-use Rattle.mesh.proofs.Tables.AscendingLinks.{in-links-left, in-links-right, in-links-cases, link-less, link-more, linked-in}
-use Rattle.mesh.proofs.Trees.CoreLevels.{in-core-below, in-core-level}
-use Rattle.mesh.proofs.Trees.Reach.{reachable-trans}
-use Rattle.forests.proofs.JoinedLaws.{in-joins, linked-some, joined-sym, joined-mono}
-use Rattle.forests.proofs.Keeping.{in-heavy}
-use Rattle.forests.proofs.Heaviest.{links-inside, staircase-inside, staircase-acyclic, staircase-joins, staircase-spanning}
-use Rattle.forests.proofs.Ways.{split-links, way-joined, way-at, joined-way, least-le, le-least}
+use Rattle.lists.{specs.Kit.{_≡_, refl, sym, ap, subst, _⊎_, inl, inr, _↔_, true, false, List, [], _∷_, _++_, ℕ, _≤_, _<_, arith, leb, leb-true, leb-false}}
+use Rattle.lists.{specs.Kit.{le-leb}, proofs.Tests.{bool-cases, trichotomy}}
+use Rattle.mesh.{specs.Graph.{Link, Graph, link, link-of, linked, proper, In-links}, specs.Cores.{number}, specs.Connected.{Reachable, here, onward, at-least}}
+use Rattle.mesh.{specs.Connected.{In-core}, specs.Staircase.{Joined, Between, Way, stay, along, Once, Once-way, least, weight, heavy, staircase}}
+use Rattle.mesh.{proofs.GraphLaws.{proper-of}, proofs.Tables.AscendingLinks.{in-links-left, in-links-right, in-links-cases, link-less, link-more, linked-in}}
+use Rattle.mesh.{proofs.Trees.CoreLevels.{in-core-below, in-core-level}, proofs.Trees.Reach.{reachable-trans}}
+use Rattle.forests.proofs.{JoinedLaws.{in-joins, linked-some, joined-sym, joined-mono}, Keeping.{in-heavy}, Heaviest.{links-inside, staircase-inside}}
+use Rattle.forests.proofs.{Heaviest.{staircase-acyclic, staircase-joins, staircase-spanning}, Ways.{split-links, way-joined, way-at, joined-way}}
+use Rattle.forests.proofs.{Ways.{least-le, le-least}}
 
 module _ (g : Graph) (p : proper (g .n) (g .links) ≡ true) where
   pub staircase-way : (a b : ℕ) → Joined (g .n) (g .links) a b → Once-way (staircase g) a b
@@ -64,7 +52,8 @@ module _ (g : Graph) (p : proper (g .n) (g .links) ≡ true) where
 
           close : (v : ℕ) × (x : ℕ) × Joined n (ps ++ rs) a v × Between l v x × Joined n (ps ++ rs) x b → ⊥
           close z = let h = below (z .0) (z .1) (z .3) in
-              turn (z .0) (z .1) (reachable-trans (joined-sym n (ps ++ rs) la (z .2)) (reachable-trans straight (joined-sym n (ps ++ rs) (h .1) (z .4)))) (h .0) (z .3)
+              turn (z .0) (z .1) (reachable-trans (joined-sym n (ps ++ rs) la (z .2)) (reachable-trans straight (joined-sym n (ps ++ rs) (h .1) (z .4)))) (h .0)
+              (z .3)
 
       go : (ps : List Link) × (rs : List Link) × (staircase g ≡ ps ++ (l ∷ rs)) → ⊥
       go z = at-place (z .0) (z .1) (z .2)
@@ -76,7 +65,8 @@ module _ (g : Graph) (p : proper (g .n) (g .links) ≡ true) where
   pub staircase-widest : (a b : ℕ) → a < g .n → (a ≡ b → ⊥) → (ps qs : List Link) → Way (g .links) a b ps → Way (staircase g) a b qs → Once qs
       → least (weight g) ps ≤ least (weight g) qs
   staircase-widest a b la ne ps [] wp stay o = absurd (ne refl)
-  staircase-widest a b la ne ps (m ∷ qs) wp wq o = le-least (weight g) (least (weight g) ps) m qs (λ l i. heavy-enough l i (bool-cases (leb (least (weight g) ps) (weight g l))))
+  staircase-widest a b la ne ps (m ∷ qs) wp wq o = le-least (weight g) (least (weight g) ps) m qs
+      (λ l i. heavy-enough l i (bool-cases (leb (least (weight g) ps) (weight g l))))
     where
       joined-heavy : Joined (g .n) (heavy (weight g) (least (weight g) ps) (staircase g)) a b
       joined-heavy = way-joined (g .n) (g .links) (heavy (weight g) (least (weight g) ps) (staircase g)) (links-inside g p) wp

@@ -1,11 +1,7 @@
 -- Worked cases of the staircase tree, as one table: a site, and the kept links in their order. That every row is right is
 -- `staircase-cases` in proofs/Cases.antt. Definitions only.
-use mathlib.Core.Bool.{Bool, true, _&&_}
-use mathlib.Core.List.{List, [], _∷_}
-use Prim.Native.Nat.{ℕ}
-use Rattle.lists.specs.Lists.{same}
-use Rattle.mesh.specs.Graph.{Link, link-of, graph}
-use Rattle.mesh.specs.Staircase.{staircase, link-entries}
+use Rattle.lists.specs.{Kit.{Bool, true, _&&_, List, [], _∷_, ℕ}, Lists.{same}}
+use Rattle.mesh.specs.{Graph.{Link, link-of, graph}, Staircase.{staircase, link-entries}}
 
 pub record Case : Type 0 where
   pub n : ℕ

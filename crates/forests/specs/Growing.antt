@@ -6,14 +6,8 @@
 --   levels-falling       the links by weight falling down to 1: every link of a sound site weighs something
 -- That the definition keeps the same links is `shows-all` (proofs/Shows.antt), that it takes links in the same turn is `levels-all`
 -- (proofs/Levels.antt). Definitions only.
-use mathlib.Core.Bool.{cond}
-use mathlib.Core.List.{List, [], _∷_, _++_, map}
-use Prim.Native.Nat.{ℕ, zero, suc, _+_, _*_, min, max}
-use lib.Dec.{eqb}
-use lib.ListN.{getD, set}
-use Rattle.mesh.specs.Graph.{Link}
-use Rattle.mesh.specs.Sound.{number-in}
-use Rattle.mesh.specs.Staircase.{of-weight}
+use Rattle.lists.specs.Kit.{cond, List, [], _∷_, _++_, map, ℕ, zero, suc, _+_, _*_, min, max, eqb, getD, set}
+use Rattle.mesh.specs.{Graph.{Link}, Sound.{number-in}, Staircase.{of-weight}}
 
 pub record Growing : Type 0 where
   pub labels : List ℕ

@@ -1,49 +1,30 @@
 -- The loops of a hearing, on plain values: the links of a row, and the rows of a phase.
-use mathlib.Core.Path.{_≡_, refl, sym, ap, subst, _∙_}
-use mathlib.Core.Bool.{Bool, true, false, _&&_, not, cond}
-use mathlib.Core.List.{List, _∷_}
-use Prim.Native.Nat.{ℕ, suc, _+_, _-_, _≤_, _<_}
-use native.Mathlib.Omega.{arith}
-use native.Mathlib.Numerals.{add-one}
-use lib.Dec.{leb}
-use lib.ListN.{length, getD, take, drop, drop-of-length-le}
-use lib.Seq.{drop-cons, length-take-le}
-use borrow.Author.Tests.{leb-true}
-use Rattle.mesh.specs.Limits.{max-radios, max-neighbours}
-use Rattle.lists.specs.Lists.{range, count, filter, In}
-use Rattle.lists.proofs.Tests.{and-left, and-right}
-use Rattle.lists.proofs.Count.{count-mono, count-append}
-use Rattle.lists.proofs.Range.{range-in, range-append}
-use Rattle.lists.proofs.All.{all-below}
-use Rattle.lists.proofs.Filter.{filter-all, filter-ext, in-filter, length-filter}
-use Rattle.lists.proofs.Ascending.{ascending-range, ascending-filter}
-use Rattle.mesh.specs.Tables.{Tables, marked, graph-in}
-use Rattle.mesh.specs.Sound.{sound, within, row-degree, rows-proper, few, symmetric, irreflexive}
-use Rattle.mesh.proofs.Tables.Rows.{few-of}
-use Rattle.mesh.proofs.Tables.Soundness.{sound-certificate}
-use Rattle.calls.specs.Questions.{lengths-of, ends-refusal}
-use Rattle.calls.specs.Switches.{switch, switched}
-use Rattle.calls.specs.Heard.{agreed, agreed-degree, agreed-few}
-use Rattle.calls.specs.Hearing.{Phase, Rows-left, Row-left}
-use Rattle.calls.proofs.SoundSwitches.{Good}
-use Rattle.calls.proofs.HearingLaws.{row-first, row-next, row-end}
-use Rattle.conditions.specs.Hearing.{Of-size, Is-prefix, wanted, Wanted-listed}
-use Rattle.links.specs.Steps.{Prepared, Stepped}
+use Rattle.lists.{specs.Kit.{_≡_, refl, sym, ap, subst, _∙_, Bool, true, false, _&&_, not, cond, List, _∷_, ℕ, suc, _+_, _*_, _-_, _≤_, _<_, arith, add-one}}
+use Rattle.lists.{specs.Kit.{leb}}
+use Rattle.lists.{specs.Kit.{length, getD, take, drop, drop-of-length-le, drop-cons, length-take-le, leb-true}, specs.Lists.{range, count, filter, In}}
+use Rattle.lists.{proofs.Tests.{and-left, and-right}, proofs.Count.{count-mono, count-append}, proofs.Range.{range-in, range-append}, proofs.All.{all-below}}
+use Rattle.lists.{proofs.Filter.{filter-all, filter-ext, in-filter, length-filter}, proofs.Ascending.{ascending-range, ascending-filter}}
+use Rattle.mesh.{specs.Limits.{max-radios, max-neighbours, row-bytes}, specs.Tables.{Tables, marked, graph-in}, specs.Sound.{sound, within, row-degree}}
+use Rattle.mesh.{specs.Sound.{rows-proper, few}}
+use Rattle.mesh.{specs.Sound.{symmetric, irreflexive}, proofs.Tables.Rows.{few-of}, proofs.Tables.Soundness.{sound-certificate}}
+use Rattle.calls.{specs.Questions.{lengths-of, ends-refusal}, specs.Switches.{switch, switched}, specs.Heard.{agreed, agreed-degree, agreed-few}}
+use Rattle.calls.{specs.Hearing.{Phase, Rows-left, Row-left}, proofs.SoundSwitches.{Good}, proofs.HearingLaws.{row-first, row-next, row-end}}
+use Rattle.conditions.{specs.Hearing.{Is-prefix, wanted, above-from, Listed-from}, proofs.WantLaws.{length-one-sided, wanted-front}}
+use Rattle.links.{specs.Steps.{Prepared, Stepped}, proofs.StepLaws.{fits-good}}
 use Rattle.hearing.specs.Hearings.{Phase-by, Marked-hearing, Row-switched, Rows-switched}
-use Rattle.links.proofs.StepLaws.{fits-good}
 
 -- ---- the links of a row
 
 -- i of the listed links are done, which brought the tables t to u
-pub record Row-switching (up : Bool) (n a : ℕ) (bs : List ℕ) (t u : Tables) (places highs : List ℕ) (i : ℕ) : Type 0 where
-  pub prepared : Prepared n u places highs
+pub record Row-switching (up : Bool) (n a : ℕ) (bs : List ℕ) (t u : Tables) (places not-lower : List ℕ) (i : ℕ) : Type 0 where
+  pub prepared : Prepared n u places not-lower
   pub left : (p : Phase) (s : Tables) → p .up ≡ up → Row-left n p s a (λ b. true) bs t → Row-left n p s a (λ b. true) (drop i bs) u
 
-pub switching-none : (up : Bool) (n a : ℕ) (bs : List ℕ) {t : Tables} {places highs : List ℕ} → Prepared n t places highs
-    → Row-switching up n a bs t t places highs 0
+pub switching-none : (up : Bool) (n a : ℕ) (bs : List ℕ) {t : Tables} {places not-lower : List ℕ} → Prepared n t places not-lower
+    → Row-switching up n a bs t t places not-lower 0
 switching-none up n a bs k = record { prepared = k; left = λ p s e r. r }
 
-module _ {up : Bool} {n a : ℕ} {bs : List ℕ} {t u : Tables} {places highs : List ℕ} {i : ℕ} (w : Row-switching up n a bs t u places highs i) where
+module _ {up : Bool} {n a : ℕ} {bs : List ℕ} {t u : Tables} {places not-lower : List ℕ} {i : ℕ} (w : Row-switching up n a bs t u places not-lower i) where
   pub switching-turn : i < length bs → (r : ℕ) (v : Tables) (qs is : List ℕ) → Stepped up n a (getD bs i 0) u r v qs is
       → Row-switching up n a bs t v qs is (i + 1)
   switching-turn l r v qs is d = record { prepared = d .prepared; left = next }
@@ -62,7 +43,7 @@ module _ {up : Bool} {n a : ℕ} {bs : List ℕ} {t u : Tables} {places highs : 
           let f : switched n (switch (p .up) a b) u ≡ v = ap (λ (x : Bool). switched n (switch x a b) u) e ∙ sym (d .done z) in
           subst (λ (x : Tables). Row-left n p s a (λ x. true) (drop (i + 1) bs) x) f (y .1)
 
-  pub switching-end : length bs ≤ i → Row-switched up n a bs t u places highs
+  pub switching-end : length bs ≤ i → Row-switched up n a bs t u places not-lower
   switching-end l = record {
     ready = w .prepared;
     left = λ p s e o. row-end (subst (λ (xs : List ℕ). Row-left n p s a (λ b. true) xs u) (drop-of-length-le bs l) (w .left p s e o));
@@ -71,14 +52,14 @@ module _ {up : Bool} {n a : ℕ} {bs : List ℕ} {t u : Tables} {places highs : 
 -- ---- the rows of a phase
 
 -- the rows before row a are done
-pub record Rows-switching (up : Bool) (n : ℕ) (hs ws : List ℕ) (t u : Tables) (places highs : List ℕ) (a : ℕ) : Type 0 where
+pub record Rows-switching (up : Bool) (n : ℕ) (hs ws : List ℕ) (t u : Tables) (places not-lower : List ℕ) (a : ℕ) : Type 0 where
   pub low : a ≤ n
   pub hearing : Marked-hearing n hs ws
-  pub ready : Prepared n u places highs
+  pub ready : Prepared n u places not-lower
   pub left : (p : Phase) (s : Tables) → p .up ≡ up → Phase-by n hs p → Rows-left n p s 0 t → Rows-left n p s a u
 
-pub rows-none : (up : Bool) (n : ℕ) (hs ws : List ℕ) {t : Tables} {places highs : List ℕ} → Prepared n t places highs → Marked-hearing n hs ws
-    → Rows-switching up n hs ws t t places highs 0
+pub rows-none : (up : Bool) (n : ℕ) (hs ws : List ℕ) {t : Tables} {places not-lower : List ℕ} → Prepared n t places not-lower → Marked-hearing n hs ws
+    → Rows-switching up n hs ws t t places not-lower 0
 rows-none up n hs ws k h = record { low = omega arith; hearing = h; ready = k; left = λ p s e y r. r }
 
 good-few : (n : ℕ) (t : Tables) → Good n t → few max-neighbours n (t .links) ≡ true
@@ -93,11 +74,7 @@ good-within n t k =
     and-left (within n (t .links)) (few max-neighbours n (t .links))
     (and-right (symmetric n (t .links) && irreflexive n (t .links)) _ (sound-certificate max-neighbours n t (k .is-sound) .0))
 
-good-size : (n : ℕ) (t : Tables) → Good n t → Of-size n (t .links)
-unfolding lengths-of
-good-size n t k = record { most = k .lent .most; long = k .lent .lengths .links }
-
-module _ {up : Bool} {n : ℕ} {hs ws : List ℕ} {t u : Tables} {places highs : List ℕ} {a : ℕ} (w : Rows-switching up n hs ws t u places highs a) where
+module _ {up : Bool} {n : ℕ} {hs ws : List ℕ} {t u : Tables} {places not-lower : List ℕ} {a : ℕ} (w : Rows-switching up n hs ws t u places not-lower a) where
   good : Good n u
   good = fits-good n u (w .ready .good)
 
@@ -108,6 +85,15 @@ module _ {up : Bool} {n : ℕ} {hs ws : List ℕ} {t u : Tables} {places highs :
   chosen = filter (wanted up hs (u .links) a) radios
 
   module _ (l : a < n) where
+    -- row a is whole in the three tables
+    pub rows-whole : (row-bytes * a + row-bytes ≤ length hs) × (row-bytes * a + row-bytes ≤ length ws) × (row-bytes * a + row-bytes ≤ length (u .links))
+    unfolding lengths-of
+    rows-whole = (
+      omega (arith, l, w .hearing .size .long),
+      omega (arith, l, length-one-sided n hs ws (w .hearing .one-sided)),
+      omega (arith, l, good .lent .lengths .links),
+    )
+
     -- a part of the radios has at most as many that pass a test
     part-count : (f : ℕ → Bool) (m : ℕ) → n ≤ m → count f radios ≤ count f (range 0 m)
     part-count f m h =
@@ -150,9 +136,10 @@ module _ {up : Bool} {n : ℕ} {hs ws : List ℕ} {t u : Tables} {places highs :
         go false = few-down
 
   module _ (l : a < n) (old new : List ℕ) (k : ℕ) (room : length old ≡ suc max-neighbours)
-      (d : Wanted-listed up hs ws (u .links) a old k new) where
+      (d : Listed-from (above-from up hs ws (u .links) a) 0 old k new) where
     front : Is-prefix chosen k new
-    front = d .is n (w .hearing .size) (w .hearing .further) (good-size n u good) (good-within n u good) l (omega (arith, few-chosen l, room))
+    front =
+        wanted-front up hs ws (u .links) a n (w .hearing .size) (w .hearing .one-sided) (good-within n u good) l old new k d (omega (arith, few-chosen l, room))
 
     -- they fit the list
     pub rows-fit : length new ≡ length old → k ≤ length new
@@ -196,7 +183,7 @@ module _ {up : Bool} {n : ℕ} {hs ws : List ℕ} {t u : Tables} {places highs :
           (c .left p s e (subst (λ (xs : List ℕ). Row-left n p s a (λ b. true) xs u) (sym (front .listed)) f));
     }
 
-  pub rows-done : n ≤ a → Rows-switched up n hs t u places highs
+  pub rows-done : n ≤ a → Rows-switched up n hs t u places not-lower
   rows-done h = record {
     ready = w .ready;
     left = λ p s e y o. let q : a ≡ n = omega (arith, h, w .low) in subst (λ (j : ℕ). Rows-left n p s j u) q (w .left p s e y o);

@@ -4,18 +4,10 @@
 --   Row-switched    the listed links of a row are done
 --   Rows-switched   all rows are done
 --   Brought         both phases are done
---   Hear-asked      the refusal number of a hearing, and where it is 0 what its first link is taken with
 -- Definitions only.
-use mathlib.Core.Path.{_≡_}
-use mathlib.Core.Bool.{Bool, true, false, _&&_, not, cond}
-use mathlib.Core.List.{List}
-use Prim.Native.Nat.{ℕ, suc, _<_}
-use Rattle.mesh.specs.Limits.{max-neighbours}
-use Rattle.mesh.specs.Tables.{Tables}
-use Rattle.mesh.specs.Sound.{sound}
-use Rattle.calls.specs.Questions.{lengths-of}
-use Rattle.calls.specs.Heard.{agreed, agreed-few, one-sided, hear-refusal}
-use Rattle.calls.specs.Hearing.{Phase, Rows-left, Row-left}
+use Rattle.lists.specs.Kit.{_≡_, Bool, true, false, _&&_, not, cond, List, ℕ, suc, _<_}
+use Rattle.mesh.specs.{Limits.{max-neighbours}, Tables.{Tables}}
+use Rattle.calls.specs.{Heard.{agreed, agreed-few, one-sided}, Hearing.{Phase, Rows-left, Row-left}}
 use Rattle.conditions.specs.Hearing.{Of-size}
 use Rattle.links.specs.Steps.{Prepared}
 
@@ -27,15 +19,15 @@ Phase-by n hs p =
 pub record Marked-hearing (n : ℕ) (hs ws : List ℕ) : Type 0 where
   pub size : Of-size n hs
   pub few : agreed-few max-neighbours n hs ≡ true
-  pub further : ws ≡ one-sided n hs
+  pub one-sided : ws ≡ one-sided n hs
 
 -- t and v are the tables before and after; bs are radios above a, and all of them are switched
-pub record Row-switched (up : Bool) (n a : ℕ) (bs : List ℕ) (t v : Tables) (places highs : List ℕ) : Type 0 where
-  pub ready : Prepared n v places highs
+pub record Row-switched (up : Bool) (n a : ℕ) (bs : List ℕ) (t v : Tables) (places not-lower : List ℕ) : Type 0 where
+  pub ready : Prepared n v places not-lower
   pub left : (p : Phase) (s : Tables) → p .up ≡ up → Row-left n p s a (λ b. true) bs t → Rows-left n p s (suc a) v
 
-pub record Rows-switched (up : Bool) (n : ℕ) (hs : List ℕ) (t v : Tables) (places highs : List ℕ) : Type 0 where
-  pub ready : Prepared n v places highs
+pub record Rows-switched (up : Bool) (n : ℕ) (hs : List ℕ) (t v : Tables) (places not-lower : List ℕ) : Type 0 where
+  pub ready : Prepared n v places not-lower
   pub left : (p : Phase) (s : Tables) → p .up ≡ up → Phase-by n hs p → Rows-left n p s 0 t → Rows-left n p s n v
 
 -- the tables between, which the downs leave and the ups find
@@ -43,8 +35,3 @@ pub record Brought (n : ℕ) (hs : List ℕ) (t v : Tables) : Type 0 where
   pub between : Tables
   pub down : (s : Tables) (p : Phase) → p .up ≡ false → Phase-by n hs p → Rows-left n p s 0 t → Rows-left n p s n between
   pub up : (s : Tables) (p : Phase) → p .up ≡ true → Phase-by n hs p → Rows-left n p s 0 between → Rows-left n p s n v
-
--- `further` is the further table's length
-pub record Hear-asked (n : ℕ) (hs : List ℕ) (further : ℕ) (t : Tables) (places highs : List ℕ) (r : ℕ) : Type 0 where
-  pub number : r ≡ hear-refusal n (lengths-of t) hs further (sound n t)
-  pub prepared : r ≡ 0 → Prepared n t places highs

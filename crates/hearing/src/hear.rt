@@ -1,20 +1,16 @@
 // A hearing: the site brought to the links that both ends hear, as if by single calls. The tables are checked once.
-ghost use mathlib.Core.Path.{_≡_};
-ghost use Prim.Native.Nat.{_≤_};
-ghost use lib.ListN.{length};
+ghost use Rattle.lists.specs.Kit.{_≡_, _≤_, length};
 ghost use Rattle.mesh.specs.Limits.{max-radios};
 ghost use Rattle.mesh.specs.Lent.{lent};
 ghost use Rattle.calls.specs.Contracts.{Hear-contract};
 ghost use Rattle.links.specs.Steps.{Prepared};
-ghost use Rattle.hearing.specs.Hearings.{Marked-hearing, Row-switched, Rows-switched, Brought, Hear-asked};
+ghost use Rattle.hearing.specs.Hearings.{Marked-hearing, Row-switched, Rows-switched, Brought};
 use super::one_sided;
 use super::questions;
 use super::wanted;
-use calls::Refusal;
 use calls::Value;
 use links::step;
 use mesh::Site;
-use tables::sizes;
 
 // Takes the links of a to the listed radios up or down, one by one. Places and not-lower counts are the tables', before and after.
 fn switch_row(
@@ -26,11 +22,11 @@ fn switch_row(
     numbers: &mut [u8],
     order: &mut [u16],
     places: &mut [u16; Site::RADIOS as usize],
-    highs: &mut [u8; Site::RADIOS as usize],
+    not_lower: &mut [u8; Site::RADIOS as usize],
 )
-    requires { ⌜ Prepared n (lent links numbers order) (now places) (now highs) × (length (now list) ≤ max-radios) ⌝ }
+    requires { ⌜ Prepared n (lent links numbers order) (now places) (now «not_lower») × (length (now list) ≤ max-radios) ⌝ }
     ensures { λ _. ⌜ Row-switched up n a (now (list .entry)) (lent (links .entry) (numbers .entry) (order .entry))
-        (lent (links .exit) (numbers .exit) (order .exit)) (now (places .exit)) (now (highs .exit)) ⌝ }
+        (lent (links .exit) (numbers .exit) (order .exit)) (now (places .exit)) (now («not_lower» .exit)) ⌝ }
 {
     let mut i: usize = 0;
     while i < list.len() {
@@ -43,34 +39,44 @@ fn switch_row(
             numbers,
             order,
             places,
-            highs,
+            not_lower,
         );
         i += 1;
     }
 }
 
 // Takes the links that are wanted up, or down, row by row; the ones of a row, at most as many as a radio may have neighbours, are listed
-// before the first of them. `further` has the one-sided pairs.
+// before the first of them. `one_sided` has the one-sided pairs.
 fn switch_rows<'a>(
     up: bool,
     n: u32,
     heard: &'a [u8],
-    further: &'a [u8],
+    one_sided: &'a [u8],
     links: &mut [u8],
     numbers: &mut [u8],
     order: &mut [u16],
     places: &mut [u16; Site::RADIOS as usize],
-    highs: &mut [u8; Site::RADIOS as usize],
+    not_lower: &mut [u8; Site::RADIOS as usize],
 )
-    requires { ⌜ Prepared n (lent links numbers order) (now places) (now highs) × Marked-hearing n (now heard) (now further) ⌝ }
+    requires { ⌜ Prepared n (lent links numbers order) (now places) (now «not_lower») × Marked-hearing n (now heard) (now «one_sided») ⌝ }
     ensures { λ _. ⌜ Rows-switched up n (now (heard .entry)) (lent (links .entry) (numbers .entry) (order .entry))
-        (lent (links .exit) (numbers .exit) (order .exit)) (now (places .exit)) (now (highs .exit)) ⌝ }
+        (lent (links .exit) (numbers .exit) (order .exit)) (now (places .exit)) (now («not_lower» .exit)) ⌝ }
 {
     let mut list = [0u16; Site::NEIGHBOURS as usize + 1];
     let mut a: u32 = 0;
     while a < n {
-        let k = wanted::list(up, heard, further, links, a, &mut list);
-        switch_row(up, n, a, &list[..k], links, numbers, order, places, highs);
+        let k = wanted::list(up, heard, one_sided, links, a, &mut list);
+        switch_row(
+            up,
+            n,
+            a,
+            &list[..k],
+            links,
+            numbers,
+            order,
+            places,
+            not_lower,
+        );
         a += 1;
     }
 }
@@ -79,14 +85,14 @@ fn switch_rows<'a>(
 fn bring<'a>(
     n: u32,
     heard: &'a [u8],
-    further: &'a [u8],
+    one_sided: &'a [u8],
     links: &mut [u8],
     numbers: &mut [u8],
     order: &mut [u16],
     places: &mut [u16; Site::RADIOS as usize],
-    highs: &mut [u8; Site::RADIOS as usize],
+    not_lower: &mut [u8; Site::RADIOS as usize],
 )
-    requires { ⌜ Prepared n (lent links numbers order) (now places) (now highs) × Marked-hearing n (now heard) (now further) ⌝ }
+    requires { ⌜ Prepared n (lent links numbers order) (now places) (now «not_lower») × Marked-hearing n (now heard) (now «one_sided») ⌝ }
     ensures { λ _. ⌜ Brought n (now (heard .entry)) (lent (links .entry) (numbers .entry) (order .entry))
         (lent (links .exit) (numbers .exit) (order .exit)) ⌝ }
 {
@@ -94,59 +100,27 @@ fn bring<'a>(
         false,
         n,
         heard,
-        further,
+        one_sided,
         links,
         numbers,
         order,
         places,
-        highs,
+        not_lower,
     );
     switch_rows(
         true,
         n,
         heard,
-        further,
+        one_sided,
         links,
         numbers,
         order,
         places,
-        highs,
+        not_lower,
     );
 }
 
-// Questions 1 to 3, 14 and 7 of a hearing whose further table has so many bytes. At 0, `places` and `highs` hold the place and the not-lower
-// count of each radio; else anything.
-fn refusal(
-    n: u32,
-    heard: &[u8],
-    further: usize,
-    links: &[u8],
-    numbers: &[u8],
-    order: &[u16],
-    places: &mut [u16; Site::RADIOS as usize],
-    highs: &mut [u8; Site::RADIOS as usize],
-) -> u32
-    requires { ⌜ (length (now places) ≡ max-radios) × (length (now highs) ≡ max-radios) ⌝ }
-    ensures { λ r. ⌜ Hear-asked n (now (heard .entry)) further (lent (links .entry) (numbers .entry) (order .entry)) (now (places .exit))
-        (now (highs .exit)) r ⌝ }
-{
-    let number = sizes::of_tables(Site { radios: n }, links.len(), numbers.len(), order.len());
-    if number != 0 {
-        return number;
-    }
-    if heard.len() != links.len() {
-        return Refusal::LENGTH;
-    }
-    if further != links.len() {
-        return Refusal::LENGTH;
-    }
-    if !soundness::examine(n, links, numbers, order, places, highs) {
-        return Refusal::UNSOUND;
-    }
-    questions::refusal(n, heard)
-}
-
-// Marks the one-sided pairs of the heard table in the further table, all its other bits zero, and brings the site to the agreed links: links
+// Marks the one-sided pairs of the heard table in `one_sided`, all its other bits zero, and brings the site to the agreed links: links
 // to go down, by lower radio and then higher, then links to come up, likewise. The value is the count of one-sided pairs. Refused by 1 to
 // 3, 14 or 7, the value is 0 and every table keeps its content.
 pub fn hear(
@@ -155,36 +129,40 @@ pub fn hear(
     numbers: &mut [u8],
     order: &mut [u16],
     heard: &[u8],
-    further: &mut [u8],
+    one_sided: &mut [u8],
 ) -> Value
-    ensures { λ r. ⌜ Hear-contract n (now (heard .entry)) (lent (links .entry) (numbers .entry) (order .entry)) (now (further .entry)) r
-        (lent (links .exit) (numbers .exit) (order .exit)) (now (further .exit)) ⌝ }
+    ensures { λ r. ⌜ Hear-contract n (now (heard .entry)) (lent (links .entry) (numbers .entry) (order .entry)) (now («one_sided» .entry)) r
+        (lent (links .exit) (numbers .exit) (order .exit)) (now («one_sided» .exit)) ⌝ }
 {
     let mut places = [0u16; Site::RADIOS as usize];
-    let mut highs = [0u8; Site::RADIOS as usize];
-    let number = refusal(
+    let mut not_lower = [0u8; Site::RADIOS as usize];
+    let bytes = Site::ROW_BYTES * n as usize;
+    let number = soundness::asked(
         n,
-        heard,
-        further.len(),
         links,
         numbers,
         order,
+        (heard.len() == bytes) & (one_sided.len() == bytes),
         &mut places,
-        &mut highs,
+        &mut not_lower,
     );
     if number != 0 {
         return Value { number, value: 0 };
     }
-    let count = one_sided::mark(n, heard, further);
+    let number = questions::refusal(n, heard);
+    if number != 0 {
+        return Value { number, value: 0 };
+    }
+    let count = one_sided::mark(n, heard, one_sided);
     bring(
         n,
         heard,
-        further,
+        one_sided,
         links,
         numbers,
         order,
         &mut places,
-        &mut highs,
+        &mut not_lower,
     );
     Value {
         number: 0,

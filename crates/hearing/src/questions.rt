@@ -1,8 +1,5 @@
 // Questions 14 and 7 of a heard table. The table is only read, word by word.
-ghost use mathlib.Core.Path.{_≡_};
-ghost use Prim.Native.Nat.{ℕ, _+_, _*_, _≤_, _<_};
-ghost use lib.Dec.{leb};
-ghost use lib.ListN.{length};
+ghost use Rattle.lists.specs.Kit.{_≡_, ℕ, _+_, _*_, _≤_, _<_, leb, length};
 ghost use Rattle.mesh.specs.Limits.{max-radios, max-neighbours, row-bytes};
 ghost use Rattle.lists.specs.Lists.{count};
 ghost use Rattle.rows.specs.Rows.{neighbours-of, set-bits};

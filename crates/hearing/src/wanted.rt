@@ -1,14 +1,11 @@
 // The links of a row that are to go down, or to come up, for the site to have the agreed links of a heard table. The tables are only read,
 // word by word.
-ghost use mathlib.Core.Path.{_≡_};
-ghost use Prim.Native.Nat.{ℕ, _+_, _*_, _≤_, _<_};
-ghost use lib.Dec.{ltb};
-ghost use lib.ListN.{length};
+ghost use Rattle.lists.specs.Kit.{_≡_, ℕ, _+_, _*_, _≤_, _<_, ltb, length};
 ghost use Rattle.mesh.specs.Limits.{max-radios, row-bytes};
 ghost use Rattle.mesh.specs.Tables.{digit};
 ghost use Rattle.lists.specs.Lists.{filter};
 ghost use Rattle.rows.specs.Rows.{set-bits};
-ghost use Rattle.conditions.specs.Hearing.{wanted-by, above-from, Listed-from, Wanted-listed};
+ghost use Rattle.conditions.specs.Hearing.{wanted-by, above-from, Listed-from};
 use mesh::Site;
 
 // The radios of a word whose links are to come up, or to go down, by the words of what is heard, of what of that is one-sided, and of what
@@ -43,24 +40,26 @@ fn list_above(a: u32, first: u32, word: u64, list: &mut [u16], count: usize) -> 
     n
 }
 
-// Does so with the words of row a, from its own radio's on, of tables that it is whole in.
-fn list_words<'a>(
+// Writes the radios above a whose link with a is to come up, or to go down, into the list, ascending, and comes back with their count, where
+// the list has room for one more; the rest of it holds anything. `one_sided` has the one-sided pairs. The words of row a are read from its
+// own radio's on.
+pub fn list<'a>(
     up: bool,
     heard: &'a [u8],
-    further: &'a [u8],
+    one_sided: &'a [u8],
     links: &'a [u8],
     a: u32,
     list: &mut [u16],
 ) -> usize
-    requires { ⌜ (row-bytes * a + row-bytes ≤ length (now heard)) × (row-bytes * a + row-bytes ≤ length (now further)) ×
+    requires { ⌜ (row-bytes * a + row-bytes ≤ length (now heard)) × (row-bytes * a + row-bytes ≤ length (now «one_sided»)) ×
         (row-bytes * a + row-bytes ≤ length (now links)) ⌝ }
-    ensures { λ r. ⌜ Listed-from (above-from up (now (heard .entry)) (now (further .entry)) (now (links .entry)) a) 0 (now (list .entry)) r
+    ensures { λ r. ⌜ Listed-from (above-from up (now (heard .entry)) (now («one_sided» .entry)) (now (links .entry)) a) 0 (now (list .entry)) r
         (now (list .exit)) ⌝ }
 {
     let start = Site::ROW_BYTES * a as usize;
     let end = start + Site::ROW_BYTES;
     let hears = &heard[start..end];
-    let alone = &further[start..end];
+    let alone = &one_sided[start..end];
     let linked = &links[start..end];
     let mut n: usize = 0;
     let mut k = a / rows::WORD_BITS;
@@ -75,31 +74,4 @@ fn list_words<'a>(
         k += 1;
     }
     n
-}
-
-// Writes the radios above a whose link with a is to come up, or to go down, into the list, ascending, and comes back with their count, where
-// the list has room for one more; the rest of it holds anything. `further` has the one-sided pairs. Where a row is not whole, the count is
-// 0.
-pub fn list<'a>(
-    up: bool,
-    heard: &'a [u8],
-    further: &'a [u8],
-    links: &'a [u8],
-    a: u32,
-    list: &mut [u16],
-) -> usize
-    ensures { λ r. ⌜ Wanted-listed up (now (heard .entry)) (now (further .entry)) (now (links .entry)) a (now (list .entry)) r
-        (now (list .exit)) ⌝ }
-{
-    let end = Site::ROW_BYTES * a as usize + Site::ROW_BYTES;
-    if heard.len() < end {
-        return 0;
-    }
-    if further.len() < end {
-        return 0;
-    }
-    if links.len() < end {
-        return 0;
-    }
-    list_words(up, heard, further, links, a, list)
 }

@@ -1,35 +1,18 @@
 -- Three calls of a host, in cells: four blocks, in which three tables of two radios and an answer table of two entries hold anything. The
 -- host clears the tables, takes the link between the two radios up, and takes it down again.
 --   three-calls    the three runs, what each returns, and every cell of the four tables after each
-use mathlib.Core.Path.{_≡_, refl, sym, _∙_, ap, subst}
-use mathlib.Core.Logic.{∥∥₁-prop, ∥∥₁-elim, ∥∥₁-map}
-use mathlib.Core.Bool.{Bool, true, false}
-use mathlib.Core.List.{List, [], _∷_, _++_, map}
-use Prim.Native.Nat.{ℕ, zero, suc}
-use native.Mathlib.Omega.{arith}
-use lib.IntN.{pos, negsuc}
-use lib.ListN.{length, replicate}
-use lib.Dec.{lit<}
-use mir.Mem.{Cell, byte}
-use mir.Syntax.{Ty, w8, w16, w32, tyInt}
-use mir.Val.{Val, vint, vstruct, vcons, vnil}
-use prog.Memory.{Memory}
-use prog.Machine.{done}
-use prog.Routine.{Routine}
-use Rattle.machine.specs.Cells.{Form, Place, Inputs, Stands, All-held, Sized, Good-list, Ready, Ran, Runs, unsigned, span, pointer, passed, writes}
-use Rattle.machine.specs.Made.{Fitting, blocks, placed}
-use Rattle.machine.proofs.Left.{ran-lengths, ran-held}
-use Rattle.machine.proofs.Made.{made-ready}
-use Rattle.machine.proofs.Again.{stands-still}
-use Rattle.lists.specs.Lists.{overwrite}
+use Rattle.lists.specs.{Kit.{_≡_, refl, sym, _∙_, subst, ∥∥₁-prop, ∥∥₁-elim, ∥∥₁-map, Bool, true, false, List, [], _∷_, _++_, map, ℕ, zero, suc, arith, pos}}
+use Rattle.lists.specs.{Kit.{negsuc, length, replicate, lit<}, Lists.{overwrite}}
+use mir.{Mem.{byte}, Syntax.{w8, w16, w32, tyInt}, Val.{Val, vint, vstruct, vcons, vnil}}
+use prog.{Memory.{Memory}, Machine.{done}, Routine.{Routine}}
+use Rattle.machine.{specs.Cells.{Form, Inputs, Stands, All, Sized, Good-list, Ready, Runs, span, pointer, passed, writes}, specs.Made.{Fitting, blocks}}
+use Rattle.machine.{proofs.Left.{ran-lengths, ran-held}, proofs.Made.{made-ready}, proofs.Again.{stands-still}}
 use Rattle.mesh.specs.Tables.{Tables, tables, graph-in, row-links, put-link, put-bit, put-digit}
-use Rattle.calls.specs.Questions.{Lengths, lengths-of, link-refusal, site-refusal, answer-length}
-use Rattle.calls.specs.Outcomes.{Numbered, numbered, Linked, linked-with, reply, clear-outcome, link-outcome}
-use Rattle.calls.specs.Switches.{switched}
-use Rattle.calls.specs.declared.Reply.{Reply}
-use Rattle.calls.proofs.WorkedState.{compute}
+use Rattle.calls.{specs.Questions.{site-refusal, answer-length}, specs.Outcomes.{Tabled, tabled, Linked, linked-with, reply, clear-outcome, link-outcome}}
+use Rattle.calls.{specs.Switches.{switched}, proofs.WorkedState.{compute}}
 use Rattle.hosts.specs.Public.{clear, link, Public, of-book, call, bytes, words, number-value, reply-value}
 use Rattle.hosts.proofs.Made.{Room-at, aligned-of, room-still}
+use Rattle.calls.specs.declared.Reply.{Reply}
 
 -- ---- tables in blocks 0 to 2, the answer table in block 3
 
@@ -42,7 +25,7 @@ link-inputs up t w = (2, (0, (1, (((0, 0), t .links), (((1, 0), t .numbers), (((
 -- a list stands in a block of its own
 record In-block (σ : Memory) (F : Form) (b k : ℕ) (xs : List (F .Value)) : Type 0 where
   stands : Stands σ (span F (b, 0) xs)
-  held : All-held F xs
+  held : All (F .Holds) xs
   room : Room-at σ (F .ty) (b, 0)
   long : length xs ≡ k
 
@@ -113,12 +96,12 @@ record Called (ρ : Routine) (vs : List Val) (v : Val) (σ : Memory) (t : Tables
   state : State memory t w
 
 module _ (ρ : Public → Routine) (runs : (x : Public) → Runs (ρ x) (call x)) (σ : Memory) (t : Tables) (w : List ℕ) (q : State σ t w) where
-  clear-called : (o : Numbered) → clear-outcome 2 t ≡ o → ∥ Called (ρ (of-book clear)) (passed (call (of-book clear) .params) (clear-inputs t))
+  clear-called : (o : Tabled ℕ) → clear-outcome 2 t ≡ o → ∥ Called (ρ (of-book clear)) (passed (call (of-book clear) .params) (clear-inputs t))
       (number-value (o .reply)) σ (o .tables) w ∥₁
   clear-called o e =
       ∥∥₁-map (runs (of-book clear) σ (clear-inputs t) (clear-ready σ t w q)) (λ h.
       let still = room-still σ (h .memory) (h .blocks-kept) in
-      subst (λ (y : Numbered). Called (ρ (of-book clear)) (passed (call (of-book clear) .params) (clear-inputs t)) (number-value (y .reply)) σ
+      subst (λ (y : Tabled ℕ). Called (ρ (of-book clear)) (passed (call (of-book clear) .params) (clear-inputs t)) (number-value (y .reply)) σ
       (y .tables) w) e (record {
         steps = h .steps;
         memory = h .memory;
@@ -156,13 +139,13 @@ module _ (ρ : Public → Routine) (runs : (x : Public) → Runs (ρ x) (call x)
         };
       }))
 
-  link-called : (up : Bool) (o : Linked) → link-outcome up 2 0 1 t w ≡ o →
-      ∥ Called (ρ (of-book (link up))) (passed (call (of-book (link up)) .params) (link-inputs up t w)) (reply-value (o .reply)) σ (o .tables) (o .answer) ∥₁
+  link-called : (up : Bool) (o : Linked Reply) → link-outcome up 2 0 1 t w ≡ o →
+      ∥ Called (ρ (of-book (link up))) (passed (call (of-book (link up)) .params) (link-inputs up t w)) (reply-value (o .reply)) σ (o .tables) (o .lent) ∥₁
   link-called up o e =
       ∥∥₁-map (runs (of-book (link up)) σ (link-inputs up t w) (link-ready σ t w q up)) (λ h.
       let still = room-still σ (h .memory) (h .blocks-kept) in
-      subst (λ (y : Linked). Called (ρ (of-book (link up))) (passed (call (of-book (link up)) .params) (link-inputs up t w)) (reply-value (y .reply)) σ
-      (y .tables) (y .answer)) e (record {
+      subst (λ (y : Linked Reply). Called (ρ (of-book (link up))) (passed (call (of-book (link up)) .params) (link-inputs up t w)) (reply-value (y .reply)) σ
+      (y .tables) (y .lent)) e (record {
         steps = h .steps;
         memory = h .memory;
         returns = h .returns;
@@ -209,7 +192,7 @@ zeros = replicate 128 0
 abbrev linked : List ℕ
 linked = 2 ∷ replicate 63 0 ++ (1 ∷ replicate 63 0)
 
-clear-is : clear-outcome 2 anything ≡ numbered 0 (tables zeros (0 ∷ 0 ∷ []) (0 ∷ 1 ∷ []))
+clear-is : clear-outcome 2 anything ≡ tabled 0 (tables zeros (0 ∷ 0 ∷ []) (0 ∷ 1 ∷ []))
 unfolding compute clear-outcome
 clear-is = refl
 
@@ -230,7 +213,7 @@ at-first = link-inputs true anything (8 ∷ 8 ∷ [])
 abbrev pub memory : Memory
 memory = blocks (call (of-book (link true)) .params) at-first
 
-sevens-held : (n : ℕ) → All-held bytes (replicate n 7)
+sevens-held : (n : ℕ) → All (bytes .Holds) (replicate n 7)
 sevens-held zero = tt
 sevens-held (suc n) = (lit< tt, sevens-held n)
 

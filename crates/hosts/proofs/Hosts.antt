@@ -4,46 +4,23 @@
 --   hosted-run       a host's list of calls is carried out as `events` says, and its last tables stand in the last memory
 --   standing-demand  so demand 3 holds of it
 --   hosts-demand     and of every list that begins with an accepted clearing or reading
-use mathlib.Core.Path.{_≡_, refl, sym, _∙_, ap, subst}
-use mathlib.Core.Logic.{_⊎_, inl, inr, ∥∥₁-prop, ∥∥₁-elim, ∥∥₁-map}
-use mathlib.Core.Bool.{Bool}
-use mathlib.Core.List.{List, [], _∷_, map}
-use mathlib.Core.Option.{some}
-use Prim.Native.Nat.{ℕ, _*_}
-use native.Mathlib.Omega.{arith}
-use lib.ListN.{length}
-use mir.Mem.{Cell}
-use mir.Syntax.{w8, w16}
-use mir.Val.{Val, Vals, vunit, vbool, vint, vfloat, vptr, vstruct, vnil, vcons}
-use prog.Memory.{Memory}
-use prog.Routine.{Routine}
-use Rattle.machine.specs.Cells.{Place, Lent, place, entries, Inputs, Span, Stands, Apart, All, All-held, Good-list, Ready, Ran, Runs, span, cells-of, cell-at}
-use Rattle.machine.specs.Cells.{writes, outcome-of}
-use Rattle.machine.proofs.Chain.{list-one, cells-count, carried, first-entries}
-use Rattle.machine.proofs.Again.{stands-still}
-use Rattle.machine.proofs.Left.{ran-lengths, ran-held}
-use Rattle.machine.proofs.Made.{ran-one}
-use Rattle.mesh.specs.Graph.{Link, graph}
-use Rattle.mesh.specs.Tables.{Tables, tables}
-use Rattle.mesh.specs.Image.{image-links}
-use Rattle.calls.specs.Questions.{Lengths, lengths-of}
-use Rattle.calls.specs.Contracts.{Clear-contract, Read-contract}
-use Rattle.calls.specs.Outcomes.{Numbered, numbered, clear-outcome, read-outcome, link-outcome, commit-outcome, batch-outcome, hear-outcome}
-use Rattle.calls.specs.MarkOutcomes.{set-outcome, remove-outcome, return-outcome}
-use Rattle.calls.specs.Book.{Call, clearing, reading, linking, committing, batching, hearing, setting, removing, returning, other, Given, given, Answer}
-use Rattle.calls.specs.Book.{plain, counted, Outcome, outcome, booked, book-after, pairs-of, from-clearing, from-image}
-use Rattle.calls.specs.Runs.{Done, answer-of, replied, done, events, after, givens}
-use Rattle.calls.specs.Demand.{cleared, read, beginning, Kept, Demand-3}
-use Rattle.calls.proofs.Runs.{link-done, hear-done, Does}
-use Rattle.calls.proofs.Holds.{Holds}
-use Rattle.calls.proofs.Steps.{step}
-use Rattle.calls.proofs.WholeList.{start, demand-3}
-use Rattle.hosts.specs.Public.{Known, clear, image-read, link, commit, link-batch, hear, mark-set, mark-remove, mark-return, Public, of-book, call}
-use Rattle.hosts.specs.Public.{bytes, words, the-tables, number-value}
-use Rattle.hosts.specs.Hosts.{Site, Lie, Table-cell, of-links, of-numbers, of-order, Untouched, Spares, site-at, told-of, shown, Turn, on-site}
-use Rattle.hosts.specs.Hosts.{elsewhere, made, Step, Placed}
-use Rattle.hosts.specs.Hosts.{book-call, call-of, fed, Said-so, Said, Agrees, Carried-out, Ends, clears, reads, Made, Hosted, Hosts-demand}
-use Rattle.hosts.specs.Hosts.{Standing-demand}
+use Rattle.lists.specs.Kit.{_≡_, refl, sym, _∙_, ap, subst, _⊎_, inl, inr, ∥∥₁-prop, ∥∥₁-elim, ∥∥₁-map, Bool, List, [], _∷_, map, some, ℕ, _*_, arith, length}
+use mir.{Mem.{Cell}, Syntax.{w8, w16}, Val.{Val, Vals, vunit, vbool, vint, vfloat, vptr, vstruct, vnil, vcons}}
+use prog.{Memory.{Memory}, Routine.{Routine}}
+use Rattle.machine.{specs.Cells.{Place, Lent, place, entries, Inputs, Span, Stands, Apart, All, Good-list, Ready, Ran, Runs, span, cells-of, cell-at}}
+use Rattle.machine.{specs.Cells.{writes, outcome-of}, proofs.Chain.{list-one, cells-count, carried, first-entries}, proofs.Again.{stands-still}}
+use Rattle.machine.{proofs.Left.{ran-lengths, ran-held}, proofs.Made.{ran-one}}
+use Rattle.mesh.specs.{Graph.{Link, graph}, Tables.{Tables, tables}, Image.{image-links}}
+use Rattle.calls.{specs.Questions.{Lengths, lengths-of}, specs.Contracts.{Clear-contract, Read-contract}, specs.Outcomes.{tabled, clear-outcome}}
+use Rattle.calls.{specs.Outcomes.{read-outcome, link-outcome, commit-outcome, batch-outcome, hear-outcome}, specs.MarkOutcomes.{set-outcome, remove-outcome}}
+use Rattle.calls.{specs.MarkOutcomes.{return-outcome}, specs.Book.{Call, clearing, reading, linking, committing, batching, hearing, setting, removing}}
+use Rattle.calls.{specs.Book.{returning, other, Given, given, Answer, counted, Outcome, outcome, booked, book-after, pairs-of}, specs.Runs.{Done}}
+use Rattle.calls.{specs.Runs.{answer-of, done, events, after, givens}, specs.Demand.{cleared, read, beginning, Kept, Demand-3}}
+use Rattle.calls.{proofs.Runs.{link-done, hear-done, Does}, proofs.Holds.{Holds}, proofs.Steps.{step}, proofs.WholeList.{start, demand-3}}
+use Rattle.hosts.specs.{Public.{Known, clear, image-read, link, commit, link-batch, hear, mark-set, mark-remove, mark-return, Public, of-book, call}}
+use Rattle.hosts.specs.{Public.{bytes, words, the-tables, number-value}, Hosts.{Site, Lie, Table-cell, of-links, of-numbers, of-order, Untouched}}
+use Rattle.hosts.specs.{Hosts.{site-at, told-of, shown, Turn, on-site, elsewhere, made, Step, Placed, book-call, call-of, fed, Said}}
+use Rattle.hosts.specs.{Hosts.{Carried-out, clears, reads, Made, Hosted, Hosts-demand, Standing-demand}}
 use Rattle.hosts.specs.Hosts as hosts
 
 -- ---- the tables of a site
@@ -97,9 +74,9 @@ record Three (σ : Memory) (p q r : Place) (t : Tables) : Type 0 where
   links : Stands σ (span bytes p (t .links))
   numbers : Stands σ (span bytes q (t .numbers))
   order : Stands σ (span words r (t .order))
-  links-held : All-held bytes (t .links)
-  numbers-held : All-held bytes (t .numbers)
-  order-held : All-held words (t .order)
+  links-held : All (bytes .Holds) (t .links)
+  numbers-held : All (bytes .Holds) (t .numbers)
+  order-held : All (words .Holds) (t .order)
 
 lent-lie :
     (s : Site) (ls ns os : Lent ℕ) → site-at ls ns os ≡ s → (τ : Memory) (v : Tables) → lengths-of v ≡ lengths-of (the-tables ls ns os) →
@@ -123,7 +100,7 @@ Goods σ ls ns os G =
 three :
     {X Y : Type 0} (τ : Memory) (p q r : Place) (v : Tables) →
     Stands τ (span bytes p (v .links)) × (Stands τ (span bytes q (v .numbers)) × (Stands τ (span words r (v .order)) × X)) →
-    All-held bytes (v .links) × (All-held bytes (v .numbers) × (All-held words (v .order) × Y)) → Three τ p q r v
+    All (bytes .Holds) (v .links) × (All (bytes .Holds) (v .numbers) × (All (words .Holds) (v .order) × Y)) → Three τ p q r v
 three τ p q r v w h = record {
   links = w .0;
   numbers = w .1 .0;
@@ -135,9 +112,12 @@ three τ p q r v w h = record {
 
 -- ---- one call
 
+abbrev pub Answered : Step → List Answer → Type 0
+Answered k hs = Said (k .turn) (k .inputs) (k .returned) (k .after) hs
+
 -- what the machine shows, and the tables that stand after the call, are those of d
 abbrev pub Came : Site → Step → Done → Type 0
-Came s k d = Said k (d .answers) × Lie s (k .after) (d .tables)
+Came s k d = Answered k (d .answers) × Lie s (k .after) (d .tables)
 
 abbrev pub Shows : Site → Step → Tables → Type 0
 Shows s k t = Came s k (done (call-of k) t)
@@ -169,7 +149,7 @@ module _ (ρ : Public → Routine) (s : Site) (m : ℕ) (t : Tables) where
       Goods σ ls ns os G →
       Stands τ (span bytes (place ls) (v .links)) × (Stands τ (span bytes (place ns) (v .numbers)) × (Stands τ (span words (place os) (v .order)) × Y)) →
       (length (v .links) ≡ length (entries ls)) × ((length (v .numbers) ≡ length (entries ns)) × ((length (v .order) ≡ length (entries os)) × L)) →
-      All-held bytes (v .links) × (All-held bytes (v .numbers) × (All-held words (v .order) × Z)) →
+      All (bytes .Holds) (v .links) × (All (bytes .Holds) (v .numbers) × (All (words .Holds) (v .order) × Z)) →
       (the-tables ls ns os ≡ t) × Lie s τ v
   unfolding lengths-of
   writer ls ns os at σ τ lie v w g u l h = (
@@ -178,20 +158,20 @@ module _ (ρ : Public → Routine) (s : Site) (m : ℕ) (t : Tables) where
   )
 
   clear-shows : On clear
-  unfolding done plain
+  unfolding done counted
   clear-shows σ i ready at lie h =
       let o = clear-outcome (i .0) (the-tables (i .1 .0) (i .1 .1 .0) (i .1 .1 .1 .0)) in
       let w = writer (i .1 .0) (i .1 .1 .0) (i .1 .1 .1 .0) at σ (h .memory) lie (o .tables) (ready .writes-stand) (ready .good .1) (h .stand) (ran-lengths h)
       (ran-held h) in
-      subst (Shows s (step-of (on-site clear) σ i m (ran (of-book clear) σ i h))) (w .0) ((plain (o .reply), refl, refl, tt), w .1)
+      subst (Shows s (step-of (on-site clear) σ i m (ran (of-book clear) σ i h))) (w .0) ((counted (o .reply) 0, refl, refl, tt), w .1)
 
   image-read-shows : On image-read
-  unfolding done plain
+  unfolding done counted
   image-read-shows σ i ready at lie h =
       let o = read-outcome (i .0) (entries (i .1 .1 .1 .1 .0)) (the-tables (i .1 .0) (i .1 .1 .0) (i .1 .1 .1 .0)) in
       let w = writer (i .1 .0) (i .1 .1 .0) (i .1 .1 .1 .0) at σ (h .memory) lie (o .tables) (ready .writes-stand) (ready .good .1) (h .stand) (ran-lengths h)
       (ran-held h) in
-      subst (Shows s (step-of (on-site image-read) σ i m (ran (of-book image-read) σ i h))) (w .0) ((plain (o .reply), refl, refl, tt), w .1)
+      subst (Shows s (step-of (on-site image-read) σ i m (ran (of-book image-read) σ i h))) (w .0) ((counted (o .reply) 0, refl, refl, tt), w .1)
 
   link-shows : (up : Bool) → On (link up)
   unfolding answer-of
@@ -203,18 +183,18 @@ module _ (ρ : Public → Routine) (s : Site) (m : ℕ) (t : Tables) where
       let o = link-outcome up (i .0) (i .1 .0) (i .1 .1 .0) T (entries x) in
       let w = writer (j .0) (j .1 .0) (j .1 .1 .0) at σ (h .memory) lie (o .tables) (ready .writes-stand) (ready .good .1 .1 .1) (h .stand) (ran-lengths h)
       (ran-held h) in
-      let listed = first-entries w16 (h .memory) (x .0 .0) (x .0 .1) (o .reply .count) (o .answer) (h .stand .1 .1 .1 .0) in
+      let listed = first-entries w16 (h .memory) (x .0 .0) (x .0 .1) (o .reply .count) (o .lent) (h .stand .1 .1 .1 .0) in
       subst (Shows s k) (w .0) (subst (Came s k) (link-done up (i .0) (i .1 .0) (i .1 .1 .0) T (entries x))
-      ((answer-of (o .reply) (o .answer), refl, refl, (listed, tt)), w .1))
+      ((answer-of (o .reply) (o .lent), refl, refl, (listed, tt)), w .1))
 
   commit-shows : (up : Bool) → On (commit up)
-  unfolding done replied
+  unfolding done answer-of
   commit-shows up σ i ready at lie h =
       let j = i .1 .1 .1 .1 in
       let o = commit-outcome up (i .0) (i .1 .0) (i .1 .1 .0) (i .1 .1 .1 .0) (entries (j .1 .1 .1 .0)) (the-tables (j .0) (j .1 .0) (j .1 .1 .0)) in
       let w = writer (j .0) (j .1 .0) (j .1 .1 .0) at σ (h .memory) lie (o .tables) (ready .writes-stand) (ready .good .1 .1 .1 .1) (h .stand) (ran-lengths h)
       (ran-held h) in
-      subst (Shows s (step-of (on-site (commit up)) σ i m (ran (of-book (commit up)) σ i h))) (w .0) ((replied (o .reply), refl, refl, tt), w .1)
+      subst (Shows s (step-of (on-site (commit up)) σ i m (ran (of-book (commit up)) σ i h))) (w .0) ((answer-of (o .reply) [], refl, refl, tt), w .1)
 
   batch-shows : On link-batch
   unfolding done counted
@@ -239,13 +219,13 @@ module _ (ρ : Public → Routine) (s : Site) (m : ℕ) (t : Tables) where
       ((counted (o .reply .number) (o .reply .value), refl, refl, tt), w .1))
 
   return-shows : On mark-return
-  unfolding done plain
+  unfolding done counted
   return-shows σ i ready at lie h =
       let j = i .1 in
       let o = return-outcome (i .0) (entries (j .1 .1 .1 .0)) (entries (j .1 .1 .1 .1 .0)) (the-tables (j .0) (j .1 .0) (j .1 .1 .0)) in
       let w = writer (j .0) (j .1 .0) (j .1 .1 .0) at σ (h .memory) lie (o .tables) (ready .writes-stand) (ready .good .1) (h .stand) (ran-lengths h)
       (ran-held h) in
-      subst (Shows s (step-of (on-site mark-return) σ i m (ran (of-book mark-return) σ i h))) (w .0) ((plain (o .reply), refl, refl, tt), w .1)
+      subst (Shows s (step-of (on-site mark-return) σ i m (ran (of-book mark-return) σ i h))) (w .0) ((counted (o .reply) 0, refl, refl, tt), w .1)
 
   -- a call that is lent the tables to be read, and writes none of their cells
   reader :
@@ -270,7 +250,7 @@ module _ (ρ : Public → Routine) (s : Site) (m : ℕ) (t : Tables) where
       )
 
   set-shows : On mark-set
-  unfolding done plain
+  unfolding done counted
   set-shows σ i ready at lie h =
       let j = i .1 in
       let T = the-tables (j .0) (j .1 .0) (j .1 .1 .0) in
@@ -278,13 +258,13 @@ module _ (ρ : Public → Routine) (s : Site) (m : ℕ) (t : Tables) where
       let ws = writes (call (of-book mark-set) .params) i in
       let w = reader (j .0) (j .1 .0) (j .1 .1 .0) at σ (h .memory) lie ws (λ z. stands-still σ (h .memory) ws (h .else-kept) (z .0) (z .1) (z .2))
       (ready .reads-stand) (ready .reads-apart) (ready .good .1) in (
-        subst (λ (u : Tables). Said (step-of (on-site mark-set) σ i m (ran (of-book mark-set) σ i h))
-            (done (call-of (step-of (on-site mark-set) σ i m (ran (of-book mark-set) σ i h))) u .answers)) (w .0) (plain (o .reply), refl, refl, tt),
+        subst (λ (u : Tables). Answered (step-of (on-site mark-set) σ i m (ran (of-book mark-set) σ i h))
+            (done (call-of (step-of (on-site mark-set) σ i m (ran (of-book mark-set) σ i h))) u .answers)) (w .0) (counted (o .reply) 0, refl, refl, tt),
         w .1,
       )
 
   remove-shows : On mark-remove
-  unfolding done plain
+  unfolding done counted
   remove-shows σ i ready at lie h =
       let j = i .1 in
       let T = the-tables (j .0) (j .1 .0) (j .1 .1 .0) in
@@ -292,8 +272,8 @@ module _ (ρ : Public → Routine) (s : Site) (m : ℕ) (t : Tables) where
       let ws = writes (call (of-book mark-remove) .params) i in
       let w = reader (j .0) (j .1 .0) (j .1 .1 .0) at σ (h .memory) lie ws (λ z. stands-still σ (h .memory) ws (h .else-kept) (z .0) (z .1) (z .2))
       (ready .reads-stand) (ready .reads-apart) (ready .good .1) in (
-        subst (λ (u : Tables). Said (step-of (on-site mark-remove) σ i m (ran (of-book mark-remove) σ i h))
-            (done (call-of (step-of (on-site mark-remove) σ i m (ran (of-book mark-remove) σ i h))) u .answers)) (w .0) (plain (o .reply), refl, refl, tt),
+        subst (λ (u : Tables). Answered (step-of (on-site mark-remove) σ i m (ran (of-book mark-remove) σ i h))
+            (done (call-of (step-of (on-site mark-remove) σ i m (ran (of-book mark-remove) σ i h))) u .answers)) (w .0) (counted (o .reply) 0, refl, refl, tt),
         w .1,
       )
 
@@ -321,8 +301,7 @@ module _ (ρ : Public → Routine) (s : Site) (m : ℕ) (t : Tables) where
 record Went (s : Site) (ks : List Step) (t : Tables) (τ : Memory) : Type 0 where
   lie : Lie s τ (after (map call-of ks) t)
   given : givens (events (map call-of ks) t) ≡ fed s ks
-  carried-out : Carried-out s ks t
-  agrees : (n : ℕ) (ps : List Link) → Holds n ps t → Agrees s ks ps
+  carried-out : (n : ℕ) (ps : List Link) → Holds n ps t → Carried-out s ks t ps
 
 joined :
     (s : Site) (k : Step) (ks : List Step) (t : Tables) (τ : Memory) → Lie s (k .before) t → Shows s k t →
@@ -331,12 +310,12 @@ unfolding givens booked events after Does
 joined s k ks t τ lie d w = record {
   lie = w .lie;
   given = λ j. given (call-of k) (lie .lengths j) ∷ w .given j;
-  carried-out = (lie, d .0, d .1, w .carried-out);
-  agrees = λ n ps holds.
+  carried-out = λ n ps holds.
       let z = step n ps t holds (call-of k) (done (call-of k) t .answers) (done (call-of k) t .tables) refl in
       let asked : Lengths → Outcome = λ l. outcome (call-of k) l ps in
-      subst (λ (l : Lengths). Said k (asked l .answers) × Agrees s ks (pairs-of (asked l) ps)) (lie .lengths)
-      (subst (Said k) (z .kept .answered) (d .0), w .agrees n (pairs-of (asked (lengths-of t)) ps) (z .holds));
+      let v = done (call-of k) t .tables in
+      subst (λ (l : Lengths). Lie s (k .before) t × Answered k (asked l .answers) × Lie s (k .after) v × Carried-out s ks v (pairs-of (asked l) ps))
+      (lie .lengths) (lie, subst (Answered k) (z .kept .answered) (d .0), d .1, w .carried-out n (pairs-of (asked (lengths-of t)) ps) (z .holds));
 }
 
 -- ---- the first call
@@ -427,7 +406,7 @@ first-number : List Answer → ℕ
 first-number [] = 0
 first-number (h ∷ hs) = h .number
 
-said-number : (w : Turn) (i : Inputs (call (made w) .params)) (v : Val) (τ : Memory) (hs : List Answer) → Said-so w i v τ hs → v ≡ number-value 0 →
+said-number : (w : Turn) (i : Inputs (call (made w) .params)) (v : Val) (τ : Memory) (hs : List Answer) → Said w i v τ hs → v ≡ number-value 0 →
     first-number hs ≡ 0 ⊎ (hs ≡ [])
 unfolding first-number number-of
 said-number (on-site x) i v τ hs y z = inl (ap first-number (y .1) ∙ sym (number-shown x (y .0)) ∙ ap number-of (sym (y .2) ∙ z))
@@ -445,7 +424,7 @@ module _ (ρ : Public → Routine) (runs : (x : Public) → Runs (ρ x) (call x)
 
   hosted-run : (s : Site) (t : Tables) (σ τ : Memory) (ks : List Step) → Lie s σ t → Hosted ρ s σ ks τ → ∥ Went s ks t τ ∥₁
   unfolding givens events after
-  hosted-run s t σ τ [] lie (hosts.ended f) = ∣ record { lie = untouched s σ τ f t lie; given = refl; carried-out = tt; agrees = λ n ps holds. tt } ∣₁
+  hosted-run s t σ τ [] lie (hosts.ended f) = ∣ record { lie = untouched s σ τ f t lie; given = refl; carried-out = λ n ps holds. tt } ∣₁
   hosted-run s t σ τ (k ∷ ks) lie (hosts.next f m r) =
       let stands = untouched s σ (k .before) f t lie in
       ∥∥₁-elim (done-one s k t m stands) ∥∥₁-prop (λ d.
@@ -464,8 +443,7 @@ module _ (ρ : Public → Routine) (runs : (x : Public) → Runs (ρ x) (call x)
         first = t;
         stood = lie;
         stand = w .lie;
-        agrees = w .agrees n ps (start b);
-        carried-out = w .carried-out;
+        carried-out = w .carried-out n ps (start b);
         kept = kept;
       })
 
@@ -476,21 +454,21 @@ module _ (ρ : Public → Routine) (runs : (x : Public) → Runs (ρ x) (call x)
       ∥∥₁-map (done-one s k (l .0) made (l .1)) (λ d. (l .0, d))
 
   pub hosts-demand : Hosts-demand ρ
-  unfolding Known-call Clear-contract Read-contract done plain beginning first-number
+  unfolding Known-call Clear-contract Read-contract done counted beginning first-number
   hosts-demand s n ps b k ks τ (clears m e z) made r =
       ∥∥₁-elim (began s k made (subst Known-call (sym e) tt)) ∥∥₁-prop (λ d.
       let t = d .0 in
       let o = clear-outcome m t in
       let c = subst (λ (c : Call). Came s k (done c t)) e (d .1) in
-      let zero : o .reply ≡ 0 = elim (said-number (k .turn) (k .inputs) (k .returned) (k .after) (plain (o .reply) ∷ [])
+      let zero : o .reply ≡ 0 = elim (said-number (k .turn) (k .inputs) (k .returned) (k .after) (counted (o .reply) 0 ∷ [])
       (c .0) z) [ inl q ↦ q | inr q ↦ absurd (cons-nil q) ] in
-      standing-demand s m [] (o .tables) (cleared m t (o .tables) (subst (λ (q : ℕ). numbered q (o .tables) ≡ o) zero refl)) (k .after) τ ks (c .1) r)
+      standing-demand s m [] (o .tables) (cleared m t (o .tables) (subst (λ (q : ℕ). tabled q (o .tables) ≡ o) zero refl)) (k .after) τ ks (c .1) r)
   hosts-demand s n ps b k ks τ (reads m image e z) made r =
       ∥∥₁-elim (began s k made (subst Known-call (sym e) tt)) ∥∥₁-prop (λ d.
       let t = d .0 in
       let o = read-outcome m image t in
       let c = subst (λ (c : Call). Came s k (done c t)) e (d .1) in
-      let zero : o .reply ≡ 0 = elim (said-number (k .turn) (k .inputs) (k .returned) (k .after) (plain (o .reply) ∷ [])
+      let zero : o .reply ≡ 0 = elim (said-number (k .turn) (k .inputs) (k .returned) (k .after) (counted (o .reply) 0 ∷ [])
       (c .0) z) [ inl q ↦ q | inr q ↦ absurd (cons-nil q) ] in
-      standing-demand s m (image-links m image) (o .tables) (read m image t (o .tables) (subst (λ (q : ℕ). numbered q (o .tables) ≡ o) zero refl))
+      standing-demand s m (image-links m image) (o .tables) (read m image t (o .tables) (subst (λ (q : ℕ). tabled q (o .tables) ≡ o) zero refl))
       (k .after) τ ks (c .1) r)

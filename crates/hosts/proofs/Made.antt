@@ -1,33 +1,18 @@
 -- Hosts exist: `Hosts-exist` of specs/Made.antt. Before each call the host allocates a block for each list beside the tables.
-use mathlib.Core.Path.{_≡_, refl, sym, _∙_, ap, subst}
-use mathlib.Core.Logic.{∥∥₁-prop, ∥∥₁-elim, ∥∥₁-map}
-use mathlib.Core.List.{List, [], _∷_, _++_}
-use mathlib.Core.Option.{some}
-use Prim.Native.Nat.{ℕ, _+_, _*_, _<_, _≤_}
-use native.Mathlib.Omega.{arith}
-use lib.ListN.{length}
-use lib.Dec.{T}
-use mir.Mem.{Cell}
-use mir.Syntax.{Ty, w8, w16, w32}
-use prog.Memory.{Memory, Block, entryAt, align, aligned}
-use prog.Routine.{Routine}
-use Rattle.machine.specs.Cells.{Form, Mode, Param, by-value, lent, to-read, to-write, Place, Inputs, Span, Has, Apart, All, All-apart, Aligned, Sized}
-use Rattle.machine.specs.Cells.{Good-list, Ready, Runs, Block-kept, outcome-of, unsigned, signed, span, cells-of, cell-at, reads, writes}
-use Rattle.machine.specs.Made.{Fitting, blocks, placed}
-use Rattle.machine.proofs.Left.{aligned-still}
-use Rattle.machine.proofs.Made.{From, Above, reads-stand, writes-stand, good, reads-above, writes-above, reads-apart, writes-apart}
-use Rattle.machine.proofs.Chain.{cells-count, run-cell, cell-kept, cell-below, from-end, begun-kept, apart-beyond, apart-before}
+use Rattle.lists.specs.Kit.{_≡_, refl, sym, _∙_, ap, subst, ∥∥₁-prop, ∥∥₁-elim, ∥∥₁-map, List, [], _∷_, _++_, some, ℕ, _+_, _*_, _<_, _≤_, arith, length, T}
+use mir.{Mem.{Cell}, Syntax.{Ty, w8, w16, w32}}
+use prog.{Memory.{Memory, Block, entryAt, align, aligned}, Routine.{Routine}}
+use Rattle.machine.{specs.Cells.{Form, Mode, Param, by-value, lent, to-read, to-write, Place, Inputs, Span, Has, Apart, All, Aligned, Sized, Good-list, Ready}}
+use Rattle.machine.{specs.Cells.{Runs, Block-kept, outcome-of, unsigned, signed, span, cells-of, cell-at, reads, writes}, specs.Made.{Fitting, blocks, placed}}
+use Rattle.machine.{proofs.Left.{aligned-still}, proofs.Made.{From, Above, reads-stand, writes-stand, good, reads-above, writes-above, reads-apart}}
+use Rattle.machine.{proofs.Made.{writes-apart}, proofs.Chain.{cells-count, run-cell, cell-kept, cell-below, from-end, begun-kept, apart-beyond, apart-before}}
 use Rattle.mesh.specs.Tables.{Tables}
-use Rattle.calls.specs.Questions.{Lengths, lengths-of}
-use Rattle.calls.specs.Book.{Call}
-use Rattle.calls.specs.Runs.{done}
-use Rattle.hosts.specs.Public.{Known, clear, image-read, link, commit, link-batch, hear, mark-set, mark-remove, mark-return, Public, of-book}
-use Rattle.hosts.specs.Public.{call, bytes, words, site-params}
-use Rattle.hosts.specs.Hosts.{Site, lent-at, Lie, Table-cell, of-links, of-numbers, of-order, Untouched, Spares, told-of, Turn, on-site, elsewhere}
-use Rattle.hosts.specs.Hosts.{made, Step, Placed, book-call, call-of, Made}
-use Rattle.hosts.specs.Hosts as hosts
-use Rattle.hosts.specs.Made.{Hosts-exist}
+use Rattle.calls.specs.{Questions.{Lengths, lengths-of}, Book.{Call}, Runs.{done}}
+use Rattle.hosts.specs.{Public.{Known, clear, image-read, link, commit, link-batch, hear, mark-set, mark-remove, mark-return, Public, of-book, call}}
+use Rattle.hosts.specs.{Public.{bytes, words, site-params}, Hosts.{Site, lent-at, Lie, Table-cell, of-links, of-numbers, of-order, Untouched, Spares}}
+use Rattle.hosts.specs.{Hosts.{told-of, Turn, on-site, elsewhere, made, Step, Placed, book-call, call-of, Made}, Made.{Hosts-exist}}
 use Rattle.hosts.proofs.Hosts.{step-of, Shows, turn-shows, moved}
+use Rattle.hosts.specs.Hosts as hosts
 
 -- a list may begin there
 abbrev pub Room-at : Memory → Ty → Place → Type 0

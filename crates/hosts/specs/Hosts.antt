@@ -12,35 +12,23 @@
 --                     memory but change a cell of the three tables
 --   fed               what the book is given of these calls
 --   Said              the value that the machine returned, and the answer table that it left, are those of the book's answer
---   Agrees            so it is of each call, by the pairs that the book keeps
---   Carried-out       the tables before and after each call stand in the memory before and after it
+--   Carried-out       so it is of each call, by the pairs that the book keeps; the tables before and after it stand in the memory before and after it
 --   Ends              what stands in the last memory, and what the list keeps
 --   Begins            a call that a list begins with: an accepted clearing or reading
 --   Hosts-demand      every host's list of calls from such a call on ends so
 --   Standing-demand   and every one from a memory in which tables stand that such a call left
 -- Definitions only.
-use mathlib.Core.Path.{_≡_}
-use mathlib.Core.Bool.{true, false}
-use mathlib.Core.List.{List, [], _∷_, map}
-use Prim.Native.Nat.{ℕ, _+_, _*_, _<_, _≤_}
-use lib.ListN.{length}
+use Rattle.lists.specs.Kit.{_≡_, List, [], _∷_, map, ℕ, _+_, _*_, _<_, _≤_, length}
 use mir.Val.{Val}
-use prog.Memory.{Memory}
-use prog.Machine.{done as returned}
-use prog.Routine.{Routine}
-use Rattle.machine.specs.Cells.{Place, Lent, place, entries, Inputs, of-inputs, Of-inputs, Span, Stands, Has, All, All-held, span, cell-at, Ready, passed}
+use prog.{Memory.{Memory}, Machine.{done as returned}, Routine.{Routine}}
+use Rattle.machine.specs.Cells.{Place, Lent, place, entries, Inputs, of-inputs, Of-inputs, Span, Stands, Has, All, span, cell-at, Ready, passed}
 use Rattle.machine.specs.Cells.{writes, to-write}
-use Rattle.mesh.specs.Graph.{Link, graph}
-use Rattle.mesh.specs.Tables.{Tables}
-use Rattle.mesh.specs.Image.{image-links}
-use Rattle.calls.specs.Questions.{Lengths, lengths-of}
-use Rattle.calls.specs.Outcomes.{reply, value}
-use Rattle.calls.specs.Book.{Call, clearing, reading, linking, committing, batching, hearing, setting, removing, returning, other}
-use Rattle.calls.specs.Book.{Given, given, Answer, booked, pairs-of, book-after, Beginning, from-clearing, from-image}
-use Rattle.calls.specs.Runs.{done, events, after}
-use Rattle.calls.specs.Demand.{Start, beginning, Kept}
-use Rattle.hosts.specs.Public.{Known, clear, image-read, link, commit, link-batch, hear, mark-set, mark-remove, mark-return, Public, of-book}
-use Rattle.hosts.specs.Public.{call, bytes, words, site-params, the-tables, number-value, reply-value, value-value}
+use Rattle.mesh.specs.{Graph.{Link, graph}, Tables.{Tables}, Image.{image-links}}
+use Rattle.calls.specs.{Questions.{Lengths, lengths-of}, Outcomes.{reply, value}, Book.{Call, clearing, reading, linking, committing, batching, hearing}}
+use Rattle.calls.specs.{Book.{setting, removing, returning, other, Given, given, Answer, booked, pairs-of, book-after, Beginning, from-clearing, from-image}}
+use Rattle.calls.specs.{Runs.{done, events, after}, Demand.{Start, beginning, Kept}}
+use Rattle.hosts.specs.Public.{Known, clear, image-read, link, commit, link-batch, hear, mark-set, mark-remove, mark-return, Public, of-book, call, bytes}
+use Rattle.hosts.specs.Public.{words, site-params, the-tables, number-value, reply-value, value-value}
 
 -- ---- a site's tables
 
@@ -60,9 +48,9 @@ pub record Lie (s : Site) (σ : Memory) (t : Tables) : Type 0 where
   pub links : Stands σ (span bytes (s .links) (t .links))
   pub numbers : Stands σ (span bytes (s .numbers) (t .numbers))
   pub order : Stands σ (span words (s .order) (t .order))
-  pub links-held : All-held bytes (t .links)
-  pub numbers-held : All-held bytes (t .numbers)
-  pub order-held : All-held words (t .order)
+  pub links-held : All (bytes .Holds) (t .links)
+  pub numbers-held : All (bytes .Holds) (t .numbers)
+  pub order-held : All (words .Holds) (t .order)
 
 -- cell i of block b is one of k cells from there on
 abbrev pub Within : Place → (k b i : ℕ) → Type 0
@@ -157,24 +145,18 @@ fed s ks = map (λ k. given (call-of k) (s .lengths)) ks
 -- ---- what the machine answered
 
 -- to a call on the site the book gives one answer; the value v, and the memory τ after the call, show it
-abbrev pub Said-so : (w : Turn) → Inputs (call (made w) .params) → Val → Memory → List Answer → Type 0
-Said-so (on-site x) i v τ hs =
+abbrev pub Said : (w : Turn) → Inputs (call (made w) .params) → Val → Memory → List Answer → Type 0
+Said (on-site x) i v τ hs =
     (h : Answer) × (hs ≡ h ∷ []) × (v ≡ shown x h) × All (Stands τ) (map (λ p. span words p (h .listed)) (told-of x i .lists))
-Said-so (elsewhere x) i v τ hs = hs ≡ []
+Said (elsewhere x) i v τ hs = hs ≡ []
 
-abbrev pub Said : Step → List Answer → Type 0
-Said k hs = Said-so (k .turn) (k .inputs) (k .returned) (k .after) hs
-
--- where ps are the book's pairs before the first
-abbrev pub Agrees : Site → List Step → (pairs : List Link) → Type 0
-Agrees s [] ps = Unit {0}
-Agrees s (k ∷ ks) ps = let o = booked (given (call-of k) (s .lengths)) ps in Said k (o .answers) × Agrees s ks (pairs-of o ps)
-
--- where t are the tables before the first
-abbrev pub Carried-out : Site → List Step → Tables → Type 0
-Carried-out s [] t = Unit {0}
-Carried-out s (k ∷ ks) t =
-    let o = done (call-of k) t in Lie s (k .before) t × Said k (o .answers) × Lie s (k .after) (o .tables) × Carried-out s ks (o .tables)
+-- each call answered as the book does and left its tables, where t are the tables before the first, and ps the book's pairs
+abbrev pub Carried-out : Site → List Step → Tables → (pairs : List Link) → Type 0
+Carried-out s [] t ps = Unit {0}
+Carried-out s (k ∷ ks) t ps =
+    let o = booked (given (call-of k) (s .lengths)) ps in
+    let v = done (call-of k) t .tables in
+    Lie s (k .before) t × Said (k .turn) (k .inputs) (k .returned) (k .after) (o .answers) × Lie s (k .after) v × Carried-out s ks v (pairs-of o ps)
 
 -- ---- after the list
 
@@ -184,10 +166,8 @@ pub record Ends (s : Site) (n : ℕ) (ps : List Link) (b : Beginning) (ks : List
   pub stood : Lie s σ first
   -- the tables that the list leaves stand at the site's places: by demand 3, links and numbers of the book's pairs and a k-order
   pub stand : Lie s τ (after (map call-of ks) first)
-  -- every call answered as the book does
-  pub agrees : Agrees s ks ps
-  -- the calls are carried out on the tables, and keep demand 3
-  pub carried-out : Carried-out s ks first
+  -- every call answered as the book does, and the list keeps demand 3
+  pub carried-out : Carried-out s ks first ps
   pub kept : Kept n ps b (events (map call-of ks) first) (graph n (book-after (fed s ks) ps)) (after (map call-of ks) first)
 
 -- the book takes the call for a clearing or a reading of n radios, and it returned 0: the book then keeps these pairs

@@ -4,16 +4,12 @@
 --   A-host            a host whose calls the book takes for these
 --   Hosts-exist       the statement
 -- Definitions only.
-use mathlib.Core.Path.{_≡_}
-use mathlib.Core.List.{List, [], map}
-use prog.Memory.{Memory}
-use prog.Routine.{Routine}
-use Rattle.machine.specs.Cells.{Inputs, Ready, All, to-write}
-use Rattle.machine.specs.Made.{Fitting}
+use Rattle.lists.specs.Kit.{_≡_, List, [], map}
+use prog.{Memory.{Memory}, Routine.{Routine}}
+use Rattle.machine.specs.{Cells.{Inputs, Ready, All, to-write}, Made.{Fitting}}
 use Rattle.mesh.specs.Tables.{Tables}
 use Rattle.calls.specs.Questions.{lengths-of}
-use Rattle.hosts.specs.Public.{Public, call, site-params}
-use Rattle.hosts.specs.Hosts.{Site, lent-at, Turn, made, Step, Hosted, book-call, call-of}
+use Rattle.hosts.specs.{Public.{Public, call, site-params}, Hosts.{Site, lent-at, Turn, made, Step, Hosted, book-call, call-of}}
 
 abbrev pub Wanted : Type 0
 Wanted = (w : Turn) × Inputs (call (made w) .params)

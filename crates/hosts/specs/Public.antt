@@ -3,32 +3,25 @@
 --   Known             the calls that document 01's book knows
 --   Public            all calls
 --   site-params       so many numbers, then links, numbers and order lent in one way, then what else is lent
---   the-tables        links, numbers and order, as they are lent;   tables-then: the same on return, before what else is lent to be written
+--   the-tables        links, numbers and order, as they are lent
+--   with-tables .. with-list   an outcome as its reply and what is lent to be written
 --   on-tables         a function of numbers, tables and what else is lent, as one of what is passed
 --   ..-value          a result as the machine holds it
 --   a-reader          a reader as it is passed, and as it is given back: the image, lent to be read, and the number of the next block
 --   step-value        what a step of the reader gives, of an image at that place: the part of the image that its form for C tells of, and the numbers
 --   call              the call
 -- Definitions only.
-use mathlib.Core.Bool.{Bool}
-use mathlib.Core.List.{List, [], _∷_}
-use Prim.Native.Nat.{ℕ, zero, suc, _+_, _<_, _^_}
-use mir.Syntax.{w8, w16, w32, w64, tyInt, tyStruct, tcons, tnil}
-use mir.Val.{Val, vint, vstruct, vcons, vnil, ofList, ofZ}
-use Rattle.machine.specs.Cells.{Form, unsigned, signed, Mode, to-read, to-write, Param, by-value, lent, lent-with}
-use Rattle.machine.specs.Cells.{Place, Lent, place, entries, Outputs, Of-inputs, pointer, passes, Call}
-use Rattle.mesh.specs.Tables.{Tables, tables}
-use Rattle.mesh.specs.declared.Node.{Node}
-use Rattle.calls.specs.declared.Reply.{Reply}
-use Rattle.calls.specs.declared.Value.{Value}
-use Rattle.calls.specs.declared.Later.{Later}
-use Rattle.calls.specs.declared.Pair.{Pair}
-use Rattle.calls.specs.declared.Block.{Block}
-use Rattle.calls.specs.Outcomes.{Listing, clear-outcome, read-outcome, link-outcome, ask-outcome, commit-outcome, batch-outcome, hear-outcome, check-outcome}
-use Rattle.calls.specs.Outcomes.{number-outcome, neighbours-outcome, linked-outcome, first-outcome, later-outcome, core-outcome, backbone-outcome}
-use Rattle.calls.specs.Outcomes.{tree-outcome, staircase-outcome, write-outcome, sheet-outcome, script-length-outcome, script-outcome, block-outcome}
-use Rattle.calls.specs.MarkOutcomes.{set-outcome, remove-outcome, return-outcome}
-use Rattle.calls.specs.LiftOutcome.{lift-outcome}
+use Rattle.lists.specs.Kit.{Bool, List, [], _∷_, ℕ, zero, suc, _+_, _<_, _^_}
+use mir.{Syntax.{w8, w16, w32, w64, tyInt, tyStruct, tcons, tnil}, Val.{Val, vint, vstruct, vcons, vnil, ofList, ofZ}}
+use Rattle.machine.specs.Cells.{Form, unsigned, signed, Mode, to-read, to-write, Param, by-value, lent, lent-with, Place, Lent, place, entries, Outputs}
+use Rattle.machine.specs.Cells.{Of-inputs, pointer, passes, Call}
+use Rattle.mesh.specs.{Tables.{Tables, tables}, declared.Node.{Node}}
+use Rattle.calls.specs.{declared.Reply.{Reply}, declared.Value.{Value}, declared.Later.{Later}, declared.Pair.{Pair}, declared.Block.{Block}}
+use Rattle.calls.specs.{Outcomes.{Tabled, Linked, Listing, clear-outcome, read-outcome, link-outcome, ask-outcome, commit-outcome, batch-outcome, hear-outcome}}
+use Rattle.calls.specs.{Outcomes.{check-outcome}}
+use Rattle.calls.specs.{Outcomes.{number-outcome, neighbours-outcome, linked-outcome, first-outcome, later-outcome, core-outcome, backbone-outcome}}
+use Rattle.calls.specs.{Outcomes.{tree-outcome, staircase-outcome, write-outcome, sheet-outcome, script-length-outcome, script-outcome, block-outcome}}
+use Rattle.calls.specs.{MarkOutcomes.{set-outcome, remove-outcome, return-outcome}, LiftOutcome.{lift-outcome}}
 
 -- ---- the list
 
@@ -85,9 +78,6 @@ site-params (suc k) m ps = a-number ∷ site-params k m ps
 
 abbrev pub the-tables : (links numbers order : Lent ℕ) → Tables
 the-tables ls ns os = tables (entries ls) (entries ns) (entries os)
-
-abbrev pub tables-then : {X : Type 0} → Tables → X → List ℕ × (List ℕ × (List ℕ × X))
-tables-then t x = (t .links, (t .numbers, (t .order, x)))
 
 abbrev pub On-tables : (numbers : ℕ) → (others : List Param) → Type 0 → Type 0
 On-tables zero ps A = Tables → Of-inputs ps A
@@ -147,40 +137,39 @@ a-call ps {R} v o = record { params = ps; Result = R; value = v; outcome = o }
 abbrev site-call : (k : ℕ) (m : Mode) (ps : List Param) {R : Type 0} → (R → Val) → On-tables k ps (R × Outputs (site-params k m ps)) → Call
 site-call k m ps {R} v o = a-call (site-params k m ps) v (on-tables k m ps (R × Outputs (site-params k m ps)) o)
 
--- a value, and entries in front of a list that is lent last
-abbrev listed : Listing → Value × (List ℕ × Unit {0})
-listed o = (o .reply, (o .lent, tt))
+-- what a call comes to: the reply, with the tables, with a further list, or with a list alone
+abbrev pub with-tables : {R : Type 0} → Tabled R → R × (List ℕ × (List ℕ × (List ℕ × Unit {0})))
+with-tables o = (o .reply, (o .tables .links, (o .tables .numbers, (o .tables .order, tt))))
+
+abbrev pub with-both : {R : Type 0} → Linked R → R × (List ℕ × (List ℕ × (List ℕ × (List ℕ × Unit {0}))))
+with-both o = (o .reply, (o .tables .links, (o .tables .numbers, (o .tables .order, (o .lent, tt)))))
+
+abbrev pub with-list : {R : Type 0} → Listing R (List ℕ) → R × (List ℕ × Unit {0})
+with-list o = (o .reply, (o .lent, tt))
 
 -- document 01, with the calls of W-201, W-203, W-205, W-206, W-209, W-210, W-211, W-212 and W-213
 abbrev pub call : Public → Call
-call (of-book clear) = site-call 1 to-write [] number-value (λ n t. let o = clear-outcome n t in (o .reply, tables-then (o .tables) tt))
-call (of-book image-read) =
-    site-call 1 to-write (lent to-read bytes ∷ []) number-value
-    (λ n t image. let o = read-outcome n (entries image) t in (o .reply, tables-then (o .tables) tt))
+call (of-book clear) = site-call 1 to-write [] number-value (λ n t. with-tables (clear-outcome n t))
+call (of-book image-read) = site-call 1 to-write (lent to-read bytes ∷ []) number-value (λ n t image. with-tables (read-outcome n (entries image) t))
 call (of-book (link up)) =
-    site-call 3 to-write (lent to-write words ∷ []) reply-value
-    (λ n a b t answer. let o = link-outcome up n a b t (entries answer) in (o .reply, tables-then (o .tables) (o .answer, tt)))
+    site-call 3 to-write (lent to-write words ∷ []) reply-value (λ n a b t answer. with-both (link-outcome up n a b t (entries answer)))
 call (of-book (commit up)) =
     a-call (a-number ∷ a-number ∷ a-number ∷ by-value (signed w8) ∷ site-params 0 to-write (lent to-read words ∷ [])) reply-value
-    (λ n a b step ls ns os list. let o = commit-outcome up n a b step (entries list) (the-tables ls ns os) in (o .reply, tables-then (o .tables) tt))
-call (of-book link-batch) =
-    site-call 1 to-write (lent to-read words ∷ []) value-value
-    (λ n t list. let o = batch-outcome n (entries list) t in (o .reply, tables-then (o .tables) tt))
+    (λ n a b step ls ns os list. with-tables (commit-outcome up n a b step (entries list) (the-tables ls ns os)))
+call (of-book link-batch) = site-call 1 to-write (lent to-read words ∷ []) value-value (λ n t list. with-tables (batch-outcome n (entries list) t))
 call (of-book hear) =
     site-call 1 to-write (lent to-read bytes ∷ lent to-write bytes ∷ []) value-value
-    (λ n t heard further. let o = hear-outcome n (entries heard) t (entries further) in (o .reply, tables-then (o .tables) (o .one-sided, tt)))
+    (λ n t heard further. with-both (hear-outcome n (entries heard) t (entries further)))
 call (of-book mark-set) =
     site-call 1 to-read (lent to-read bytes ∷ lent to-write bytes ∷ []) number-value
-    (λ n t name store. let o = set-outcome n (entries name) t (entries store) in (o .reply, (o .store, tt)))
+    (λ n t name store. with-list (set-outcome n (entries name) t (entries store)))
 call (of-book mark-remove) =
     site-call 1 to-read (lent to-read bytes ∷ lent to-write bytes ∷ []) number-value
-    (λ n t name store. let o = remove-outcome n (entries name) t (entries store) in (o .reply, (o .store, tt)))
+    (λ n t name store. with-list (remove-outcome n (entries name) t (entries store)))
 call (of-book mark-return) =
     site-call 1 to-write (lent to-read bytes ∷ lent to-read bytes ∷ []) number-value
-    (λ n t name store. let o = return-outcome n (entries name) (entries store) t in (o .reply, tables-then (o .tables) tt))
-call (ask up) =
-    site-call 3 to-read (lent to-write words ∷ []) reply-value
-    (λ n a b t answer. let o = ask-outcome up n a b t (entries answer) in (o .reply, (o .answer, tt)))
+    (λ n t name store. with-tables (return-outcome n (entries name) (entries store) t))
+call (ask up) = site-call 3 to-read (lent to-write words ∷ []) reply-value (λ n a b t answer. with-list (ask-outcome up n a b t (entries answer)))
 call check = site-call 1 to-read [] value-value (λ n t. (check-outcome n t, tt))
 call number = site-call 2 to-read [] value-value (λ n v t. (number-outcome n v t, tt))
 call neighbours = site-call 2 to-read [] value-value (λ n v t. (neighbours-outcome n v t, tt))
@@ -188,16 +177,16 @@ call linked = site-call 3 to-read [] value-value (λ n a b t. (linked-outcome n 
 call first = site-call 3 to-read [] value-value (λ n a b t. (first-outcome n a b t, tt))
 call later-of = site-call 2 to-read [] (λ (r : Later). three-value (r .number) (r .count) (r .first)) (λ n v t. (later-outcome n v t, tt))
 call lift = site-call 2 to-read [] (λ (r : Pair). three-value (r .number) (r .low) (r .high)) (λ n v t. (lift-outcome n v t, tt))
-call core = site-call 3 to-read (lent to-write words ∷ []) value-value (λ n v k t answer. listed (core-outcome n v k t (entries answer)))
-call backbone = site-call 1 to-read (lent to-write words ∷ []) value-value (λ n t answer. listed (backbone-outcome n t (entries answer)))
+call core = site-call 3 to-read (lent to-write words ∷ []) value-value (λ n v k t answer. with-list (core-outcome n v k t (entries answer)))
+call backbone = site-call 1 to-read (lent to-write words ∷ []) value-value (λ n t answer. with-list (backbone-outcome n t (entries answer)))
 call tree =
     site-call 1 to-read (lent to-write nodes ∷ lent to-write words ∷ []) value-value
-    (λ n t list answer. let o = tree-outcome n t (entries list) (entries answer) in (o .reply, (o .nodes, (o .answer, tt))))
-call staircase = site-call 1 to-read (lent to-write words ∷ []) value-value (λ n t table. listed (staircase-outcome n t (entries table)))
-call image-write = site-call 1 to-read (lent to-write bytes ∷ []) value-value (λ n t buffer. listed (write-outcome n t (entries buffer)))
-call sheet = site-call 1 to-read (lent to-write bytes ∷ []) value-value (λ n t page. listed (sheet-outcome n t (entries page)))
+    (λ n t list answer. let o = tree-outcome n t (entries list) (entries answer) in (o .reply, (o .lent .0, (o .lent .1, tt))))
+call staircase = site-call 1 to-read (lent to-write words ∷ []) value-value (λ n t table. with-list (staircase-outcome n t (entries table)))
+call image-write = site-call 1 to-read (lent to-write bytes ∷ []) value-value (λ n t buffer. with-list (write-outcome n t (entries buffer)))
+call sheet = site-call 1 to-read (lent to-write bytes ∷ []) value-value (λ n t page. with-list (sheet-outcome n t (entries page)))
 call script-length = site-call 1 to-read [] value-value (λ n t. (script-length-outcome n t, tt))
-call script-write = site-call 1 to-read (lent to-write bytes ∷ []) value-value (λ n t text. listed (script-outcome n t (entries text)))
+call script-write = site-call 1 to-read (lent to-write bytes ∷ []) value-value (λ n t text. with-list (script-outcome n t (entries text)))
 call image-block = a-call (lent to-read bytes ∷ by-value (unsigned w64) ∷ []) block-value (λ image i. (block-outcome (entries image) i, tt))
 call reader-open = a-call (lent to-read bytes ∷ []) (passes a-reader) (λ image. ((image, 0), tt))
 call reader-step = a-call (a-reader ∷ []) step-value (λ r. ((place (r .0), block-outcome (entries (r .0)) (r .1)), tt))

@@ -2,20 +2,11 @@
 --   balance       ups of a link and its state before are as many as its downs and its state after
 --   same-pairs    tables that link alike hold the same pairs
 --   pairs-agree   the pairs after a list of link calls are told by how often each was made
-use mathlib.Core.Path.{_≡_, refl, _∙_}
-use mathlib.Core.Logic.{inl, inr}
-use mathlib.Core.Bool.{Bool, true, false, _&&_, not, cond, Bool·beq}
-use mathlib.Core.List.{List, [], _∷_}
-use Prim.Native.Nat.{ℕ, _+_}
-use native.Mathlib.Omega.{arith}
-use Rattle.mesh.specs.Limits.{max-neighbours}
-use Rattle.mesh.specs.Graph.{Link, graph, linked, relinked, new-links, Allowed}
-use Rattle.mesh.specs.Tables.{Tables}
-use Rattle.mesh.proofs.GraphLaws.{Ends, ends, ends-of, linked-sym}
-use Rattle.mesh.proofs.Tables.Relinked.{linked-relinked}
-use Rattle.calls.specs.Switches.{Switch, pairs-after, switched, tables-after, All-allowed}
-use Rattle.calls.proofs.Holds.{Holds, switched-holds, all-holds}
-use Rattle.calls.proofs.Turns.{Ordered, pairs-eq}
+use Rattle.lists.specs.Kit.{_≡_, refl, _∙_, inl, inr, Bool, true, false, _&&_, not, cond, Bool·beq, List, [], _∷_, ℕ, _+_, arith}
+use Rattle.mesh.{specs.Limits.{max-neighbours}, specs.Graph.{Link, graph, linked, relinked, new-links, Allowed}, specs.Tables.{Tables}, proofs.GraphLaws.{Ends}}
+use Rattle.mesh.{proofs.GraphLaws.{ends, ends-of, linked-sym}, proofs.Tables.Relinked.{linked-relinked}}
+use Rattle.calls.{specs.Switches.{Switch, pairs-after, switched, tables-after, All-allowed}, proofs.Holds.{Holds, switched-holds, all-holds}}
+use Rattle.calls.{proofs.Turns.{Ordered, pairs-eq}}
 use Rattle.hubs.specs.Hubs.{same-call, times, Same-calls}
 
 bit : Bool → ℕ

@@ -1,5 +1,5 @@
 -- The worked pair of histories of the table of cases are the same calls.
-use native.Mathlib.Omega.{arith}
+use Rattle.lists.specs.Kit.{arith}
 use Rattle.calls.specs.Cases.{one-hub, other-hub}
 use Rattle.hubs.specs.Hubs.{times, Same-calls}
 

@@ -3,35 +3,20 @@
 --   confluence      both hubs hold equal links and numbers
 --   calls-agree     shell tree, backbone and staircase calls answer equal on both
 --   orders-by-images   the images are equal only where the orders are
-use mathlib.Core.Path.{_≡_, refl, sym, ap, subst, _∙_}
-use mathlib.Core.Bool.{Bool, true, _&&_}
-use mathlib.Core.List.{List, [], _∷_}
-use mathlib.Core.Option.{none}
-use Prim.Native.Nat.{ℕ, zero, suc}
-use native.Mathlib.Omega.{arith}
-use lib.ListN.{length}
-use Rattle.mesh.specs.Limits.{max-neighbours}
-use Rattle.mesh.specs.Graph.{Link, graph, new-links, Allowed}
-use Rattle.mesh.specs.Levels.{changed}
-use Rattle.mesh.specs.Tables.{Tables, graph-in, tables-of}
-use Rattle.mesh.specs.Sound.{sound}
-use Rattle.mesh.specs.Image.{image-of, image-order}
-use Rattle.mesh.proofs.Images.Sites.{length-order, read-written-order}
-use Rattle.calls.specs.Questions.{Lengths, lengths-of, answer-length, nodes-length, staircase-length, site-refusal, link-refusal}
-use Rattle.calls.specs.Questions.{tree-refusal, backbone-refusal, staircase-refusal}
-use Rattle.calls.specs.Switches.{Switch, switch, pairs-after, All-allowed}
-use Rattle.calls.specs.Outcomes.{backbone-outcome, tree-outcome, staircase-outcome}
-use Rattle.calls.specs.Book.{linking, other, Answer, plain, reported, outcome-of, unless-refused, outcome, first-pairs, pairs-of}
-use Rattle.calls.specs.Runs.{Event, after}
-use Rattle.calls.proofs.Runs.{Run, next, run}
-use Rattle.calls.proofs.Runs as runs
-use Rattle.calls.specs.Demand.{cleared}
-use Rattle.calls.proofs.ChainLaws.{link-zero}
-use Rattle.calls.proofs.Holds.{Holds, read-back, site-asked}
-use Rattle.calls.proofs.Steps.{Stepped, step}
-use Rattle.calls.proofs.WholeList.{start}
+use Rattle.lists.specs.Kit.{_≡_, refl, sym, ap, subst, _∙_, Bool, true, _&&_, List, [], _∷_, none, ℕ, zero, suc, arith, length}
+use Rattle.mesh.{specs.Limits.{max-neighbours}, specs.Graph.{Link, graph, new-links, Allowed}, specs.Levels.{changed}, specs.Tables.{Tables, graph-in}}
+use Rattle.mesh.{specs.Tables.{tables-of}, specs.Sound.{sound}, specs.Image.{image-of, image-order}, proofs.Images.Sites.{length-order, read-written-order}}
+use Rattle.calls.{specs.Questions.{Lengths, lengths-of, answer-length, site-refusal}}
+use Rattle.calls.{specs.Switches.{Switch, switch, pairs-after, All-allowed}}
+use Rattle.calls.{specs.Outcomes.{backbone-outcome, tree-outcome, staircase-outcome}, specs.Book.{linking, other, Answer, counted, reported, outcome-of}}
+use Rattle.calls.{specs.Book.{unless-refused, outcome, first-pairs, pairs-of}, specs.Runs.{Event, after}, proofs.Runs.{Run, next, run}, specs.Demand.{cleared}}
+use Rattle.calls.{proofs.ChainLaws.{link-zero}, proofs.Holds.{Holds, read-back, site-asked}, proofs.Steps.{Stepped, step}, proofs.WholeList.{start}}
 use Rattle.hubs.specs.Hubs.{Cleared, Singles, no-more, single, only-reads, Two-hubs, Equal-sites, Equal-answers}
 use Rattle.hubs.proofs.Balance.{pairs-agree}
+use Rattle.calls.proofs.Runs as runs
+use Rattle.calls.specs.Chains.{tree-refusal, backbone-refusal, staircase-refusal}
+use Rattle.calls.specs.Questions.{by-number}
+use Rattle.calls.specs.Chains.{nodes-length, staircase-length, link-refusal}
 
 -- ---- runs of single link calls, none refused
 
@@ -45,7 +30,7 @@ one-taken :
     (R : ℕ) → link-refusal u n a b (lengths-of t) w true (graph n ps) ≡ R →
     Stepped n ps (unless-refused R (outcome-of (reported u (changed u a b (graph n ps)) ∷ []) none (switch u a b ∷ []))) t (h ∷ []) v →
     Holds n (new-links u a b ps) v × Allowed max-neighbours u a b (graph n ps)
-unfolding unless-refused pairs-of first-pairs pairs-after plain first-number
+unfolding by-number pairs-of first-pairs pairs-after counted first-number
 one-taken n ps t k u a b w h v z zero e s = (s .holds, link-zero u a b (lengths-of t) w true (graph n ps) e .1)
 one-taken n ps t k u a b w h v z (suc q) e s = absurd (omega (arith, ap first-number (s .kept .answered), z))
 
@@ -102,14 +87,10 @@ module _ (n : ℕ) (v w : Tables) (k : Both n v w) where
         length-order (graph n (k .pairs)) (k .second .xs) (k .second .most) (k .second .valid),
       )
 
-  equal-sites : Equal-sites n v w
+  equal-sites : Equal-sites v w
   equal-sites = record {
     links = same-links;
     numbers = same-numbers;
-    trees = rw same-links;
-    names = rw same-links;
-    backbones = rw same-links;
-    staircases = rw same-links;
   }
 
   -- an image tells its order
@@ -131,14 +112,14 @@ module _ (n : ℕ) (v w : Tables) (k : Both n v w) where
       ∙ sym (site-asked n (k .pairs) w (k .second) m others (λ g. 0))
 
   equal-answers : Equal-answers v w
-  unfolding tree-outcome backbone-outcome staircase-outcome tree-refusal backbone-refusal staircase-refusal sound
+  unfolding tree-outcome backbone-outcome staircase-outcome sound
   equal-answers = record {
     tree = λ m ns xs. rw (same-refusal m (nodes-length m (length ns) && answer-length m (length xs)), same-links);
     backbone = λ m xs. rw (same-refusal m (answer-length m (length xs)), same-links);
     staircase = λ m xs. rw (same-refusal m (staircase-length m (length xs)), same-links);
   }
 
-pub confluence : Two-hubs Equal-sites
+pub confluence : Two-hubs (λ n v w. Equal-sites v w)
 unfolding Two-hubs
 confluence n t u cs ds ss rs c d a b same = equal-sites n (after cs t) (after ds u) (both n t u cs ds ss rs c d a b same)
 

@@ -2,34 +2,17 @@
 --   run, singles       link calls played one after the other are a run; where none is refused, of single calls
 --   played-one, played-other   what the rows of the pair say of them
 --   orders-differ, images-differ   so neither can be claimed equal
-use mathlib.Core.Path.{_≡_, sym, ap, subst, _∙_}
-use mathlib.Core.Bool.{true, _&&_}
-use mathlib.Core.List.{List, [], _∷_}
-use Prim.Native.Nat.{ℕ}
-use native.Mathlib.Omega.{arith}
-use lib.ListN.{length}
-use lib.Dec.{eqb}
-use borrow.Author.Tests.{eqb-true}
-use Rattle.lists.specs.Lists.{same}
-use Rattle.lists.proofs.Tests.{and-left, and-right}
-use Rattle.lists.proofs.All.{same-eq}
-use Rattle.mesh.specs.Image.{image-of}
-use Rattle.mesh.specs.Tables.{Tables, graph-in}
-use Rattle.calls.specs.Switches.{Switch}
-use Rattle.calls.specs.Outcomes.{Numbered, numbered, clear-outcome, link-outcome}
-use Rattle.calls.specs.Book.{Answer, linking, reported}
-use Rattle.calls.specs.Runs.{answer-of, Event, event}
-use Rattle.calls.specs.Runs as runs
-use Rattle.calls.proofs.Runs.{Does, Run, ended, next, called, run-is, link-done}
-use Rattle.calls.specs.Questions.{same-step}
-use Rattle.calls.specs.Worked.{entries, lent-tables, Left, left, left-by, played, after, up, risen, Want, last-answers, all-numbers, whole-order}
-use Rattle.calls.specs.Worked.{row, same-answers, meets, meets-all, right}
+use Rattle.lists.{specs.Kit.{_≡_, sym, ap, subst, _∙_, true, _&&_, List, [], _∷_, ℕ, arith, length, eqb, eqb-true}, specs.Lists.{same}, proofs.Tests.{and-left}}
+use Rattle.lists.{proofs.Tests.{and-right}, proofs.All.{same-eq}}
+use Rattle.mesh.specs.{Image.{image-of}, Tables.{Tables, graph-in}}
+use Rattle.calls.{specs.Switches.{Switch}, specs.Outcomes.{Tabled, tabled, clear-outcome, link-outcome}, specs.Book.{Answer, linking, reported}}
+use Rattle.calls.{specs.Runs.{answer-of, Event, event}, proofs.Runs.{Does, Run, ended, next, called, run-is, link-done}, specs.Questions.{same-step}}
+use Rattle.calls.{specs.Worked.{entries, lent-tables, Left, left, left-by, played, after, up, risen, Want, last-answers, all-numbers, whole-order, row}}
+use Rattle.calls.{specs.Worked.{same-answers, meets, meets-all, right}, specs.Cases.{one-hub, other-hub}, proofs.Cases.{one-hub-right, other-hub-right}}
 use Rattle.hubs.specs.Hubs.{Cleared, Singles, single, Two-hubs}
+use Rattle.hubs.proofs.{Confluence.{orders-by-images}, Cases.{cases-same}}
+use Rattle.calls.specs.Runs as runs
 use Rattle.hubs.specs.Hubs as hubs
-use Rattle.calls.specs.Cases.{one-hub, other-hub}
-use Rattle.calls.proofs.Cases.{one-hub-right, other-hub-right}
-use Rattle.hubs.proofs.Confluence.{orders-by-images}
-use Rattle.hubs.proofs.Cases.{cases-same}
 
 -- ---- calls played one after the other are a run
 
@@ -39,7 +22,7 @@ zeros i = 0
 abbrev made : (n : ℕ) → Switch → Left → Event
 made n c s =
     let o = link-outcome (c .up) n (c .a) (c .b) (s .tables) (entries zeros n) in
-    event (linking (c .up) n (c .a) (c .b) (length (entries zeros n))) (s .tables) (answer-of (o .reply) (o .answer) ∷ []) (o .tables)
+    event (linking (c .up) n (c .a) (c .b) (length (entries zeros n))) (s .tables) (answer-of (o .reply) (o .lent) ∷ []) (o .tables)
 
 events : (n : ℕ) → List Switch → Left → List Event
 events n [] s = []
@@ -84,7 +67,7 @@ first-same x y xs ys p =
     let f = same-answers xs ys in
     (eqb-true (x .number) (y .number) (and-left a b (and-left (a && b) (e && f) p)), and-right e f (and-right (a && b) (e && f) p))
 
-zero-first : (o : Numbered) → o .reply ≡ 0 → numbered 0 (o .tables) ≡ o
+zero-first : (o : Tabled ℕ) → o .reply ≡ 0 → tabled 0 (o .tables) ≡ o
 zero-first o e = rw e
 
 by-row :
@@ -131,7 +114,8 @@ orders-differ claim =
     let w = after zeros 4 ds first .tables in
     let p = run-is (run 4 cs first) in
     let q = run-is (run 4 ds first) in
-    let e = claim 4 (first .tables) (first .tables) (called (events 4 cs first)) (called (events 4 ds first)) cs ds (played-one .cleared) (played-other .cleared)
+    let e = claim 4 (first .tables) (first .tables) (called (events 4 cs first)) (called (events 4 ds first)) cs ds (played-one .cleared)
+    (played-other .cleared)
     (subst (λ (es : List Event). Singles 4 es cs) (p .0) (singles 4 cs first (played-one .taken)))
     (subst (λ (es : List Event). Singles 4 es ds) (q .0) (singles 4 ds first (played-other .taken))) cases-same in
     let same : v .order ≡ w .order = ap (λ (o : Tables). o .order) (p .1) ∙ e ∙ sym (ap (λ (o : Tables). o .order) (q .1)) in

@@ -4,24 +4,14 @@
 --   Cleared n t        the tables t were left by an accepted clearing of n radios
 --   Singles n es ss    the list es is the single link calls ss, none refused; calls that only read may stand between them
 --   Two-hubs C         two hubs that start cleared with the same n and take the same single link calls: C holds of what they hold
---   Equal-sites        equal links and numbers, and what is worked out from links
+--   Equal-sites        equal links and numbers, and so what is worked out from links
 --   Equal-answers      the shell tree, backbone and staircase calls with equal lent lists answer equal
 -- Calls that stand for several link calls, committings, images and coming back to a mark lie outside.
 -- The proofs are `confluence` and `calls-agree` in proofs/Confluence.antt. Definitions only.
-use mathlib.Core.Path.{_≡_}
-use mathlib.Core.Bool.{Bool, _&&_, _||_, cond, Bool·beq}
-use mathlib.Core.List.{List, [], _∷_}
-use Prim.Native.Nat.{ℕ, _+_}
-use lib.Dec.{eqb}
-use Rattle.mesh.specs.Tables.{Tables, graph-in}
-use Rattle.mesh.specs.Connected.{backbone}
-use Rattle.mesh.specs.Tree.{tree, node-names}
-use Rattle.mesh.specs.Staircase.{staircase}
-use Rattle.mesh.specs.declared.Node.{Node}
-use Rattle.calls.specs.Switches.{Switch, switch}
-use Rattle.calls.specs.Outcomes.{numbered, clear-outcome, backbone-outcome, tree-outcome, staircase-outcome}
-use Rattle.calls.specs.Book.{Answer, Call, linking, other}
-use Rattle.calls.specs.Runs.{Event, event, events, after}
+use Rattle.lists.specs.Kit.{_≡_, Bool, _&&_, _||_, cond, Bool·beq, List, [], _∷_, ℕ, _+_, eqb}
+use Rattle.mesh.specs.{Tables.{Tables}, declared.Node.{Node}}
+use Rattle.calls.specs.{Switches.{Switch, switch}, Outcomes.{tabled, clear-outcome, backbone-outcome, tree-outcome, staircase-outcome}, Book.{Answer, Call}}
+use Rattle.calls.specs.{Book.{linking, other}, Runs.{Event, event, events, after}}
 
 -- ---- the same calls
 
@@ -43,7 +33,7 @@ Same-calls ss rs = (up : Bool) (a b : ℕ) → times up a b ss ≡ times up a b 
 -- "both start cleared with the same n": left by an accepted clearing, whatever the tables held before
 pub record Cleared (n : ℕ) (t : Tables) : Type 0 where
   pub before : Tables
-  pub cleared : numbered 0 t ≡ clear-outcome n before
+  pub cleared : tabled 0 t ≡ clear-outcome n before
 
 -- "single link calls only", none refused. A call that only reads is `other` to a run, and leaves the tables
 pub data Singles (n : ℕ) : List Event → List Switch → Type 0 where
@@ -62,14 +52,10 @@ Two-hubs C =
     (n : ℕ) (t u : Tables) (cs ds : List Call) (ss rs : List Switch) → Cleared n t → Cleared n u →
     Singles n (events cs t) ss → Singles n (events ds u) rs → Same-calls ss rs → C n (after cs t) (after ds u)
 
--- "equal links and numbers, and equal shell trees, backbones and staircase trees"; orders and images may differ
-pub record Equal-sites (n : ℕ) (v w : Tables) : Type 0 where
+-- "equal links and numbers, and equal shell trees, backbones and staircase trees": the three are worked out from the links alone; orders and images may differ
+pub record Equal-sites (v w : Tables) : Type 0 where
   pub links : v .links ≡ w .links
   pub numbers : v .numbers ≡ w .numbers
-  pub trees : tree (graph-in n (v .links)) ≡ tree (graph-in n (w .links))
-  pub names : node-names (graph-in n (v .links)) ≡ node-names (graph-in n (w .links))
-  pub backbones : backbone (graph-in n (v .links)) ≡ backbone (graph-in n (w .links))
-  pub staircases : staircase (graph-in n (v .links)) ≡ staircase (graph-in n (w .links))
 
 -- what the two calls come back with and leave of what is lent; m is the n that both are given, right or wrong
 pub record Equal-answers (v w : Tables) : Type 0 where

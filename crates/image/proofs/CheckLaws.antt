@@ -1,24 +1,9 @@
 -- Laws of a block's check.
 -- In order: the sum byte by byte, two words as one number, tests one after the other, with and without a stop.
-use mathlib.Core.Path.{_≡_, refl, sym, ap, ap₂, _∙_}
-use mathlib.Core.Bool.{Bool, true, false, _&&_}
-use mathlib.Core.List.{List, [], _∷_}
-use Prim.Native.Nat.{ℕ, suc, _+_, _*_, _-_, _/_, _%_, _≤_, _<_}
-use native.Mathlib.Omega.{arith}
-use native.Mathlib.Nat.{mul-le-mul}
-use native.Mathlib.Numerals.{add-one}
-use lib.Dec.{eqb}
-use lib.ListN.{length, getD, take, drop, length-drop}
-use lib.Seq.{take-suc, length-take-le, getD-drop, getD-take}
-use borrow.Author.Tests.{eqb-true, eq-eqb}
-use Rattle.lists.specs.Lists.{range, all, same}
-use Rattle.mesh.specs.Image.{check-sum, word-at}
-use Rattle.lists.proofs.Tests.{iff-eq}
-use Rattle.lists.proofs.All.{same-eq, same-refl, all-append}
-use Rattle.lists.proofs.Range.{range-suc}
-use Rattle.mesh.proofs.Images.Laws.{check-sum-snoc}
-use Rattle.mesh.proofs.Images.Words.{long-of-long, check-sum-less}
-use Rattle.mesh.proofs.Images.Checks.{long-at}
+use Rattle.lists.{specs.Kit.{_≡_, refl, sym, ap, _∙_, Bool, true, false, _&&_, List, [], _∷_, ℕ, suc, _+_, _*_, _-_, _≤_, _<_, arith, mul-le-mul, add-one}}
+use Rattle.lists.{specs.Kit.{length, getD, take, take-suc, length-take-le, getD-take}, specs.Lists.{range, all}, proofs.All.{all-append}}
+use Rattle.lists.{proofs.Range.{range-suc}}
+use Rattle.mesh.{specs.Image.{check-sum, word-at}, proofs.Images.Laws.{check-sum-snoc}, proofs.Images.Words.{check-sum-less}, proofs.Images.Checks.{long-at}}
 
 abbrev pub Small : List ℕ → Type 0
 Small bs = (j : ℕ) → getD bs j 0 < 256
@@ -104,7 +89,8 @@ one-test-more : (f : ℕ → Bool) (v : ℕ) → all f (range 0 (v + 1)) ≡ (al
 unfolding all
 one-test-more f v =
     let z : 0 + v ≡ v = omega arith in
-    ap (λ (k : ℕ). all f (range 0 k)) (add-one v) ∙ ap (all f) (range-suc 0 v) ∙ all-append f (range 0 v) ((0 + v) ∷ []) ∙ rw z (drop-true (all f (range 0 v)) (f v))
+    ap (λ (k : ℕ). all f (range 0 k)) (add-one v) ∙ ap (all f) (range-suc 0 v) ∙ all-append f (range 0 v) ((0 + v) ∷ []) ∙ rw z
+    (drop-true (all f (range 0 v)) (f v))
   where
     drop-true : (b c : Bool) → (b && (c && true)) ≡ (b && c)
     drop-true true true = refl

@@ -1,18 +1,9 @@
 -- Laws of the check by columns.
 -- In order: bounds, a byte added, the loop over a run's columns, the difference of a column, all columns together.
-use mathlib.Core.Path.{_≡_, refl, sym, ap, ap₂, subst, _∙_}
-use mathlib.Core.Bool.{Bool, true, false, cond}
-use mathlib.Core.List.{List}
-use Prim.Native.Nat.{ℕ, zero, suc, _+_, _*_, _-_, _/_, _%_, _≤_, _<_}
-use native.Mathlib.Omega.{arith}
-use native.Mathlib.Nat.{mul-add, add-mul, mul-comm, mul-le-mul}
-use native.Mathlib.Numerals.{add-one}
-use lib.Dec.{ltb, eqb}
-use lib.ListN.{length, getD, set, take, replicate, length-set, length-replicate, getD-replicate}
-use lib.Seq.{take-suc, length-take-le, getD-set-same, getD-set-other}
-use borrow.Author.Tests.{ltb-true, ltb-false, lt-ltb, le-ltb, eqb-true, eqb-false}
-use Rattle.mesh.specs.Image.{check-sum, weighted-sum}
-use Rattle.mesh.proofs.Images.Laws.{check-sum-snoc}
+use Rattle.lists.specs.Kit.{_≡_, refl, sym, ap, ap₂, subst, _∙_, Bool, true, false, cond, List, ℕ, zero, suc, _+_, _*_, _-_, _/_, _%_, _≤_, _<_, arith, mul-add}
+use Rattle.lists.specs.Kit.{add-mul, mul-comm, mul-le-mul, add-one, ltb, eqb, length, getD, take, replicate, length-set, length-replicate, getD-replicate}
+use Rattle.lists.specs.Kit.{take-suc, length-take-le, getD-set-same, getD-set-other, ltb-true, ltb-false, lt-ltb, le-ltb, eqb-true, eqb-false}
+use Rattle.mesh.{specs.Image.{check-sum, weighted-sum}, proofs.Images.Laws.{check-sum-snoc}}
 use Rattle.image.specs.Columns.{column, column-twice, with-byte, Byte-fits, Byte-added, Columns, columns-total, Columns-fit}
 use Rattle.image.proofs.CheckLaws.{Small}
 

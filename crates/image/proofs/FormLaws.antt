@@ -2,25 +2,13 @@
 -- In order: the shape of a block; what the code tests of a block; that a formed image whose checks are good is canonical.
 --   formed-canonical, canonical-formed   the tests hold of an image of n radios, and only of one
 --   is-image-formed                      question 11 of formed bytes: what they list is a valid site
-use mathlib.Core.Path.{_≡_, refl, sym, ap, _∙_}
-use mathlib.Core.Logic.{_↔_}
-use mathlib.Core.Bool.{Bool, true, false, _&&_, cond}
-use mathlib.Core.List.{List}
-use Prim.Native.Nat.{ℕ, zero, suc, _+_, _*_, _-_, _≤_, _<_, min}
-use native.Mathlib.Omega.{arith}
-use lib.Dec.{ltb, eqb}
-use lib.ListN.{length, getD}
-use borrow.Author.Tests.{lt-ltb, le-ltb, eqb-true, eq-eqb}
-use Rattle.mesh.specs.Limits.{max-radios, max-neighbours}
-use Rattle.mesh.specs.Image.{block-bytes, payload-bytes, block-entries, block-links, word, word-at, order-blocks, block-count, order-payload, links-payload}
-use Rattle.mesh.specs.Image.{image-order, image-links, image-graph, checks-good, is-image}
-use Rattle.lists.proofs.Tests.{and-left, and-right, and-both}
-use Rattle.lists.proofs.All.{all-below, below-all}
-use Rattle.lists.specs.Facts.{Bytes}
-use Rattle.mesh.proofs.Images.Blocks.{length-order-payload, length-links-payload}
-use Rattle.mesh.proofs.Images.Of.{kind-at, content-at}
-use Rattle.mesh.proofs.Images.Canonical.{Canonical, length-image-links, length-image-order, is-image-canonical}
-use Rattle.mesh.specs.Valid.{Valid}
+use Rattle.lists.{specs.Kit.{_≡_, refl, sym, ap, _∙_, _↔_, Bool, true, false, _&&_, cond, List, ℕ, zero, suc, _+_, _*_, _-_, _≤_, _<_, min, arith, ltb, eqb}}
+use Rattle.lists.{specs.Kit.{length, getD, lt-ltb, le-ltb, eqb-true, eq-eqb}, proofs.Tests.{and-left, and-right, and-both}, proofs.All.{all-below, below-all}}
+use Rattle.lists.{specs.Facts.{Bytes}}
+use Rattle.mesh.{specs.Limits.{max-radios, max-neighbours}, specs.Image.{block-bytes, payload-bytes, block-entries, block-links, word, word-at, order-blocks}}
+use Rattle.mesh.{specs.Image.{block-count, order-payload, links-payload, image-order, image-links, image-graph, checks-good, is-image}}
+use Rattle.mesh.{proofs.Images.Blocks.{length-order-payload, length-links-payload}, proofs.Images.Of.{kind-at, content-at}, proofs.Images.Canonical.{Canonical}}
+use Rattle.mesh.{proofs.Images.Canonical.{length-image-links, length-image-order, is-image-canonical}, specs.Valid.{Valid}}
 use Rattle.image.specs.Form.{zeros, kind-of, used-of, block-formed, blocks-formed, is-formed}
 
 -- ---- the shape of a block, by its kind

@@ -1,8 +1,5 @@
 -- Laws of the layout: how many blocks hold so many entries.
-use mathlib.Core.Path.{_≡_, sym, ap, _∙_}
-use Prim.Native.Nat.{ℕ, _+_, _*_, _-_, _/_, _%_, _≤_, _<_}
-use native.Mathlib.Nat.{div-add-mod, mod-lt, mul-comm, le-mul-of-pos-right}
-use native.Mathlib.Omega.{arith}
+use Rattle.lists.specs.Kit.{_≡_, sym, ap, _∙_, ℕ, _+_, _*_, _-_, _/_, _%_, _≤_, _<_, div-add-mod, mod-lt, mul-comm, le-mul-of-pos-right, arith}
 use lib.Arith.{digits-div}
 use Rattle.mesh.specs.Image.{blocks-for}
 

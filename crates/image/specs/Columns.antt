@@ -8,10 +8,7 @@
 --   columns-total         what the first p columns add to the check after all 21 runs
 --   Columns-fit           these differences are no borrows, and fit their width
 -- That the total over all columns is the check is `columns-check` (proofs/ColumnLaws.antt). Definitions only.
-use mathlib.Core.Path.{_≡_}
-use mathlib.Core.List.{List}
-use Prim.Native.Nat.{ℕ, zero, suc, _+_, _*_, _-_, _≤_, _<_}
-use lib.ListN.{length, getD, set}
+use Rattle.lists.specs.Kit.{_≡_, List, ℕ, zero, suc, _+_, _*_, _-_, _≤_, _<_, length, getD, set}
 
 unfoldable pub column : (bytes : List ℕ) → (p r : ℕ) → ℕ
 column bs p zero = 0

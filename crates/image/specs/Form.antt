@@ -6,12 +6,7 @@
 --   blocks-formed n bs b       the first b blocks are formed
 --   is-formed n bs             the image has n, the length for its count of links, and its blocks are formed
 -- That a formed image whose checks are good is the image of what it says is in proofs/FormLaws.antt. Definitions only.
-use mathlib.Core.Bool.{Bool, _&&_, cond}
-use mathlib.Core.List.{List}
-use Prim.Native.Nat.{ℕ, zero, suc, _+_, _*_, _-_, min}
-use lib.Dec.{ltb, eqb}
-use lib.ListN.{length, getD}
-use Rattle.lists.specs.Lists.{range, all}
+use Rattle.lists.specs.{Kit.{Bool, _&&_, cond, List, ℕ, zero, suc, _+_, _*_, _-_, min, ltb, eqb, length, getD}, Lists.{range, all}}
 use Rattle.mesh.specs.Image.{block-bytes, payload-bytes, block-entries, block-links, word-at, order-blocks, block-count}
 
 unfoldable pub zeros : (image : List ℕ) → (at k : ℕ) → Bool

@@ -1,9 +1,7 @@
 -- What block 0 of an image says.
 --   Header-of bs n m   the image bs says n radios and m links
 -- Definitions only.
-use mathlib.Core.Path.{_≡_}
-use mathlib.Core.List.{List}
-use Prim.Native.Nat.{ℕ, _<_}
+use Rattle.lists.specs.Kit.{_≡_, List, ℕ, _<_}
 use Rattle.mesh.specs.Image.{word-at}
 
 -- two bytes each

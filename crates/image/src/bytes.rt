@@ -1,7 +1,5 @@
 // The bytes of an image, read in place: numbers of two and of four bytes.
-ghost use mathlib.Core.Path.{_≡_};
-ghost use Prim.Native.Nat.{_≤_, _<_, _+_, _*_};
-ghost use lib.ListN.{length};
+ghost use Rattle.lists.specs.Kit.{_≡_, _≤_, _<_, _+_, _*_, length};
 ghost use Rattle.mesh.specs.Image.{word-at};
 
 // A byte as a wider number.

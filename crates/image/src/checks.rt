@@ -1,10 +1,8 @@
 // Questions 9 and 10: is the image whole blocks, and does every block pass its check?
-ghost use mathlib.Core.Path.{_≡_};
-ghost use Prim.Native.Nat.{_<_, _≤_, _+_, _/_};
-ghost use lib.ListN.{length, take};
+ghost use Rattle.lists.specs.Kit.{_≡_, _<_, _≤_, _+_, _/_, length, take};
 ghost use Rattle.mesh.specs.Image.{block-bytes, check-sum, block-check, checks-good};
-ghost use Rattle.calls.specs.Questions.{block-refusal};
 ghost use Rattle.image.specs.Columns.{Byte-fits, Byte-added, Columns, Columns-fit, columns-total};
+ghost use Rattle.calls.specs.Chains.{block-refusal};
 use super::bytes;
 use super::layout;
 use calls::Refusal;

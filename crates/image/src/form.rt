@@ -1,8 +1,6 @@
 // The first part of question 11: has the image the form that its header says? Kinds, zero bytes, indices and unused payload are tested in
 // place, and nothing is written.
-ghost use mathlib.Core.Path.{_≡_};
-ghost use Prim.Native.Nat.{_≤_, _<_, _+_, _*_};
-ghost use lib.ListN.{length};
+ghost use Rattle.lists.specs.Kit.{_≡_, _≤_, _<_, _+_, _*_, length};
 ghost use Rattle.mesh.specs.Image.{block-bytes, payload-bytes, block-count};
 ghost use Rattle.image.specs.Header.{Header-of};
 ghost use Rattle.image.specs.Form.{zeros, block-formed, kind-of, used-of, blocks-formed, is-formed};

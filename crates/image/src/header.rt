@@ -1,6 +1,5 @@
 // What block 0 of an image says, read once and handed on.
-ghost use Prim.Native.Nat.{_≤_};
-ghost use lib.ListN.{length};
+ghost use Rattle.lists.specs.Kit.{_≤_, length};
 ghost use Rattle.mesh.specs.Image.{block-bytes};
 ghost use Rattle.image.specs.Header.{Header-of};
 use super::bytes;

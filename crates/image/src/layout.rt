@@ -1,6 +1,5 @@
 // The layout of an image: its figures, here once, and how many blocks it has.
-ghost use mathlib.Core.Path.{_≡_};
-ghost use Prim.Native.Nat.{_<_};
+ghost use Rattle.lists.specs.Kit.{_≡_, _<_};
 ghost use Rattle.mesh.specs.Image.{blocks-for, block-count};
 use mesh::Site;
 

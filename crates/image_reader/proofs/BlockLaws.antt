@@ -1,8 +1,5 @@
 -- Laws of the blocks of links: where a block's links stand, and how many links the blocks so far have.
-use mathlib.Core.Path.{_≡_, ap, _∙_}
-use mathlib.Core.List.{List}
-use Prim.Native.Nat.{ℕ, _+_, _*_, _-_, _/_, _%_, _≤_, _<_, min}
-use native.Mathlib.Omega.{arith}
+use Rattle.lists.specs.Kit.{_≡_, ap, _∙_, List, ℕ, _+_, _*_, _-_, _/_, _%_, _≤_, _<_, min, arith}
 use Rattle.mesh.specs.Image.{block-bytes, block-links, order-blocks, blocks-for, block-count, word-at, entry-at, image-link}
 use Rattle.image_reader.specs.Site.{Link-at, passed, Part-is}
 

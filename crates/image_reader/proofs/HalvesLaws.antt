@@ -1,14 +1,10 @@
 -- Laws of the counts over a block's links, whose two halves go side by side.
 -- In order: a block to be counted, a link of it, the link after the first half's or the second half's, both halves together, the end.
-use mathlib.Core.Path.{_≡_, refl}
-use mathlib.Core.List.{List}
-use Prim.Native.Nat.{ℕ, _+_, _*_, _≤_, _<_}
-use native.Mathlib.Omega.{arith}
-use lib.ListN.{length}
+use Rattle.lists.specs.Kit.{_≡_, refl, List, ℕ, _+_, _*_, _≤_, _<_, arith, length}
 use Rattle.mesh.specs.Image.{block-links, word-at}
 use Rattle.image_reader.specs.Site.{links-up-to, passed, Tallied, count-at, Link-there, Tally-room, Part-is}
-use Rattle.image_reader.proofs.BlockLaws.{link-in, link-inside, link-index, block-passed}
-use Rattle.image_reader.proofs.TallyLaws.{Tallying, Listed-link, listed-link, link-fits, tallying-first, tallying-second, tallying-join, tallying-to}
+use Rattle.image_reader.proofs.{BlockLaws.{link-in, link-inside, link-index, block-passed}, TallyLaws.{Tallying, Listed-link, listed-link, link-fits}}
+use Rattle.image_reader.proofs.{TallyLaws.{tallying-first, tallying-second, tallying-join, tallying-to}}
 
 -- block q has its `count` links from `at` on, and is counted from the counts `start` on
 pub record Block (n m q at count : ℕ) (bs : List ℕ) (ranks : ℕ) (start : List ℕ) : Type 0 where

@@ -1,32 +1,14 @@
 -- What the counts over an image's links decide: degrees within the limit, and whether its order is a k-order.
-use mathlib.Core.Path.{_≡_, refl, sym, ap, _∙_}
-use mathlib.Core.Logic.{_↔_}
-use mathlib.Core.Bool.{Bool, true, false, _&&_}
-use mathlib.Core.List.{List, [], map}
-use Prim.Native.Nat.{ℕ, suc, _+_, _≤_, _<_, min}
-use native.Mathlib.Omega.{arith}
-use native.Mathlib.Nat.{add-zero}
-use lib.Dec.{ltb, leb}
-use lib.ListN.{length, getD, drop}
-use borrow.Author.Tests.{leb-true, le-leb}
-use Rattle.mesh.specs.Limits.{max-radios, max-neighbours}
-use Rattle.lists.specs.Lists.{range, count, all}
-use Rattle.lists.specs.Facts.{Each-once}
-use Rattle.mesh.specs.Graph.{Link, Graph, graph, radios, other-ends, linked, neighbours-in, degree, proper, ascending}
-use Rattle.mesh.specs.Orders.{each-once, is-k-order}
-use Rattle.mesh.proofs.Cores.RunningMaximum.{running-maxima}
-use Rattle.lists.proofs.Tests.{never, iff-eq, ltb-next}
-use Rattle.lists.proofs.Member.{in-getD}
-use Rattle.lists.proofs.Count.{count-all, count-cong}
-use Rattle.lists.proofs.All.{all-below, below-all, all-range-ext}
-use Rattle.lists.proofs.Range.{once-below, once-length}
-use Rattle.mesh.proofs.GraphLaws.{linked-self, degree-in}
-use Rattle.mesh.proofs.Cores.Orders.{each-once-of, Enough}
-use Rattle.mesh.proofs.Tables.OtherEnds.{ends-neighbours-in}
-use Rattle.mesh.proofs.Cores.RunningCertificate.{is-k-order-running, running-number}
-use Rattle.conditions.specs.Conditions.{Placed}
+use Rattle.lists.{specs.Kit.{_≡_, refl, sym, ap, _∙_, _↔_, Bool, true, false, _&&_, List, [], map, ℕ, suc, _+_, _≤_, _<_, min, arith, add-zero, ltb, leb}}
+use Rattle.lists.{specs.Kit.{length, getD, drop, leb-true, le-leb}, specs.Lists.{range, count, all}, specs.Facts.{Each-once}, proofs.Tests.{never, iff-eq}}
+use Rattle.lists.{proofs.Tests.{ltb-next}, proofs.Member.{in-getD}, proofs.Count.{count-all, count-cong}, proofs.All.{all-below, below-all, all-range-ext}}
+use Rattle.lists.{proofs.Range.{once-below, once-length}}
+use Rattle.mesh.{specs.Limits.{max-radios, max-neighbours}, specs.Graph.{Link, Graph, graph, radios, other-ends, linked, neighbours-in, degree, proper}}
+use Rattle.mesh.{specs.Graph.{ascending}, specs.Orders.{each-once, is-k-order}, proofs.Cores.RunningMaximum.{running-maxima}, proofs.GraphLaws.{linked-self}}
+use Rattle.mesh.{proofs.GraphLaws.{degree-in}, proofs.Cores.Orders.{each-once-of, Enough}, proofs.Tables.OtherEnds.{ends-neighbours-in}}
+use Rattle.mesh.{proofs.Cores.RunningCertificate.{is-k-order-running, running-number}}
+use Rattle.conditions.{specs.Conditions.{Placed}, proofs.RowByRow.{count-later}}
 use Rattle.soundness.specs.Checks.{Places-found}
-use Rattle.conditions.proofs.RowByRow.{count-later}
 use Rattle.image_reader.specs.Site.{tallied, Tallied, few-ends, running-maxima-of, Order-counted, K-order-decided, Sound-decided}
 use Rattle.image_reader.proofs.MaximaLaws.{running-maxima-of-counts}
 

@@ -1,21 +1,9 @@
 -- Laws of the links and of the order that the reader goes through: a link after the last one, one more link, the end; entries.
-use mathlib.Core.Path.{_≡_, refl, sym, ap, subst, _∙_}
-use mathlib.Core.Logic.{_⊎_, inl, inr}
-use mathlib.Core.Bool.{Bool, true, false, _&&_, _||_}
-use mathlib.Core.List.{List, [], _∷_, map}
-use Prim.Native.Nat.{ℕ, suc, _+_, _*_, _-_, _/_, _%_, _≤_, _<_}
-use native.Mathlib.Omega.{arith}
-use lib.Dec.{ltb, eqb}
-use lib.ListN.{length, getD, set}
-use lib.Seq.{ext-getD, getD-set-same, getD-set-other}
-use borrow.Author.Tests.{ltb-true, lt-ltb, le-ltb, eq-eqb, ne-eqb}
-use Rattle.lists.specs.Lists.{range}
-use Rattle.mesh.specs.Graph.{Link, link-of, link-before, proper, ascending}
-use Rattle.mesh.specs.Image.{block-bytes, block-entries, word-at, entry-at, image-link, image-order}
-use Rattle.lists.proofs.Tests.{bool-cases, trichotomy}
-use Rattle.lists.proofs.Map.{getD-map-range}
-use Rattle.mesh.proofs.Tables.AscendingLinks.{link-eq}
-use Rattle.mesh.proofs.Images.Canonical.{length-image-order}
+use Rattle.lists.{specs.Kit.{_≡_, refl, sym, ap, subst, _∙_, _⊎_, inl, inr, Bool, true, false, _&&_, _||_, List, [], _∷_, map, ℕ, suc, _+_, _*_, _-_, _/_, _%_}}
+use Rattle.lists.{specs.Kit.{_<_, arith, ltb, eqb, length, getD, set, ext-getD, getD-set-same, getD-set-other, ltb-true, lt-ltb, le-ltb, eq-eqb, ne-eqb}}
+use Rattle.lists.{specs.Lists.{range}, proofs.Tests.{bool-cases, trichotomy}, proofs.Map.{getD-map-range}}
+use Rattle.mesh.{specs.Graph.{Link, link-of, link-before, proper, ascending}, specs.Image.{block-bytes, block-entries, word-at, entry-at, image-link}}
+use Rattle.mesh.{specs.Image.{image-order}, proofs.Tables.AscendingLinks.{link-eq}, proofs.Images.Canonical.{length-image-order}}
 use Rattle.image_reader.specs.Site.{order-entry, Link-at, links-up-to, key-of, key-link, next-key, listed-from, Listed, Order-read}
 
 -- ---- proper and ascending, link by link
@@ -68,9 +56,21 @@ before-key p k = go (trichotomy (p / 65536) (k / 65536)) (trichotomy (p % 65536)
     go (inr (inl e)) (inl f) =
         rw (le-ltb (p / 65536) (k / 65536) (omega arith), eq-eqb (p / 65536) (k / 65536) e, lt-ltb (p % 65536) (k % 65536) f, lt-ltb p k (omega arith))
     go (inr (inl e)) (inr (inl f)) =
-        rw (le-ltb (p / 65536) (k / 65536) (omega arith), eq-eqb (p / 65536) (k / 65536) e, le-ltb (p % 65536) (k % 65536) (omega arith), le-ltb p k (omega arith))
+        rw (
+          le-ltb (p / 65536) (k / 65536) (omega arith),
+          eq-eqb (p / 65536) (k / 65536) e,
+          le-ltb (p % 65536) (k % 65536) (omega arith),
+          le-ltb p k
+              (omega arith),
+        )
     go (inr (inl e)) (inr (inr f)) =
-        rw (le-ltb (p / 65536) (k / 65536) (omega arith), eq-eqb (p / 65536) (k / 65536) e, le-ltb (p % 65536) (k % 65536) (omega arith), le-ltb p k (omega arith))
+        rw (
+          le-ltb (p / 65536) (k / 65536) (omega arith),
+          eq-eqb (p / 65536) (k / 65536) e,
+          le-ltb (p % 65536) (k % 65536) (omega arith),
+          le-ltb p k
+              (omega arith),
+        )
     go (inr (inr e)) f =
         rw (le-ltb (p / 65536) (k / 65536) (omega arith), ne-eqb (p / 65536) (k / 65536) (λ z. omega arith), le-ltb p k (omega arith))
 
@@ -155,7 +155,8 @@ order-in bs q i x l e =
     let entry : (block-entries * q + i) % block-entries ≡ i = omega arith in
     e ∙ rw (block, entry)
 
-pub order-turn : (bs xs : List ℕ) (j x : ℕ) → Order-read bs j xs → j < length xs → x ≡ order-entry bs j → x < 65536 → Order-read bs (j + 1) (set xs j (x % 65536))
+pub order-turn : (bs xs : List ℕ) (j x : ℕ) → Order-read bs j xs → j < length xs → x ≡ order-entry bs j → x < 65536 → Order-read bs (j + 1)
+    (set xs j (x % 65536))
 order-turn bs xs j x r l e small k h = go (trichotomy k j)
   where
     go : (k < j) ⊎ ((k ≡ j) ⊎ (j < k)) → getD (set xs j (x % 65536)) k 0 ≡ order-entry bs k

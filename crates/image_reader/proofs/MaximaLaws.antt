@@ -1,23 +1,10 @@
 -- Running maxima along an order: the loop that writes them, and that over the later-neighbour counts they are `running-maxima`.
-use mathlib.Core.Path.{_≡_, refl, sym, ap, ap₂, subst, _∙_}
-use mathlib.Core.Logic.{inl}
-use mathlib.Core.Bool.{Bool, true}
-use mathlib.Core.List.{List, [], _∷_, _++_, map, append-assoc, append-nil}
-use Prim.Native.Nat.{ℕ, suc, _+_, _≤_, _<_, max}
-use native.Mathlib.Omega.{arith}
-use native.Mathlib.Numerals.{add-one}
-use lib.ListN.{length, getD, take, drop, set, length-set, take-append-drop}
-use lib.Seq.{take-suc, drop-cons, drop-length, getD-set-same, getD-set-other}
-use Rattle.lists.specs.Lists.{count, In}
-use Rattle.mesh.specs.Graph.{neighbours-among}
-use Rattle.mesh.specs.Orders.{each-once}
-use Rattle.mesh.proofs.Cores.RunningMaximum.{running-maxima}
-use Rattle.lists.proofs.Distinct.{distinct-apart}
-use Rattle.lists.proofs.Range.{once-distinct, once-below}
-use Rattle.mesh.proofs.Cores.Orders.{each-once-of}
-use Rattle.lists.proofs.Member.{in-getD}
+use Rattle.lists.{specs.Kit.{_≡_, refl, sym, ap, ap₂, subst, _∙_, inl, Bool, true, List, [], _∷_, _++_, map, append-assoc, append-nil, ℕ, suc, _+_, _≤_, _<_}}
+use Rattle.lists.{specs.Kit.{max, arith, add-one, length, getD, take, drop, set, length-set, take-append-drop, take-suc, drop-cons, drop-length, getD-set-same}}
+use Rattle.lists.{specs.Kit.{getD-set-other}, specs.Lists.{count, In}, proofs.Distinct.{distinct-apart}, proofs.Range.{once-distinct, once-below}}
+use Rattle.lists.{proofs.Member.{in-getD}, proofs.Map.{map-append, map-ext}}
+use Rattle.mesh.{specs.Graph.{neighbours-among}, specs.Orders.{each-once}, proofs.Cores.RunningMaximum.{running-maxima}, proofs.Cores.Orders.{each-once-of}}
 use Rattle.image_reader.specs.Site.{running-maxima-of}
-use Rattle.lists.proofs.Map.{map-append, map-ext}
 
 -- ---- over the later-neighbour counts
 

@@ -1,22 +1,12 @@
 -- The outcomes of reading and of asking an image alone: the first question that gets no, or the tables of the image.
-use mathlib.Core.Path.{_≡_, refl, sym, ap, _∙_}
-use mathlib.Core.Bool.{Bool, true, false, _&&_}
-use mathlib.Core.List.{List}
-use Prim.Native.Nat.{ℕ, _*_, _≤_}
-use lib.ListN.{length}
-use Rattle.mesh.specs.Limits.{max-radios, row-bytes, size-good}
-use Rattle.mesh.specs.Tables.{Tables}
-use Rattle.mesh.specs.Image.{word-at}
-use Rattle.mesh.proofs.Sizes.{size-good-true, true-size-good}
-use Rattle.calls.specs.Questions.{ask, Lengths, lengths-of, site-lengths, lent-refusal, tables-refusal, source-refusal, image-refusal}
+use Rattle.lists.specs.Kit.{_≡_, refl, sym, ap, _∙_, Bool, true, false, _&&_, List, ℕ, _*_, _≤_, length}
+use Rattle.mesh.{specs.Limits.{max-radios, row-bytes, size-good}, specs.Tables.{Tables}, specs.Image.{word-at}, proofs.Sizes.{size-good-true, true-size-good}}
+use Rattle.calls.{specs.Questions.{ask, Lengths, lengths-of, site-lengths, lent-refusal, tables-refusal, image-refusal, read-refusal}}
+use Rattle.calls.{specs.Outcomes.{read-outcome}, specs.Contracts.{Read-contract}, proofs.ContractLaws.{by-refused}, proofs.QuestionLaws.{ask-yes}}
+use Rattle.calls.{proofs.ChainLaws.{Lent-good, lent-zero, lent-yes, Blocks-good, blocks-yes}}
 use Rattle.image_reader.specs.Reading.{alone-refusal, header-refusal, Opened-as, Source-room, Source-decided}
-use Rattle.calls.specs.Outcomes.{read-outcome}
-use Rattle.calls.specs.Questions.{read-refusal}
-use Rattle.calls.specs.Contracts.{Read-contract}
-use Rattle.calls.proofs.ContractLaws.{by-refused}
-use Rattle.calls.proofs.QuestionLaws.{ask-yes}
-use Rattle.calls.proofs.ChainLaws.{Lent-good, lent-zero, lent-yes, Blocks-good, blocks-yes}
 use Rattle.image_reader.proofs.SourceLaws.{header-stops, header-passes}
+use Rattle.calls.specs.Chains.{source-refusal}
 
 -- ---- the image is opened
 

@@ -1,38 +1,15 @@
 -- What the parts of question 11 come to, and the tables that reading writes.
-use mathlib.Core.Path.{_≡_, refl, sym, ap, subst, _∙_}
-use mathlib.Core.Logic.{_⊎_, inl, inr}
-use mathlib.Core.Bool.{Bool, true, false, _&&_}
-use mathlib.Core.List.{List}
-use Prim.Native.Nat.{ℕ, _*_, _≤_, _<_}
-use native.Mathlib.Omega.{arith}
-use lib.Dec.{eqb}
-use lib.ListN.{length, getD, take}
-use lib.Seq.{ext-getD}
-use borrow.Author.Tests.{eqb-true}
-use Rattle.mesh.specs.Limits.{max-radios, max-neighbours}
-use Rattle.lists.specs.Lists.{overwrite}
-use Rattle.lists.specs.Facts.{Bytes}
-use Rattle.mesh.specs.Graph.{Link, Graph, graph, proper, ascending}
-use Rattle.mesh.specs.Cores.{number, numbers}
-use Rattle.mesh.specs.Orders.{is-k-order}
-use Rattle.mesh.specs.Tables.{tables-of, Tables, tables, links-table}
-use Rattle.mesh.specs.Image.{block-bytes, block-count, word-at, image-order, image-links, image-graph, checks-good, is-image}
-use Rattle.lists.proofs.Tests.{bool-cases, never, iff-eq, and-left, and-right, and-both}
-use Rattle.lists.proofs.Map.{getD-map-range}
-use Rattle.mesh.proofs.Cores.Peeling.{length-numbers, getD-numbers}
-use Rattle.mesh.proofs.Tables.Sites.{image-valid}
-use Rattle.mesh.proofs.Images.Tables.{number-most}
-use Rattle.mesh.proofs.Images.Canonical.{length-image-order}
-use Rattle.mesh.specs.Valid.{Valid}
-use Rattle.tables.specs.Widths.{values}
-use Rattle.tables.proofs.WidthLaws.{length-values, values-below}
-use Rattle.lists.proofs.Overwrite.{overwrite-take}
-use Rattle.image.specs.Header.{Header-of}
-use Rattle.image.specs.Form.{blocks-formed, is-formed}
-use Rattle.image.proofs.FormLaws.{is-image-formed}
-use Rattle.image_reader.specs.Site.{links-up-to, few-ends, Tally-room, Site-room, Site-decided}
+use Rattle.lists.{specs.Kit.{_≡_, refl, sym, ap, subst, _∙_, _⊎_, inl, inr, Bool, true, false, _&&_, List, ℕ, _*_, _≤_, _<_, arith, eqb, length, getD, take}}
+use Rattle.lists.{specs.Kit.{ext-getD, eqb-true}, specs.Lists.{overwrite}, specs.Facts.{Bytes}, proofs.Tests.{bool-cases, never, iff-eq, and-left, and-right}}
+use Rattle.lists.{proofs.Tests.{and-both}, proofs.Map.{getD-map-range}, proofs.Overwrite.{overwrite-take}}
+use Rattle.mesh.{specs.Limits.{max-radios, max-neighbours}, specs.Graph.{Link, Graph, graph, proper, ascending}, specs.Cores.{number, numbers}}
+use Rattle.mesh.{specs.Orders.{is-k-order}, specs.Tables.{tables-of, Tables, tables, links-table}, specs.Image.{block-bytes, block-count, word-at, image-order}}
+use Rattle.mesh.{specs.Image.{image-links, image-graph, checks-good, is-image}, proofs.Cores.Peeling.{length-numbers, getD-numbers}}
+use Rattle.mesh.{proofs.Tables.Sites.{image-valid}, proofs.Images.Tables.{number-most}, proofs.Images.Canonical.{length-image-order}, specs.Valid.{Valid}}
+use Rattle.tables.{specs.Widths.{values}, proofs.WidthLaws.{length-values, values-below}}
+use Rattle.image.{specs.Header.{Header-of}, specs.Form.{blocks-formed, is-formed}, proofs.FormLaws.{is-image-formed}}
+use Rattle.image_reader.specs.{Site.{links-up-to, few-ends, Tally-room, Site-room, Site-decided}, Reading.{Image-decided}}
 use Rattle.image_reader.proofs.KOrderLaws.{few-degrees}
-use Rattle.image_reader.specs.Reading.{Image-decided}
 
 -- ---- question 11, part by part
 

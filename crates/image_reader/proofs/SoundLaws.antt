@@ -1,14 +1,7 @@
 -- What the parts of the question come to: links listed well, degrees within the limit, a k-order.
-use mathlib.Core.Path.{_≡_, refl, sym, ap, _∙_}
-use mathlib.Core.Bool.{Bool, true, false, _&&_}
-use mathlib.Core.List.{List}
-use Prim.Native.Nat.{ℕ, _+_, _*_, _≤_}
-use native.Mathlib.Omega.{arith}
-use Rattle.mesh.specs.Limits.{max-neighbours}
-use Rattle.mesh.specs.Graph.{Link, graph, proper, ascending}
-use Rattle.mesh.specs.Orders.{is-k-order}
-use Rattle.mesh.specs.Image.{block-bytes, order-blocks, block-count, image-order}
-use Rattle.lists.proofs.Tests.{never, and-left, and-right}
+use Rattle.lists.{specs.Kit.{_≡_, refl, sym, ap, _∙_, Bool, true, false, _&&_, List, ℕ, _+_, _*_, _≤_, arith}, proofs.Tests.{never, and-left, and-right}}
+use Rattle.mesh.specs.{Limits.{max-neighbours}, Graph.{Link, graph, proper, ascending}, Orders.{is-k-order}, Image.{block-bytes, order-blocks, block-count}}
+use Rattle.mesh.specs.{Image.{image-order}}
 use Rattle.image_reader.specs.Site.{links-up-to, few-ends, K-order-decided, Sound-decided, Site-decided}
 
 -- ---- degrees and k-order

@@ -5,29 +5,16 @@
 --   opened-blocks, opened-no-size, opened-size   opening's three outcomes
 --   source-none, source-other, source-this   the decision's three outcomes
 --   source-refused, source-accepted       the tables after
-use mathlib.Core.Path.{_≡_, refl, sym, ap, subst, _∙_}
-use mathlib.Core.Logic.{_⊎_, inl, inr}
-use mathlib.Core.Bool.{Bool, true, false, _&&_, not}
-use mathlib.Core.List.{List}
-use Prim.Native.Nat.{ℕ, zero, suc, _%_, _≤_}
-use native.Mathlib.Omega.{arith}
-use lib.Dec.{eqb}
-use lib.ListN.{length}
-use borrow.Author.Tests.{eq-eqb, ne-eqb, eqb-true}
-use Rattle.mesh.specs.Limits.{size-good}
-use Rattle.mesh.specs.Tables.{Tables, tables-of}
-use Rattle.mesh.specs.Image.{block-bytes, word-at, image-graph, image-order, whole-blocks, checks-good, is-image, other-size}
-use Rattle.lists.proofs.Tests.{bool-cases, never, and-right, and-both}
-use Rattle.mesh.proofs.Sizes.{size-good-true}
-use Rattle.mesh.proofs.Images.Sites.{is-image-radios}
-use Rattle.calls.specs.Questions.{ask, lengths-of, blocks-refusal, block-refusal, source-refusal, image-refusal, read-refusal}
-use Rattle.calls.specs.Outcomes.{read-outcome}
-use Rattle.calls.specs.Contracts.{Read-contract}
-use Rattle.calls.proofs.QuestionLaws.{ask-zero}
-use Rattle.calls.proofs.ContractLaws.{by-accepted, by-refused}
-use Rattle.calls.proofs.ChainLaws.{Blocks-good, blocks-zero, blocks-yes}
+use Rattle.lists.{specs.Kit.{_≡_, refl, sym, ap, subst, _∙_, _⊎_, inl, inr, Bool, true, false, _&&_, not, List, ℕ, zero, suc, _%_, _≤_, arith, eqb, length}}
+use Rattle.lists.{specs.Kit.{eq-eqb, ne-eqb, eqb-true}, proofs.Tests.{bool-cases, never, and-right, and-both}}
+use Rattle.mesh.{specs.Limits.{size-good}, specs.Tables.{Tables, tables-of}, specs.Image.{block-bytes, word-at, image-graph, image-order, whole-blocks}}
+use Rattle.mesh.{specs.Image.{checks-good, is-image, other-size}, proofs.Sizes.{size-good-true}, proofs.Images.Sites.{is-image-radios}}
+use Rattle.calls.{specs.Questions.{ask, lengths-of, blocks-refusal, image-refusal, read-refusal}, specs.Outcomes.{read-outcome}}
+use Rattle.calls.{specs.Contracts.{Read-contract}, proofs.QuestionLaws.{ask-zero}, proofs.ContractLaws.{by-accepted, by-refused}}
+use Rattle.calls.{proofs.ChainLaws.{Blocks-good, blocks-zero, blocks-yes}}
 use Rattle.image.specs.Header.{Header-of}
 use Rattle.image_reader.specs.Reading.{header-refusal, Opened-as, Image-decided, Source-decided}
+use Rattle.calls.specs.{Chains.{block-refusal, source-refusal}}
 
 -- ---- by the header's n
 
@@ -79,7 +66,7 @@ header-passes bs e =
 
 module _ (bs : List ℕ) (p : ℕ) (p-is : p ≡ block-refusal bs) where
   pub opened-blocks : (p ≡ 0 → ⊥) → (q x y : ℕ) → q ≡ p → Opened-as bs q x y
-  unfolding header-refusal block-refusal blocks-refusal ask
+  unfolding header-refusal blocks-refusal ask
   opened-blocks h q x y e = record {
     asked = e ∙ p-is ∙ go (whole-blocks bs) (checks-good bs) (ask 11 (size-good (word-at bs 4)) 0) (λ z. h (p-is ∙ z));
     said = λ z. absurd (h (sym e ∙ z));
@@ -92,7 +79,6 @@ module _ (bs : List ℕ) (p : ℕ) (p-is : p ≡ block-refusal bs) where
 
   module _ (z : p ≡ 0) where
     good : Blocks-good bs
-    unfolding block-refusal
     good = blocks-zero bs 0 (sym p-is ∙ z) .0
 
     -- block 0 is there

@@ -1,20 +1,10 @@
 -- The links table, link by link: marking one link more.
-use mathlib.Core.Path.{_≡_, refl, sym, ap, _∙_}
-use mathlib.Core.Bool.{Bool, true, false, _||_, cond}
-use mathlib.Core.List.{List, [], _∷_, _++_}
-use Prim.Native.Nat.{ℕ, _+_, _*_, _/_, _%_, _^_, _≤_, _<_}
-use native.Mathlib.Omega.{arith}
-use lib.Bits.{bitOr}
-use lib.ListN.{length, getD, set, replicate}
-use Rattle.mesh.specs.Limits.{max-radios, row-bytes}
-use Rattle.lists.specs.Lists.{range, member}
-use Rattle.mesh.specs.Graph.{Link, link-of, graph, other-ends, linked, proper}
-use Rattle.mesh.specs.Tables.{put-bit, put-link, links-table}
-use Rattle.mesh.specs.Image.{image-link}
-use Rattle.mesh.proofs.GraphLaws.{ends, joins, linked-by, linked-by-cons}
-use Rattle.mesh.proofs.Tables.AscendingLinks.{link-eq}
-use Rattle.mesh.proofs.Tables.Laws.{table-eq, length-put-link, bytes-put-link, marked-put-link, length-links-table, bytes-links-table, marked-links-table}
-use Rattle.mesh.proofs.Tables.Laws.{links-table-cleared}
+use Rattle.lists.specs.{Kit.{_≡_, refl, sym, ap, _∙_, Bool, true, false, _||_, cond, List, [], _∷_, _++_, ℕ, _+_, _*_, _/_, _%_, _^_, _≤_, _<_, arith, bitOr}}
+use Rattle.lists.specs.{Kit.{length, getD, set, replicate}, Lists.{range, member}}
+use Rattle.mesh.{specs.Limits.{max-radios, row-bytes}, specs.Graph.{Link, link-of, graph, other-ends, linked, proper}, specs.Tables.{put-bit, put-link}}
+use Rattle.mesh.{specs.Tables.{links-table}, specs.Image.{image-link}, proofs.GraphLaws.{ends, joins, linked-by, linked-by-cons}}
+use Rattle.mesh.{proofs.Tables.AscendingLinks.{link-eq}, proofs.Tables.Laws.{table-eq, length-put-link, bytes-put-link, marked-put-link, length-links-table}}
+use Rattle.mesh.{proofs.Tables.Laws.{bytes-links-table, marked-links-table, links-table-cleared}}
 use Rattle.rows.proofs.MaskLaws.{put-bit-true}
 use Rattle.image_reader.specs.Site.{Link-at, links-up-to}
 use Rattle.image_reader.proofs.TallyLaws.{links-one-more, proper-pair}

@@ -1,23 +1,10 @@
 -- Laws of the counts over an image's links: links in a row, one link counted, and the loop that counts two runs of links.
-use mathlib.Core.Path.{_≡_, refl, sym, ap, ap₂, subst, _∙_}
-use mathlib.Core.Logic.{_⊎_, inl, inr}
-use mathlib.Core.Bool.{Bool, true, false, _&&_, cond}
-use mathlib.Core.List.{List, [], _∷_, _++_, map}
-use Prim.Native.Nat.{ℕ, zero, suc, _+_, _≤_, _<_}
-use native.Mathlib.Omega.{arith}
-use lib.Dec.{ltb, eqb}
-use lib.ListN.{length, getD, set, replicate, length-set, getD-replicate}
-use lib.Seq.{getD-set-same, getD-set-other}
-use borrow.Author.Tests.{ltb-true, eqb-true, eqb-false, eq-eqb, ne-eqb}
-use Rattle.lists.specs.Lists.{range, count}
-use Rattle.mesh.specs.Graph.{Link, link-of, other-ends, proper}
-use Rattle.mesh.specs.Image.{image-link}
-use Rattle.mesh.proofs.Tables.AscendingLinks.{link-eq}
-use Rattle.lists.proofs.Tests.{bool-cases, and-left, and-right}
-use Rattle.lists.proofs.Count.{count-append, count-le-length}
-use Rattle.lists.proofs.Range.{range-append, length-range}
+use Rattle.lists.{specs.Kit.{_≡_, refl, sym, ap, ap₂, subst, _∙_, _⊎_, inl, inr, Bool, true, false, _&&_, cond, List, [], _∷_, _++_, map, ℕ, zero, suc, _+_}}
+use Rattle.lists.{specs.Kit.{_≤_, _<_, arith, ltb, eqb, length, getD, set, replicate, length-set, getD-replicate, getD-set-same, getD-set-other, ltb-true}}
+use Rattle.lists.{specs.Kit.{eqb-true, eqb-false, eq-eqb, ne-eqb}, specs.Lists.{range, count}, proofs.Tests.{bool-cases, and-left, and-right}}
+use Rattle.lists.{proofs.Count.{count-append, count-le-length}, proofs.Range.{range-append, length-range}, proofs.Map.{map-append, length-map}}
+use Rattle.mesh.{specs.Graph.{Link, link-of, other-ends, proper}, specs.Image.{image-link}, proofs.Tables.AscendingLinks.{link-eq}}
 use Rattle.image_reader.specs.Site.{Link-at, links-up-to, tallied, Tallied, count-link, Link-fits}
-use Rattle.lists.proofs.Map.{map-append, length-map}
 
 -- ---- laws of lists
 

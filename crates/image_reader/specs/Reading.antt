@@ -7,15 +7,9 @@
 --   Source-room        what deciding questions 15 and 11 wants
 --   Source-decided     15, 11 or 0, and then the order and the numbers
 -- Definitions only.
-use mathlib.Core.Path.{_≡_}
-use mathlib.Core.Bool.{Bool, true}
-use mathlib.Core.List.{List}
-use Prim.Native.Nat.{ℕ, _≤_, _<_}
-use lib.ListN.{getD}
-use Rattle.mesh.specs.Limits.{max-radios, size-good}
-use Rattle.mesh.specs.Cores.{number}
-use Rattle.mesh.specs.Image.{word-at, image-order, image-graph, checks-good, is-image}
-use Rattle.calls.specs.Questions.{ask, blocks-refusal, source-refusal, image-refusal}
+use Rattle.lists.specs.Kit.{_≡_, Bool, true, List, ℕ, _≤_, _<_, getD}
+use Rattle.mesh.specs.{Limits.{max-radios, size-good}, Cores.{number}, Image.{word-at, image-order, image-graph, checks-good, is-image}}
+use Rattle.calls.specs.{Questions.{ask, blocks-refusal, image-refusal}, Chains.{source-refusal}}
 use Rattle.image.specs.Header.{Header-of}
 
 -- an image alone, with no tables to read it into: 1, 9, 10, 15, 11

@@ -26,18 +26,11 @@
 --   Site-room                    what deciding wants
 --   Site-decided                 whether the first m links and the order make a sound site, and then the order and the numbers
 -- Definitions only.
-use mathlib.Core.Path.{_≡_}
-use mathlib.Core.Bool.{Bool, true, _&&_, cond}
-use mathlib.Core.List.{List, [], _∷_, map}
-use Prim.Native.Nat.{ℕ, suc, _+_, _*_, _-_, _/_, _%_, _≤_, _<_, min, max}
-use lib.Dec.{ltb, leb}
-use lib.ListN.{length, getD, set, drop}
-use Rattle.lists.specs.Lists.{range, all, count}
-use Rattle.mesh.specs.Limits.{max-radios, max-neighbours}
-use Rattle.mesh.specs.Graph.{Link, Graph, graph, link-of, link-before, other-ends, linked, proper, ascending}
-use Rattle.mesh.specs.Cores.{number}
-use Rattle.mesh.specs.Orders.{each-once, is-k-order}
-use Rattle.mesh.specs.Image.{block-bytes, block-entries, block-links, order-blocks, block-count, word-at, entry-at, image-link, image-order}
+use Rattle.lists.specs.{Kit.{_≡_, Bool, true, _&&_, cond, List, [], _∷_, map, ℕ, suc, _+_, _*_, _-_, _/_, _%_, _≤_, _<_, min, max, ltb, leb, length, getD, set}}
+use Rattle.lists.specs.{Kit.{drop}, Lists.{range, all, count}}
+use Rattle.mesh.specs.{Limits.{max-radios, max-neighbours}, Graph.{Link, Graph, graph, link-of, link-before, other-ends, linked, proper, ascending}}
+use Rattle.mesh.specs.{Cores.{number}, Orders.{each-once, is-k-order}, Image.{block-bytes, block-entries, block-links, order-blocks, block-count, word-at}}
+use Rattle.mesh.specs.{Image.{entry-at, image-link, image-order}}
 
 -- `image-links` of mesh is this with the image's own count
 unfoldable pub links-up-to : (n : ℕ) → (image : List ℕ) → (m : ℕ) → List Link

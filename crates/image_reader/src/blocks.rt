@@ -1,10 +1,5 @@
 // The blocks of links of an image, each in one loop: where its links stand is worked out once a block. The order's blocks likewise.
-ghost use mathlib.Core.Path.{_≡_};
-ghost use mathlib.Core.List.{[]};
-ghost use Prim.Native.Nat.{_≤_, _<_, _+_, _*_, min};
-ghost use mathlib.Core.Bool.{cond};
-ghost use lib.Dec.{ltb};
-ghost use lib.ListN.{length, getD, set};
+ghost use Rattle.lists.specs.Kit.{_≡_, [], _≤_, _<_, _+_, _*_, min, cond, ltb, length, getD, set};
 ghost use Rattle.mesh.specs.Limits.{max-radios};
 ghost use Rattle.mesh.specs.Image.{block-bytes, block-entries, block-links};
 ghost use Rattle.image_reader.specs.Site.{links-up-to, passed, key-of, next-key, Listed, Tallied, count-link, Order-read};

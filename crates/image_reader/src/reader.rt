@@ -1,13 +1,12 @@
 // The image reader.
-ghost use mathlib.Core.Path.{_≡_};
-ghost use Prim.Native.Nat.{ℕ, _≤_, _*_};
-ghost use lib.ListN.{length, getD};
+ghost use Rattle.lists.specs.Kit.{_≡_, ℕ, _≤_, _*_, length, getD};
 ghost use Rattle.mesh.specs.Limits.{row-bytes};
 ghost use Rattle.mesh.specs.Lent.{lent};
 ghost use Rattle.image_reader.specs.Reading.{alone-refusal, Source-room};
-ghost use Rattle.calls.specs.Questions.{lengths-of, source-refusal, read-refusal};
+ghost use Rattle.calls.specs.Questions.{lengths-of, read-refusal};
 ghost use Rattle.calls.specs.Contracts.{Read-contract};
 ghost use Rattle.tables.specs.Widths.{values};
+ghost use Rattle.calls.specs.Chains.{source-refusal};
 use super::source;
 use super::table;
 use calls::Refusal;

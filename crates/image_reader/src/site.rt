@@ -1,12 +1,7 @@
 // Whether the links and the order that an image lists make a sound site, and then the numbers. It is put to the image in place: counts
 // over the links, block by block, with a count for each radio. A test of all entries of a table does not stop at the first no:
 // the compiler then does many at a time.
-ghost use mathlib.Core.Path.{_≡_};
-ghost use mathlib.Core.Bool.{true, _&&_};
-ghost use mathlib.Core.List.{[], map};
-ghost use Prim.Native.Nat.{ℕ, _≤_, _<_, _+_, _*_, max};
-ghost use lib.Dec.{leb};
-ghost use lib.ListN.{length, getD};
+ghost use Rattle.lists.specs.Kit.{_≡_, true, _&&_, [], map, ℕ, _≤_, _<_, _+_, _*_, leb, length, getD};
 ghost use Rattle.lists.specs.Lists.{range, all};
 ghost use Rattle.mesh.specs.Limits.{max-radios, max-neighbours};
 ghost use Rattle.mesh.specs.Graph.{graph, proper, ascending};
@@ -108,13 +103,6 @@ fn are_few(counts: &[u16]) -> bool
     few
 }
 
-// The larger of two numbers.
-fn larger(a: u16, b: u16) -> u16
-    ensures { λ r. ⌜ r ≡ max a b ⌝ }
-{
-    if a < b { b } else { a }
-}
-
 // Gives each radio of the order the greatest count up to it.
 fn run_maxima(order: &[u16], counts: &[u16], cores: &mut [u16])
     requires { ⌜ (each-once (length (now order)) (now order) ≡ true) × (length (now order) ≤ length (now counts)) ×
@@ -126,7 +114,7 @@ fn run_maxima(order: &[u16], counts: &[u16], cores: &mut [u16])
     let mut i: usize = 0;
     while i < order.len() {
         let v = order[i] as usize;
-        top = larger(top, counts[v]);
+        top = tables::numbers::larger16(top, counts[v]);
         cores[v] = top;
         i += 1;
     }

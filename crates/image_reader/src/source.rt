@@ -1,6 +1,5 @@
 // Of which tables the bytes are the image: questions 15 and 11, decided together from the n that the header says.
-ghost use mathlib.Core.Path.{_≡_};
-ghost use lib.ListN.{length};
+ghost use Rattle.lists.specs.Kit.{_≡_, length};
 ghost use Rattle.image_reader.specs.Reading.{Opened-as, Image-room, Image-decided, Source-room, Source-decided};
 use super::site;
 use calls::Refusal;

@@ -1,9 +1,6 @@
 // The links table that an image lists, written block by block. The links are known to be proper, so a bit is set without asking whether it
 // is in the table, as `rows::put_bit` does: that is a tenth of reading a dense image.
-ghost use mathlib.Core.Path.{_≡_};
-ghost use mathlib.Core.Bool.{true};
-ghost use Prim.Native.Nat.{_≤_, _<_, _+_, _*_};
-ghost use lib.ListN.{length};
+ghost use Rattle.lists.specs.Kit.{_≡_, true, _≤_, _<_, _+_, _*_, length};
 ghost use Rattle.mesh.specs.Limits.{max-radios, row-bytes};
 ghost use Rattle.mesh.specs.Graph.{graph};
 ghost use Rattle.mesh.specs.Tables.{put-bit, put-link, links-table};

@@ -1,30 +1,15 @@
 -- Laws of the writer's blocks: each kind of block is the image's block.
 -- In order: a block of links, the blocks before the links, blocks one after the other, all blocks of links, the image.
-use mathlib.Core.Path.{_≡_, refl, sym, ap, ap₂, _∙_}
-use mathlib.Core.Logic.{_⊎_, inl, inr}
-use mathlib.Core.Bool.{Bool, true, false, cond}
-use mathlib.Core.List.{List, [], _∷_, _++_, flatMap, append-assoc, append-nil}
-use Prim.Native.Nat.{ℕ, zero, suc, _+_, _*_, _-_, _/_, _^_, _≤_, _<_, min}
-use native.Mathlib.Omega.{arith}
-use lib.Dec.{ltb}
-use lib.ListN.{length, take, drop, set, replicate, length-append, length-drop, length-set, take-append-drop}
-use lib.Seq.{sets, sets-eq, length-sets, take-at, take-all, drop-at, drop-drop, length-take-le}
-use borrow.Author.Tests.{lt-ltb, le-ltb}
+use Rattle.lists.{specs.Kit.{_≡_, refl, sym, ap, ap₂, _∙_, _⊎_, inl, inr, true, false, List, [], _∷_, _++_, flatMap, append-assoc, append-nil, ℕ, zero, suc}}
+use Rattle.lists.{specs.Kit.{_+_, _*_, _-_, _/_, _^_, _≤_, _<_, min, arith, ltb, length, take, drop, set, replicate, length-append, length-drop, length-set}}
+use Rattle.lists.{specs.Kit.{take-append-drop, sets, sets-eq, length-sets, take-at, take-all, drop-at, drop-drop, length-take-le, lt-ltb, le-ltb}}
+use Rattle.lists.{specs.Lists.{range}, proofs.Parts.{length-flatMap}, proofs.Map.{flatMap-append}, proofs.Range.{range-append}}
 use borrow.Rule.Slice.PartMut.{putMid, put-same, same-len-mid}
-use Rattle.lists.specs.Lists.{range}
-use Rattle.mesh.specs.Limits.{max-radios}
-use Rattle.mesh.specs.Graph.{Link, graph}
-use Rattle.mesh.specs.Image.{block-bytes, payload-bytes, block-entries, block-links, word, link-bytes, block, blocks-for, order-blocks, block-count}
-use Rattle.mesh.specs.Image.{order-payload, links-payload, block-at}
-use Rattle.lists.proofs.Parts.{length-flatMap}
-use Rattle.lists.proofs.Map.{flatMap-append}
-use Rattle.lists.proofs.Range.{range-append}
-use Rattle.mesh.proofs.Images.Blocks.{length-link-bytes}
+use Rattle.mesh.{specs.Limits.{max-radios}, specs.Graph.{Link, graph}, specs.Image.{block-bytes, payload-bytes, block-entries, block-links, word, link-bytes}}
+use Rattle.mesh.{specs.Image.{block, blocks-for, order-blocks, order-payload, links-payload, block-at}, proofs.Images.Blocks.{length-link-bytes}}
 use Rattle.rows.specs.Links.{links-from}
-use Rattle.image_writer.specs.Filler.{sealed}
-use Rattle.image_writer.specs.Blocks.{Links-put, links-left, Next-link, Links-filled, links-block, All-links-filled, front-block}
-use Rattle.image_writer.proofs.LinksPut.{left-some}
-use Rattle.image_writer.proofs.FillerLaws.{filled-payload, sealed-payload}
+use Rattle.image_writer.specs.{Filler.{sealed}, Blocks.{Links-put, links-left, Next-link, Links-filled, links-block, All-links-filled, front-block}}
+use Rattle.image_writer.proofs.{LinksPut.{left-some}, FillerLaws.{filled-payload, sealed-payload}}
 
 -- ---- the blocks before the links
 
@@ -68,7 +53,13 @@ module _ (f : ℕ → List ℕ) (start : List ℕ) (s j k : ℕ) (buffer : List 
   rest = drop (block-bytes * j) start
 
   done-long : length done ≡ block-bytes * j
-  done-long = omega (arith, length-append (take (block-bytes * s) start) (flatMap f (range s (j - s))), length-take-le (block-bytes * s) start (g .room), g .front, g .low)
+  done-long = omega (
+    arith,
+    length-append (take (block-bytes * s) start) (flatMap f (range s (j - s))),
+    length-take-le (block-bytes * s) start (g .room),
+    g .front,
+    g .low,
+  )
 
   is : buffer ≡ done ++ rest
   is = g .is ∙ sym (append-assoc (take (block-bytes * s) start) (flatMap f (range s (j - s))) rest)
@@ -87,7 +78,8 @@ module _ (f : ℕ → List ℕ) (start : List ℕ) (s j k : ℕ) (buffer : List 
       let more : flatMap f (range s (j + 1 - s)) ≡ flatMap f (range s (j - s)) ++ f j =
       ap (λ (i : ℕ). flatMap f (range s i)) one ∙ ap (flatMap f) (range-append s (j - s) 1) ∙ flatMap-append f (range s (j - s)) (range (s + (j - s)) 1)
       ∙ ap (λ (ys : List ℕ). flatMap f (range s (j - s)) ++ ys) (append-nil (f (s + (j - s))) ∙ ap f z) in
-      let size : length new ≡ block-bytes = same-long ∙ length-take-le k (drop (block-bytes * j) buffer) (omega (arith, length-drop (block-bytes * j) buffer)) ∙ e in
+      let size : length new ≡ block-bytes = same-long ∙ length-take-le k (drop (block-bytes * j) buffer) (omega (arith, length-drop (block-bytes * j) buffer)) ∙
+      e in
       record {
         low = omega (arith, g .low);
         room = g .room;
@@ -154,20 +146,23 @@ head-put index (a ∷ b ∷ c ∷ []) h = absurd (omega arith)
 head-put index (a ∷ b ∷ c ∷ d ∷ rest) h = refl
 
 -- head, links and zeros, sealed
-pub links-sealed : {ls left : List Link} {old new : List ℕ} {at : ℕ} (p : Links-put ls 4 old new at left) → (left ≡ []) ⊎ (at ≡ 508) → (index : ℕ) (part : List ℕ)
+pub links-sealed : {ls left : List Link} {old new : List ℕ} {at : ℕ} (p : Links-put ls 4 old new at left) → (left ≡ []) ⊎ (at ≡ 508) → (index : ℕ)
+    (part : List ℕ)
     → length part ≡ block-bytes → old ≡ sets (set (set part 0 2) 1 0) 2 (word index) → (x : List ℕ) → x ≡ sealed (take at new ++ replicate (block-bytes - at) 0)
     → Links-filled index ls x at left
 unfolding word
 links-sealed {ls} {left} {old} {new} {at} p full index part long e x sealed-is =
     let xs : List ℕ = flatMap link-bytes (take (p .done) ls) in
-    let size : length xs ≡ 4 * p .done = length-flatMap link-bytes 4 length-link-bytes (take (p .done) ls) ∙ ap (λ (k : ℕ). 4 * k) (length-take-le (p .done) ls (p .long)) in
+    let size : length xs ≡ 4 * p .done = length-flatMap link-bytes 4 length-link-bytes (take (p .done) ls) ∙ ap (λ (k : ℕ). 4 * k)
+    (length-take-le (p .done) ls (p .long)) in
     let old-long : length old ≡ block-bytes =
     ap length e ∙ length-sets (set (set part 0 2) 1 0) 2 (word index) ∙ length-set (set part 0 2) 1 0 ∙ length-set part 0 2 ∙ long in
     let head : take 4 old ≡ 2 ∷ 0 ∷ word index = ap (take 4) e ∙ head-put index part (omega arith) in
     let few : length xs ≤ payload-bytes = omega (arith, size, p .place, p .within) in
     let front : take at new ≡ take 4 old ++ xs =
     ap (take at) (p .is ∙ sets-eq xs old 4 (omega (arith, few)))
-    ∙ take-at (take 4 old ++ xs) (drop (4 + length xs) old) at (omega (arith, length-append (take 4 old) xs, length-take-le 4 old (omega arith), size, p .place)) in
+    ∙ take-at (take 4 old ++ xs) (drop (4 + length xs) old) at
+    (omega (arith, length-append (take 4 old) xs, length-take-le 4 old (omega arith), size, p .place)) in
     let zeros : block-bytes - at ≡ 508 - length xs = omega (arith, size, p .place) in
     record {
       is =
@@ -197,7 +192,8 @@ module _ {s n : ℕ} {ts start : List ℕ} {row k first rest i count : ℕ} {buf
   pub linking-more : row < n → block-links * (i - s) < length ls
   linking-more h = go (g .either)
     where
-      go : ((row < n) × (1 ≤ length (links-left n ts row k first rest))) ⊎ ((n ≤ row) × (links-left n ts row k first rest ≡ [])) → block-links * (i - s) < length ls
+      go : ((row < n) × (1 ≤ length (links-left n ts row k first rest))) ⊎ ((n ≤ row) × (links-left n ts row k first rest ≡ [])) → block-links * (i - s) <
+          length ls
       go (inl e) = omega (arith, e .1, ap length (g .left), length-drop (block-links * (i - s)) ls)
       go (inr e) = absurd (omega (arith, e .0))
 
@@ -210,7 +206,8 @@ module _ {s n : ℕ} {ts start : List ℕ} {row k first rest i count : ℕ} {buf
   unfolding blocks-for
   linking-end h = go (g .either)
     where
-      go : ((row < n) × (1 ≤ length (links-left n ts row k first rest))) ⊎ ((n ≤ row) × (links-left n ts row k first rest ≡ [])) → All-links-filled s ls start buffer i count
+      go : ((row < n) × (1 ≤ length (links-left n ts row k first rest))) ⊎ ((n ≤ row) × (links-left n ts row k first rest ≡ [])) → All-links-filled s ls start
+          buffer i count
       go (inl e) = absurd (omega (arith, e .0))
       go (inr e) =
           let none : length ls ≤ block-links * (i - s) = omega (arith, ap length (sym (g .left) ∙ e .1), length-drop (block-links * (i - s)) ls) in
@@ -222,14 +219,16 @@ module _ {s n : ℕ} {ts start : List ℕ} {row k first rest i count : ℕ} {buf
             long = g .filling .long;
             is =
                 g .filling .is
-                ∙ ap₂ {C = List ℕ} (λ (m j : ℕ). take (block-bytes * s) start ++ (flatMap (links-block s ls) (range s m) ++ drop (block-bytes * j) start)) many all-of;
+                ∙ ap₂ {C = List ℕ} (λ (m j : ℕ). take (block-bytes * s) start ++ (flatMap (links-block s ls) (range s m) ++ drop (block-bytes * j) start)) many
+                all-of;
           }
 
 -- a block after which a link is left is full
 pub next-full : {n : ℕ} {ts : List ℕ} {at row k first rest : ℕ} → Next-link n ts at row k first rest → (links-left n ts row k first rest ≡ []) ⊎ (at ≡ 508)
 next-full {n} {ts} {at} {row} {k} {first} {rest} h = go (h .either)
   where
-    go : ((row < n) × (rest ≡ 0 → ⊥) × ((at ≡ 508) × (rest < 2 ^ 64))) ⊎ ((n ≤ row) × (links-left n ts row k first rest ≡ [])) → (links-left n ts row k first rest ≡ []) ⊎ (at ≡ 508)
+    go : ((row < n) × (rest ≡ 0 → ⊥) × ((at ≡ 508) × (rest < 2 ^ 64))) ⊎ ((n ≤ row) × (links-left n ts row k first rest ≡ [])) →
+        (links-left n ts row k first rest ≡ []) ⊎ (at ≡ 508)
     go (inl e) = inr (e .2 .0)
     go (inr e) = inl (e .1)
 
@@ -267,7 +266,8 @@ count-more : (a b m : ℕ) → min a m + min b (m - a) ≡ min (a + b) m
 count-more a b m = omega arith
 
 -- one block more
-module _ {s n : ℕ} {ts start : List ℕ} {row k first rest i count : ℕ} {buffer : List ℕ} (g : Linking s n ts start row k first rest i count buffer) (here : row < n)
+module _ {s n : ℕ} {ts start : List ℕ} {row k first rest i count : ℕ} {buffer : List ℕ} (g : Linking s n ts start row k first rest i count buffer)
+    (here : row < n)
     {new : List ℕ} {at row₂ k₂ first₂ rest₂ : ℕ} (f : Links-filled i (links-left n ts row k first rest) new at (links-left n ts row₂ k₂ first₂ rest₂))
     (h : Next-link n ts at row₂ k₂ first₂ rest₂) where
   abbrev all-links : List Link
@@ -291,7 +291,8 @@ module _ {s n : ℕ} {ts start : List ℕ} {row k first rest i count : ℕ} {buf
             f .rest ∙ ap (drop block-links) (g .left) ∙ drop-drop block-links (block-links * (i - s)) all-links ∙ ap (λ (j : ℕ). drop j all-links) far;
         either = next-either h;
         tight = omega (arith, linking-more g here, far);
-        counted = ap₂ {C = ℕ} (λ (x y : ℕ). x + y) (g .counted) linking-count ∙ count-more (block-links * (i - s)) block-links (length all-links) ∙ ap (λ (x : ℕ). min x (length all-links)) far;
+        counted = ap₂ {C = ℕ} (λ (x y : ℕ). x + y) (g .counted) linking-count ∙ count-more (block-links * (i - s)) block-links (length all-links) ∙ ap
+            (λ (x : ℕ). min x (length all-links)) far;
         filling = filling-turn (links-block s all-links) start s i m buffer (g .filling) e new fits same
             (f .is ∙ ap (λ (xs : List Link). block 2 i (flatMap link-bytes (take block-links xs))) (g .left));
       }
@@ -324,12 +325,16 @@ module _ (n first : ℕ) (ls : List Link) (order start : List ℕ) (h : first �
       let m : ℕ = blocks-for (length ls) block-links in
       let f : ℕ → List ℕ = block-at (graph n ls) order in
       let behind : drop (block-bytes * first) filled ≡ flatMap (links-block first ls) (range first m) ++ drop (block-bytes * (first + m)) start =
-      ap (drop (block-bytes * first)) (r .is) ∙ drop-at (take (block-bytes * first) start) _ (block-bytes * first) (length-take-le (block-bytes * first) start room) in
+      ap (drop (block-bytes * first)) (r .is) ∙ drop-at (take (block-bytes * first) start) _ (block-bytes * first)
+      (length-take-le (block-bytes * first) start room) in
       let z : 0 + first ≡ first = omega arith in
       let all-blocks : flatMap f (range 0 (first + m)) ≡ flatMap f (range 0 first) ++ flatMap f (range first m) =
-      ap (flatMap f) (range-append 0 first m) ∙ flatMap-append f (range 0 first) (range (0 + first) m) ∙ ap (λ (k : ℕ). flatMap f (range 0 first) ++ flatMap f (range k m)) z in
-      e ∙ ap₂ {C = List ℕ} (λ xs ys. xs ++ ys) (flatMap-same (front-block n count order) f 0 first (λ j l k. front-is count (r .counted) j (omega arith))) behind
-      ∙ ap (λ (ys : List ℕ). flatMap f (range 0 first) ++ (ys ++ drop (block-bytes * (first + m)) start)) (flatMap-same (links-block first ls) f first m (λ j l k. link-is j l))
+      ap (flatMap f) (range-append 0 first m) ∙ flatMap-append f (range 0 first) (range (0 + first) m) ∙ ap
+      (λ (k : ℕ). flatMap f (range 0 first) ++ flatMap f (range k m)) z in
+      e ∙ ap₂ {C = List ℕ} (λ xs ys. xs ++ ys) (flatMap-same (front-block n count order) f 0 first (λ j l k. front-is count (r .counted) j (omega arith)))
+      behind
+      ∙ ap (λ (ys : List ℕ). flatMap f (range 0 first) ++ (ys ++ drop (block-bytes * (first + m)) start))
+      (flatMap-same (links-block first ls) f first m (λ j l k. link-is j l))
       ∙ sym (append-assoc (flatMap f (range 0 first)) (flatMap f (range first m)) (drop (block-bytes * (first + m)) start))
       ∙ ap (λ (ys : List ℕ). ys ++ drop (block-bytes * (first + m)) start) (sym all-blocks)
       ∙ ap (λ (k : ℕ). flatMap f (range 0 k) ++ drop (block-bytes * k) start) (sym (r .ended))

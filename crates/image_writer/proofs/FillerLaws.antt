@@ -1,21 +1,13 @@
 -- Laws of the block filler.
 -- In order: a block opened, zeros stored, a block sealed, an opened block with its payload sealed, entries put one after the other.
-use mathlib.Core.Path.{_≡_, refl, sym, ap, ap₂, _∙_}
-use mathlib.Core.List.{List, [], _∷_, _++_, flatMap, append-assoc, append-nil}
-use Prim.Native.Nat.{ℕ, suc, _+_, _*_, _-_, _/_, _%_, _≤_, _<_, min}
-use native.Mathlib.Omega.{arith}
-use native.Mathlib.Nat.{div-div-eq-div-mul}
-use native.Mathlib.Numerals.{add-one}
-use lib.ListN.{length, getD, take, drop, set, replicate, length-append, length-take, length-drop, replicate-append-replicate, drop-of-length-le}
-use lib.Seq.{sets, sets-eq, length-sets, take-suc, take-at, take-all, length-take-le, drop-drop, getD-take, getD-drop}
+use Rattle.lists.{specs.Kit.{_≡_, refl, sym, ap, ap₂, _∙_, List, [], _∷_, _++_, flatMap, append-assoc, append-nil, ℕ, _+_, _*_, _-_, _/_, _%_, _≤_, _<_, min}}
+use Rattle.lists.{specs.Kit.{arith, div-div-eq-div-mul, add-one, length, getD, take, drop, set, replicate, length-append, length-take, length-drop}}
+use Rattle.lists.{specs.Kit.{replicate-append-replicate, drop-of-length-le, sets, sets-eq, length-sets, take-suc, take-at, take-all, length-take-le, drop-drop}}
+use Rattle.lists.{specs.Kit.{getD-take, getD-drop}, proofs.Parts.{length-flatMap, drop-replicate}, proofs.Overwrite.{sets-append}, proofs.Map.{flatMap-append}}
 use borrow.Rule.Slice.PartMut.{putMid}
-use Rattle.mesh.specs.Image.{block-bytes, payload-bytes, block-entries, word, long, check-sum, block}
-use Rattle.mesh.proofs.Images.Blocks.{block-body, block-check-last, length-block-body}
-use Rattle.lists.proofs.Parts.{length-flatMap, drop-replicate}
-use Rattle.mesh.proofs.Images.Words.{length-word, length-long}
-use Rattle.lists.proofs.Overwrite.{sets-append}
+use Rattle.mesh.{specs.Image.{block-bytes, payload-bytes, block-entries, word, long, check-sum, block}, proofs.Images.Blocks.{block-body, block-check-last}}
+use Rattle.mesh.{proofs.Images.Blocks.{length-block-body}, proofs.Images.Words.{length-word, length-long}}
 use Rattle.image_writer.specs.Filler.{opened, sealed}
-use Rattle.lists.proofs.Map.{flatMap-append}
 
 -- ---- a block opened
 
@@ -33,7 +25,8 @@ pub zeros-put : (part new : List ℕ) (e k : ℕ) → length part ≡ block-byte
 zeros-put part new e k long h m is =
     let n : length (take k (drop e part)) ≡ block-bytes - e = omega (arith, length-take k (drop e part), length-drop e part) in
     let past : drop k (drop e part) ≡ [] = drop-of-length-le (drop e part) {i = k} (omega (arith, length-drop e part)) in
-    ap (λ (zs : List ℕ). take e part ++ zs) (ap₂ {C = List ℕ} (λ xs ys. xs ++ ys) (is ∙ ap (λ (j : ℕ). replicate {A = ℕ} j 0) n) past ∙ append-nil (replicate (block-bytes - e) 0))
+    ap (λ (zs : List ℕ). take e part ++ zs) (ap₂ {C = List ℕ} (λ xs ys. xs ++ ys) (is ∙ ap (λ (j : ℕ). replicate {A = ℕ} j 0) n) past ∙ append-nil
+    (replicate (block-bytes - e) 0))
 
 -- ---- a block sealed
 

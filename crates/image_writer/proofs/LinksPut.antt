@@ -1,27 +1,13 @@
 -- Laws of links put into a block.
 -- In order: putting links, one link, a part of the links, the links of a word, of a row and of the rows, a cursor.
-use mathlib.Core.Path.{_≡_, refl, sym, ap, ap₂, _∙_}
-use mathlib.Core.Logic.{_⊎_, inl, inr}
-use mathlib.Core.List.{List, [], _∷_, _++_, flatMap, append-assoc, append-nil}
-use Prim.Native.Nat.{ℕ, zero, suc, _+_, _*_, _-_, _/_, _%_, _^_, _≤_, _<_, min}
-use native.Mathlib.Omega.{arith}
-use lib.Bits.{bitAnd}
-use lib.Count.{trailingZeros}
-use lib.ListN.{length, getD, take, drop, length-append, length-take, length-drop, take-append-drop}
-use lib.Seq.{sets, take-append-le, drop-append-le, take-add, drop-drop, length-take-le}
-use Rattle.mesh.specs.Graph.{Link, link-of}
-use Rattle.rows.specs.Rows.{row-from, set-bits, row-word, word-of}
-use Rattle.rows.proofs.RowWords.{row-from-word, row-from-end, word-of-whole, row-word-part}
-use Rattle.rows.proofs.WordLaws.{set-bits-lowest, set-bits-nothing}
-use Rattle.rows.specs.Links.{links-to, links-above, links-from}
-use Rattle.rows.proofs.LinksFrom.{links-from-row, links-from-end}
-use Rattle.rows.proofs.AboveWords.{above-words}
-use Rattle.lists.proofs.Map.{map-append, flatMap-append}
-use Rattle.mesh.specs.Limits.{max-radios, row-bytes}
-use Rattle.mesh.specs.Image.{link-bytes}
-use Rattle.lists.proofs.Parts.{length-flatMap}
-use Rattle.mesh.proofs.Images.Blocks.{length-link-bytes}
-use Rattle.lists.proofs.Overwrite.{sets-append}
+use Rattle.lists.{specs.Kit.{_≡_, refl, sym, ap, ap₂, _∙_, inl, inr, List, [], _∷_, _++_, flatMap, append-nil, ℕ, _+_, _*_, _-_, _/_, _%_, _^_, _≤_, _<_}}
+use Rattle.lists.{specs.Kit.{arith, bitAnd, trailingZeros, length, getD, take, drop, length-append, length-take, length-drop, sets, take-append-le}}
+use Rattle.lists.{specs.Kit.{drop-append-le, take-add, drop-drop, length-take-le}, proofs.Map.{map-append, flatMap-append}, proofs.Parts.{length-flatMap}}
+use Rattle.lists.{proofs.Overwrite.{sets-append}}
+use Rattle.mesh.{specs.Graph.{Link, link-of}, specs.Limits.{max-radios, row-bytes}, specs.Image.{link-bytes}, proofs.Images.Blocks.{length-link-bytes}}
+use Rattle.rows.{specs.Rows.{row-from, set-bits, row-word, word-of}, proofs.RowWords.{row-split, row-from-end, word-of-whole, row-word-part}}
+use Rattle.rows.{proofs.WordLaws.{word-none}, specs.Links.{links-to, links-above, links-from}, proofs.AboveWords.{above-words}}
+use Rattle.rows.{proofs.LinksFrom.{links-lowest, links-none, links-from-row, links-from-end}}
 use Rattle.image_writer.specs.Blocks.{Links-put, Stopped, Row-stopped, row-left, links-left}
 
 -- ---- links put one after the other
@@ -75,17 +61,12 @@ module _ (a first rest : ℕ) (some : rest ≡ 0 → ⊥) (low : rest < 2 ^ 64) 
   abbrev b : ℕ
   b = first + trailingZeros 64 rest
 
-  lowest : links-to a (set-bits 64 first rest) ≡ (link-of a b ∷ []) ++ links-to a (set-bits 64 first (bitAnd rest (rest - 1)))
-  lowest = let pos : 0 < rest = omega arith in ap (links-to a) (set-bits-lowest 64 first rest pos low)
-
   pub bits-turn : {ls : List Link} {from : ℕ} {old now : List ℕ} {at : ℕ} (new : List ℕ) → Links-put ls from old now at (links-to a (set-bits 64 first rest))
-      → at + 4 ≤ 508 → new ≡ sets now at (link-bytes (link-of a b)) → Links-put ls from old new (at + 4) (links-to a (set-bits 64 first (bitAnd rest (rest - 1))))
+      → at + 4 ≤ 508 → new ≡ sets now at (link-bytes (link-of a b)) → Links-put ls from old new (at + 4)
+      (links-to a (set-bits 64 first (bitAnd rest (rest - 1))))
   bits-turn {ls} {from} {old} {now} {at} new p h e =
-      put-whole (link-of a b ∷ []) (links-to a (set-bits 64 first (bitAnd rest (rest - 1)))) new (at + 4) [] (rw lowest at p) (put-one (link-of a b) at now new h e) refl
-
--- nothing is left of a word
-pub bits-none : (a first rest : ℕ) → rest ≡ 0 → links-to a (set-bits 64 first rest) ≡ []
-bits-none a first rest e = ap (λ (r : ℕ). links-to a (set-bits 64 first r)) e ∙ ap (links-to a) (set-bits-nothing 64 first)
+      put-whole (link-of a b ∷ []) (links-to a (set-bits 64 first (bitAnd rest (rest - 1)))) new (at + 4) []
+      (rw (links-lowest a first rest low some) at p) (put-one (link-of a b) at now new h e) refl
 
 -- ---- rows
 
@@ -93,7 +74,7 @@ bits-none a first rest e = ap (λ (r : ℕ). links-to a (set-bits 64 first r)) e
 module _ (ts : List ℕ) (bytes : (j : ℕ) → getD ts j 0 < 256) (a k w : ℕ) (h : k < 8) (e : w ≡ row-word 8 ts (row-bytes * a + 8 * k)) where
   pub links-word : links-to a (row-from ts a k) ≡ links-to a (set-bits 64 (64 * k) w) ++ links-to a (row-from ts a (k + 1))
   links-word =
-      ap (links-to a) (row-from-word ts bytes a k h ∙ ap (λ (x : ℕ). set-bits 64 (64 * k) x ++ row-from ts a (k + 1)) (sym e))
+      ap (links-to a) (row-split ts bytes a k w h e)
       ∙ map-append (link-of a) (set-bits 64 (64 * k) w) (row-from ts a (k + 1))
 
 -- the links of a row, of which w is the row's own word and x what is left of it above a
@@ -127,7 +108,7 @@ module _ (ts : List ℕ) (a : ℕ) where
   pub row-left-none : (first rest : ℕ) → rest ≡ 0 → row-left ts a 7 first rest ≡ []
   unfolding row-left
   row-left-none first rest e =
-      ap (λ (bs : List ℕ). links-to a (bs ++ row-from ts a 8)) (ap (set-bits 64 first) e ∙ set-bits-nothing 64 first) ∙ ap (links-to a) (row-from-end ts a 8 (omega arith))
+      ap (λ (bs : List ℕ). links-to a (bs ++ row-from ts a 8)) (word-none first rest e) ∙ ap (links-to a) (row-from-end ts a 8 (omega arith))
 
 -- ---- the words of a row
 
@@ -142,7 +123,7 @@ module _ (ts : List ℕ) (bytes : (j : ℕ) → getD ts j 0 < 256) (a k w : ℕ)
   pub words-turn : rest ≡ 0 → Links-put ls from old new to (links-to a (row-from ts a (k + 1)))
   words-turn z =
       put-whole (links-to a (set-bits 64 (64 * k) w)) (links-to a (row-from ts a (k + 1))) new to _ (rw (links-word ts bytes a k w h e) at p) q
-      (bits-none a (64 * k) rest z)
+      (links-none a (64 * k) rest z)
 
 pub words-end : (ts : List ℕ) (a k : ℕ) {ls : List Link} {from : ℕ} {old now : List ℕ} {at : ℕ} → 8 ≤ k
     → Links-put ls from old now at (links-to a (row-from ts a k)) → Links-put ls from old now at (row-left ts a 7 0 0)
@@ -158,7 +139,8 @@ module _ (ts : List ℕ) (a k first rest left : ℕ) {old new : List ℕ} {from 
   whole : Links-put (row-left ts a k first rest) from old new at (links-to a (set-bits 64 first left) ++ after ts a k)
   whole =
       rw (row-left-is ts a k first rest)
-      (put-then (links-to a (set-bits 64 first rest)) (after ts a k) new at _ (put-none (links-to a (set-bits 64 first rest) ++ after ts a k) from old (omega (arith, p .place, p .within))) p)
+      (put-then (links-to a (set-bits 64 first rest)) (after ts a k) new at _
+      (put-none (links-to a (set-bits 64 first rest) ++ after ts a k) from old (omega (arith, p .place, p .within))) p)
 
   pub row-stop : Links-put (row-left ts a k first rest) from old new at (row-left ts a k first left)
   row-stop = rw (row-left-is ts a k first left) whole
@@ -166,7 +148,8 @@ module _ (ts : List ℕ) (a k first rest left : ℕ) {old new : List ℕ} {from 
   pub row-turn : left ≡ 0 → (last : List ℕ) (to : ℕ) (others : List Link) → Links-put (after ts a k) at new last to others
       → Links-put (row-left ts a k first rest) from old last to others
   row-turn z last to others q =
-      let mine : Links-put (row-left ts a k first rest) from old new at (after ts a k ++ []) = rw (append-nil (after ts a k)) (rw (bits-none a first left z) at whole) in
+      let mine : Links-put (row-left ts a k first rest) from old new at (after ts a k ++ []) = rw (append-nil (after ts a k))
+      (rw (links-none a first left z) at whole) in
       rw (append-nil others) at (put-then (after ts a k) [] last to others mine q)
 
 -- where something of a word is left, the block is full
@@ -209,7 +192,8 @@ module _ (n : ℕ) (ts : List ℕ) (a k first rest : ℕ) {from at : ℕ} {old n
       put-then (row-left ts a k first rest) (links-from n ts (a + 1) 0) now at left
       (put-none (row-left ts a k first rest ++ links-from n ts (a + 1) 0) from old (omega (arith, p .place, p .within))) p
 
-  pub left-stop : (k₂ first₂ rest₂ : ℕ) → left ≡ row-left ts a k₂ first₂ rest₂ → Links-put (links-left n ts a k first rest) from old now at (links-left n ts a k₂ first₂ rest₂)
+  pub left-stop : (k₂ first₂ rest₂ : ℕ) → left ≡ row-left ts a k₂ first₂ rest₂ → Links-put (links-left n ts a k first rest) from old now at
+      (links-left n ts a k₂ first₂ rest₂)
   unfolding links-left
   left-stop k₂ first₂ rest₂ d = rw d at left-put
 
@@ -255,7 +239,8 @@ module _ (n : ℕ) (ts : List ℕ) (a k first rest : ℕ) {from at : ℕ} {old n
   pub left-stop-as : (row : ℕ) → row ≡ a → Links-put (links-left n ts a k first rest) 4 old now at (links-left n ts row k₂ first₂ rest₂)
   left-stop-as row d = rw d (rw e at (left-stop n ts a k first rest _ p k₂ first₂ rest₂ refl))
 
-  pub left-turn-as : row-left ts a k₂ first₂ rest₂ ≡ [] → (new : List ℕ) (to : ℕ) (others : List Link) → Links-put (links-from n ts (a + 1) 0) at now new to others
+  pub left-turn-as : row-left ts a k₂ first₂ rest₂ ≡ [] → (new : List ℕ) (to : ℕ) (others : List Link) → Links-put (links-from n ts (a + 1) 0) at now new to
+      others
       → Links-put (links-left n ts a k first rest) 4 old new to others
   left-turn-as d new to others q = rw e at (left-turn n ts a k first rest _ p d new to others q)
 
@@ -265,7 +250,7 @@ unfolding links-left
 left-some n ts a k first rest some low =
     omega (
       arith,
-      ap length (row-left-is ts a k first rest ∙ ap (λ (xs : List Link). xs ++ after ts a k) (lowest a first rest some low)),
+      ap length (row-left-is ts a k first rest ∙ ap (λ (xs : List Link). xs ++ after ts a k) (links-lowest a first rest low some)),
       length-append (row-left ts a k first rest) (links-from n ts (a + 1) 0),
     )
 

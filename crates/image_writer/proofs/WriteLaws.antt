@@ -1,32 +1,17 @@
 -- The writer meets its contract, on plain values.
 -- In order: the number of questions 1 to 3, the links of a sound site, the three outcomes.
-use mathlib.Core.Path.{_≡_, refl, sym, ap, ap₂, _∙_}
-use mathlib.Core.Bool.{true}
-use mathlib.Core.List.{List, _++_, flatMap}
-use Prim.Native.Nat.{ℕ, _+_, _*_, _≤_, _<_}
-use native.Mathlib.Omega.{arith}
-use lib.ListN.{length, drop}
-use borrow.Author.Tests.{lt-leb}
-use Rattle.mesh.specs.Limits.{max-radios, max-neighbours, row-bytes}
-use Rattle.lists.specs.Lists.{range, overwrite}
-use Rattle.mesh.specs.Graph.{Link, Graph, graph}
-use Rattle.mesh.specs.Tables.{Tables, graph-in}
-use Rattle.mesh.specs.Sound.{within, few, sound}
-use Rattle.mesh.specs.Image.{block-bytes, blocks-for, order-blocks, block-count, block-at, image-of}
-use Rattle.mesh.proofs.Images.Of.{length-image-of}
-use Rattle.mesh.proofs.Images.Tables.{valid-graph-in}
-use Rattle.mesh.proofs.Tables.DegreeSum.{links-few}
-use Rattle.calls.specs.Questions.{ask, lengths-of, site-refusal, write-refusal, image-length, holds-image}
-use Rattle.calls.specs.Contracts.{Write-contract}
-use Rattle.calls.specs.Outcomes.{write-outcome}
-use Rattle.calls.proofs.ContractLaws.{listing-refused, listing-answered}
-use Rattle.calls.proofs.QuestionLaws.{ask-no}
-use Rattle.calls.proofs.ChainLaws.{Site-good, site-zero, site-yes, write-yes, site-stops}
+use Rattle.lists.specs.{Kit.{_≡_, sym, ap, ap₂, _∙_, true, List, _++_, flatMap, ℕ, _+_, _*_, _≤_, _<_, arith, length, drop, lt-leb}, Lists.{range, overwrite}}
+use Rattle.mesh.{specs.Limits.{max-radios, max-neighbours, row-bytes}, specs.Graph.{Link, Graph, graph}, specs.Tables.{Tables, graph-in}, specs.Sound.{within}}
+use Rattle.mesh.{specs.Sound.{few, sound}, specs.Image.{block-bytes, blocks-for, order-blocks, block-count, block-at, image-of}}
+use Rattle.mesh.{proofs.Images.Of.{length-image-of}, proofs.Images.Tables.{valid-graph-in}, proofs.Tables.DegreeSum.{links-few}}
+use Rattle.calls.{specs.Questions.{ask, lengths-of, site-refusal, image-length}, specs.Contracts.{Write-contract}}
+use Rattle.calls.{specs.Outcomes.{write-outcome}, proofs.ContractLaws.{listing-refused, listing-answered}, proofs.QuestionLaws.{ask-no}}
+use Rattle.calls.{proofs.ChainLaws.{Site-good, site-zero, site-yes, write-yes, site-stops}}
 use Rattle.soundness.proofs.SoundSite.{Sound-site, sound-site}
-use Rattle.rows.specs.Links.{links-from, Rows-listed}
-use Rattle.rows.proofs.GraphLinks.{rows-listed-few, links-graph-in}
+use Rattle.rows.{specs.Links.{links-from, Rows-listed}, proofs.GraphLinks.{rows-listed-few, links-graph-in}}
 use Rattle.image_writer.specs.Blocks.{marked-graph, Links-fit, All-links-filled, front-block}
 use Rattle.image_writer.proofs.BlockFilling.{image-filled}
+use Rattle.calls.specs.{Chains.{write-refusal, holds-image}}
 
 -- ---- the outcomes
 
@@ -41,7 +26,7 @@ module _ (n : ℕ) (t : Tables) (w : List ℕ) where
   refusal = write-refusal n (lengths-of t) (length w) (sound n t) g
 
   pub write-refused : (q : ℕ) → q ≡ questions → (q ≡ 0 → ⊥) → Write-contract n t w (record { number = q; value = 0 }) w
-  unfolding Write-contract write-outcome sound write-refusal
+  unfolding Write-contract write-outcome sound
   write-refused q e h =
       let same : refusal ≡ q = site-stops n (lengths-of t) true (sound n t) (ask 9 (holds-image g (length w)) 0) (λ z. h (e ∙ z)) ∙ sym e in
       listing-refused refusal _ _ w q (sym same) h
@@ -78,7 +63,12 @@ module _ (n : ℕ) (t : Tables) (w : List ℕ) where
     pub write-most : length (links-from n (t .links) 0 0) ≤ 20 * n
     unfolding sound graph-in
     write-most =
-        omega (arith, links-few max-neighbours g (t .order) (valid-graph-in max-neighbours n t write-small write-sound), ap (λ (h : Graph). length (h .links)) whole)
+        omega (
+          arith,
+          links-few max-neighbours g (t .order) (valid-graph-in max-neighbours n t write-small write-sound),
+          ap (λ (h : Graph). length (h .links))
+              whole,
+        )
 
     pub write-few : length (links-from n (t .links) 0 0) ≤ 10240
     unfolding sound graph-in
@@ -94,7 +84,7 @@ module _ (n : ℕ) (t : Tables) (w : List ℕ) where
       length-is = ap (λ (k : ℕ). block-bytes * k) (sym blocks-are ∙ sym counted)
 
       pub write-no-room : length w < block-bytes * blocks → Write-contract n t w (record { number = 9; value = 0 }) w
-      unfolding Write-contract write-outcome sound write-refusal holds-image
+      unfolding Write-contract write-outcome sound
       write-no-room h =
           let nine : refusal ≡ 9 =
           site-yes n (lengths-of t) true (sound n t) (ask 9 (holds-image g (length w)) 0) passed
@@ -109,7 +99,8 @@ module _ (n : ℕ) (t : Tables) (w : List ℕ) where
           let zero-is : refusal ≡ 0 = write-yes n (lengths-of t) (length w) (sound n t) g passed (omega (arith, length-is)) in
           let front : flatMap (block-at (marked-graph n (t .links)) (t .order)) (range 0 blocks) ≡ image-of g (t .order) =
           ap₂ {C = List ℕ} (λ (m : Graph) (k : ℕ). flatMap (block-at m (t .order)) (range 0 k)) whole (counted ∙ blocks-are) in
-          let long : length (image-of g (t .order)) ≡ block-bytes * blocks = length-image-of g (t .order) ∙ ap (λ (k : ℕ). block-bytes * k) (sym (counted ∙ blocks-are)) in
+          let long : length (image-of g (t .order)) ≡ block-bytes * blocks = length-image-of g (t .order) ∙ ap (λ (k : ℕ). block-bytes * k)
+          (sym (counted ∙ blocks-are)) in
           listing-answered refusal _ _ w _ x zero-is (sym length-is) (e ∙ ap₂ {C = List ℕ} (λ (xs : List ℕ) (k : ℕ). xs ++ drop k w) front (sym long))
 
     -- ---- the blocks of links from block `first` on, and the blocks before them
@@ -142,4 +133,5 @@ module _ (n : ℕ) (t : Tables) (w : List ℕ) where
             → Write-contract n t w (record { number = 0; value = block-bytes * blocks }) x
         unfolding block-count
         write-done x put =
-            write-accepted blocks write-blocks x (rw write-blocks fits) (image-filled n first ls (t .order) w h filled x blocks count r (omega (arith, h, fits)) put)
+            write-accepted blocks write-blocks x (rw write-blocks fits)
+            (image-filled n first ls (t .order) w h filled x blocks count r (omega (arith, h, fits)) put)

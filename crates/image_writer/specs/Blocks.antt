@@ -11,18 +11,10 @@
 --   Links-fit, All-links-filled what all blocks of links want, and come to
 --   front-block                 a block before them
 -- That these are the image is `image-filled` in proofs/BlockFilling.antt. Definitions only.
-use mathlib.Core.Path.{_≡_}
-use mathlib.Core.Logic.{_⊎_}
-use mathlib.Core.List.{List, [], _++_, flatMap}
-use Prim.Native.Nat.{ℕ, zero, suc, _+_, _*_, _-_, _%_, _^_, _≤_, _<_, min}
-use lib.ListN.{length, take, drop}
-use lib.Seq.{sets}
-use Rattle.lists.specs.Lists.{range}
-use Rattle.mesh.specs.Limits.{max-radios, row-bytes}
-use Rattle.mesh.specs.Graph.{Link, Graph, graph}
-use Rattle.mesh.specs.Image.{block-bytes, block-links, word, link-bytes, block, blocks-for, order-payload, links-payload}
-use Rattle.rows.specs.Rows.{row-from, set-bits}
-use Rattle.rows.specs.Links.{links-to, links-from}
+use Rattle.lists.specs.{Kit.{_≡_, _⊎_, List, [], _++_, flatMap, ℕ, zero, suc, _+_, _*_, _-_, _%_, _^_, _≤_, _<_, min, length, take, drop, sets}, Lists.{range}}
+use Rattle.mesh.specs.{Limits.{max-radios, row-bytes}, Graph.{Link, Graph, graph}, Image.{block-bytes, block-links, word, link-bytes, block, blocks-for}}
+use Rattle.mesh.specs.{Image.{order-payload, links-payload}}
+use Rattle.rows.specs.{Rows.{row-from, set-bits}, Links.{links-to, links-from}}
 
 abbrev pub marked-graph : (n : ℕ) → (links : List ℕ) → Graph
 marked-graph n ts = graph n (links-from n ts 0 0)

@@ -3,9 +3,7 @@
 --   sealed block         the block with its check in its last four bytes
 -- That an opened block with its payload put and sealed is `block` of mesh is `sealed-payload` in proofs/FillerLaws.antt.
 -- Definitions only.
-use mathlib.Core.List.{List, _∷_, _++_}
-use Prim.Native.Nat.{ℕ}
-use lib.ListN.{take, replicate}
+use Rattle.lists.specs.Kit.{List, _∷_, _++_, ℕ, take, replicate}
 use Rattle.mesh.specs.Image.{word, long, check-sum}
 
 unfoldable pub opened : (kind index : ℕ) → List ℕ

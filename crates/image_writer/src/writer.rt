@@ -1,11 +1,6 @@
 // The image writer. Each block is filled in through its own part of the buffer: the blocks of links first, since where they end tells how
 // many links there are, then the others.
-ghost use mathlib.Core.Path.{_≡_};
-ghost use mathlib.Core.List.{_++_, flatMap};
-ghost use Prim.Native.Nat.{_≤_, _<_, _+_, _*_};
-ghost use lib.Dec.{leb};
-ghost use lib.ListN.{length, take, drop};
-ghost use lib.Seq.{sets};
+ghost use Rattle.lists.specs.Kit.{_≡_, _++_, flatMap, _≤_, _<_, _+_, _*_, leb, length, take, drop, sets};
 ghost use Rattle.lists.specs.Lists.{range};
 ghost use Rattle.mesh.specs.Graph.{link-of};
 ghost use Rattle.mesh.specs.Image.{block-bytes, block-entries, block-count, order-blocks, word, link-bytes, block};

@@ -1,9 +1,5 @@
 -- The three cases of `rules-out`: a radio above the level, one that is left, one that was taken.
-use mathlib.Core.Path.{_≡_}
-use mathlib.Core.Bool.{Bool}
-use Prim.Native.Nat.{ℕ, _+_, _≤_, _<_}
-use lib.Dec.{ltb}
-use borrow.Author.Tests.{lt-ltb, le-ltb}
+use Rattle.lists.specs.Kit.{_≡_, Bool, ℕ, _+_, _≤_, _<_, ltb, lt-ltb, le-ltb}
 use Rattle.lift.specs.Counters.{rules-out}
 
 module _ (k : ℕ) (gone : Bool) (m x : ℕ) where

@@ -2,38 +2,18 @@
 --   places-ordered    what the places say of the graph (`Ordered`)
 --   tight-is          the table's test of a radio is the graph's
 --   Later-counting    the later ones of the first i listed radios are counted
-use mathlib.Core.Path.{_≡_, refl, sym, ap, subst, _∙_}
-use mathlib.Core.Bool.{Bool, true, false, _&&_, cond}
-use mathlib.Core.List.{List, [], _∷_}
-use Prim.Native.Nat.{ℕ, zero, suc, _+_, _/_, _≤_, _<_}
-use native.Mathlib.Omega.{arith}
+use Rattle.lists.{specs.Kit.{_≡_, sym, ap, subst, _∙_, Bool, false, cond, List, [], _∷_, ℕ, zero, suc, _+_, _/_, _≤_, _<_, arith, add-one, le-trans, le-of-eq}}
+use Rattle.lists.{specs.Kit.{ltb, eqb, length, getD, drop, drop-of-length-le, drop-cons, eq-eqb, ne-eqb, le-leb, lt-leb, lt-ltb, le-ltb}, specs.Lists.{In}}
+use Rattle.lists.{specs.Lists.{Entries-below, count, range, filter}, specs.Facts.{Rising, Each-once}, proofs.Tests.{bit-one, byte-bit}}
+use Rattle.lists.{proofs.Member.{getD-of-in, in-getD}, proofs.Range.{once-in, once-length, range-in}, proofs.Filter.{count-filter, in-filter}}
 use mir.Val.{boolByte}
-use native.Mathlib.Numerals.{add-one}
-use native.Mathlib.Nat.{le-trans, le-of-eq}
-use lib.Dec.{ltb, leb, eqb}
-use lib.ListN.{length, getD, drop, drop-of-length-le}
-use lib.Seq.{drop-cons}
-use borrow.Author.Tests.{eq-eqb, ne-eqb, le-leb, lt-leb, lt-ltb, le-ltb}
-use Rattle.lists.specs.Lists.{In, Entries-below, count, range, filter}
-use Rattle.lists.specs.Facts.{Rising, Each-once}
-use Rattle.lists.proofs.Tests.{bit-one, byte-bit}
-use Rattle.lists.proofs.Member.{getD-of-in, in-getD}
-use Rattle.lists.proofs.Range.{once-in, once-length, range-in}
-use Rattle.lists.proofs.Filter.{count-filter, in-filter}
-use Rattle.mesh.specs.Limits.{row-bytes}
-use Rattle.mesh.specs.Graph.{Graph, radios, linked, neighbours-in}
-use Rattle.mesh.specs.Cores.{number}
-use Rattle.mesh.specs.Tables.{Tables, tables, marked, graph-in}
-use Rattle.mesh.proofs.Cores.Certificate.{Certificate}
-use Rattle.mesh.proofs.Cores.KOrders.{k-order-certificate}
-use Rattle.rows.specs.Rows.{neighbours-of}
-use Rattle.rows.proofs.RowListLaws.{neighbours-of-linked}
-use Rattle.conditions.specs.Conditions.{Placed, later-count}
-use Rattle.conditions.proofs.RowByRow.{place-of, count-later, few-later-at}
+use Rattle.mesh.{specs.Limits.{row-bytes}, specs.Graph.{Graph, radios, linked, neighbours-in}, specs.Cores.{number}, specs.Tables.{Tables, tables, marked}}
+use Rattle.mesh.{specs.Tables.{graph-in}, proofs.Cores.Certificate.{Certificate}, proofs.Cores.KOrders.{k-order-certificate}}
+use Rattle.rows.{specs.Rows.{neighbours-of}, proofs.RowListLaws.{neighbours-of-linked}}
+use Rattle.conditions.{specs.Conditions.{later-count}, proofs.RowByRow.{place-of, count-later, few-later-at}}
 use Rattle.soundness.proofs.SoundSite.{number-entry}
 use Rattle.lifting.specs.Tight.{later, Ordered, tight, first-end}
-use Rattle.lift.specs.Peels.{graph-of, Sound-links}
-use Rattle.lift.specs.Search.{Search-places, later-than, place-in, is-tight}
+use Rattle.lift.specs.{Peels.{graph-of, Sound-links}, Search.{Search-places, later-than, place-in, is-tight}}
 use Rattle.lift.proofs.PeelSteps.{links-site, links-valid}
 
 rising-at : (num : ℕ → ℕ) (xs : List ℕ) → Rising num xs → (i j : ℕ) → i < j → j < length xs → num (getD xs i 0) ≤ num (getD xs j 0)

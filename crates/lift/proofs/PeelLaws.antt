@@ -1,29 +1,21 @@
 -- The leaves of the peel, as laws of counters and sets.
 --   is-due        what each test of the code says of it
---   Lowered       of nobody, of one radio, of one radio and then others
---   Lowering      the listed radios from place i on are left
+--   Lowered       of nobody, of one radio, of some radios and then others
+--   Lowering      what the rest leaves, the whole leaves; the bits of a word and the words of two sets in turn
 --   Marking       the radios below v are marked where they pass a test
-use mathlib.Core.Path.{_≡_, refl, sym, ap, subst, _∙_}
-use mathlib.Core.Logic.{_⊎_, inl, inr}
-use mathlib.Core.Bool.{Bool, true, false, _&&_, _||_, not, cond}
-use mathlib.Core.List.{List, [], _∷_}
-use Prim.Native.Nat.{ℕ, zero, suc, _+_, _-_, _≤_, _<_}
-use native.Mathlib.Omega.{arith}
-use native.Mathlib.Numerals.{add-one}
-use lib.Dec.{ltb, leb, eqb}
-use lib.ListN.{length, getD, set, drop, replicate, length-set, length-replicate, drop-of-length-le}
-use lib.Seq.{getD-set-same, getD-set-other, drop-cons}
-use borrow.Author.Tests.{eqb-true, eqb-false, eq-eqb, ne-eqb, ltb-true, ltb-false, le-leb, lt-leb, lt-ltb, le-ltb}
-use Rattle.lists.specs.Lists.{In, member}
-use Rattle.lists.specs.Facts.{Distinct}
-use Rattle.lists.proofs.Tests.{bool-cases, cond-false, iff-eq}
-use Rattle.lists.proofs.Member.{not-member}
-use Rattle.lists.proofs.Parts.{getD-any}
-use Rattle.mesh.specs.Limits.{max-radios, row-bytes}
-use Rattle.mesh.specs.Tables.{marked, put-bit, byte-at}
-use Rattle.mesh.proofs.Tables.Laws.{marked-put-bit, marked-replicate, length-put-bit}
-use Rattle.lifting.specs.Peeling.{left}
-use Rattle.lifting.proofs.Peeling.{below-left, high-left}
+use Rattle.lists.{specs.Kit.{_≡_, refl, sym, ap, subst, _∙_, _⊎_, inl, inr, Bool, true, false, _&&_, _||_, not, cond, List, [], _∷_, ℕ, _+_, _-_, _≤_}}
+use Rattle.lists.{specs.Kit.{_<_, arith, ltb, leb, eqb, length, getD, set, replicate, length-set, length-replicate}}
+use Rattle.lists.{specs.Kit.{getD-set-same, getD-set-other, eqb-true, eqb-false, eq-eqb, ne-eqb, ltb-true, ltb-false, le-leb, lt-leb, lt-ltb}}
+use Rattle.lists.{specs.Kit.{le-ltb}, specs.Lists.{In, member}, specs.Facts.{Distinct}, proofs.Tests.{bool-cases, cond-false, iff-eq}}
+use Rattle.lists.{proofs.Member.{not-member}, proofs.Parts.{getD-any}}
+use Rattle.mesh.{specs.Limits.{max-radios, row-bytes}, specs.Tables.{marked, put-bit, byte-at}, proofs.Tables.Laws.{marked-put-bit, marked-replicate}}
+use Rattle.mesh.{proofs.Tables.Laws.{length-put-bit}}
+use Rattle.lifting.{specs.Peeling.{left}, proofs.Peeling.{below-left, high-left}}
+use Rattle.lists.{specs.Kit.{_++_, _*_, _^_, bitAnd, and-le-l, trailingZeros}, specs.Lists.{range, filter}, proofs.Range.{range-in, distinct-range}}
+use Rattle.lists.{proofs.Filter.{in-filter, distinct-filter}, proofs.Member.{member-append, member-in}, proofs.Distinct.{distinct-right, distinct-apart}}
+use Rattle.mesh.specs.Tables.{digit}
+use Rattle.rows.{specs.Rows.{set-bits}, specs.Sets.{common}, proofs.WordLaws.{set-bits-filter, set-bits-lowest, set-bits-nothing}}
+use Rattle.rows.{proofs.RowWords.{words-from, words-end}, proofs.SetLaws.{both-from, both-word, common-filter}}
 use Rattle.lift.specs.Peels.{is-due, gone-of, Lowered}
 
 -- ---- tests
@@ -261,99 +253,151 @@ module _ (k a w : ℕ) (held cs due : List ℕ) (l : w < length cs) where
         long-put true = length-put-bit true 0 w due
         long-put false = refl
 
--- ---- one radio lowered, and then others
+-- ---- some radios lowered, and then others
 
-module _ (k a x : ℕ) (held xs cs due cs1 due1 ds new : List ℕ) (out : In x xs → ⊥) (one : Lowered k a held (x ∷ []) cs due cs1 due1)
-    (rest : Lowered k a held xs cs1 due1 ds new) where
-  more-same : (w : ℕ) → x ≡ w → member w xs ≡ false
-  more-same w e = not-member w xs (λ i. out (subst (λ (y : ℕ). In y xs) (sym e) i))
+module _ (k a : ℕ) (held xs ys cs due cs1 due1 ds new : List ℕ) (apart : (w : ℕ) → In w xs → In w ys → ⊥) (one : Lowered k a held xs cs due cs1 due1)
+    (rest : Lowered k a held ys cs1 due1 ds new) where
+  more-same : (w : ℕ) → member w xs ≡ true → member w ys ≡ false
+  more-same w e = not-member w ys (apart w (member-in w xs e))
 
-  more-other : (w : ℕ) → (x ≡ w → ⊥) → member w (x ∷ xs) ≡ member w xs
-  unfolding member
-  more-other w ne = rw (ne-eqb x w ne)
+  more-other : (w : ℕ) → member w xs ≡ false → member w (xs ++ ys) ≡ member w ys
+  more-other w e = member-append w xs ys ∙ rw e
 
-  both-same : (w : ℕ) → x ≡ w → member w (x ∷ []) ≡ member w (x ∷ xs)
-  unfolding member
-  both-same w e = rw (eq-eqb x w e)
+  both-same : (w : ℕ) → member w xs ≡ true → member w xs ≡ member w (xs ++ ys)
+  both-same w e = e ∙ sym (member-append w xs ys ∙ ap (λ (b : Bool). b || member w ys) e)
 
-  counter-same : (w : ℕ) → x ≡ w → getD ds w 255 ≡ getD cs1 w 255
+  counter-same : (w : ℕ) → member w xs ≡ true → getD ds w 255 ≡ getD cs1 w 255
   counter-same w e =
-      rest .counter-after w ∙ cond-false (left cs1 w && member w xs) (getD cs1 w 255 - 1) (getD cs1 w 255) (and-no (left cs1 w) (member w xs) (more-same w e))
+      rest .counter-after w ∙ cond-false (left cs1 w && member w ys) (getD cs1 w 255 - 1) (getD cs1 w 255) (and-no (left cs1 w) (member w ys) (more-same w e))
 
-  counter-other : (w : ℕ) → (x ≡ w → ⊥) → getD cs1 w 255 ≡ getD cs w 255
-  counter-other w ne =
-      one .counter-after w
-      ∙ cond-false (left cs w && member w (x ∷ [])) (getD cs w 255 - 1) (getD cs w 255) (and-no (left cs w) (member w (x ∷ [])) (one-other x w ne))
+  counter-other : (w : ℕ) → member w xs ≡ false → getD cs1 w 255 ≡ getD cs w 255
+  counter-other w e =
+      one .counter-after w ∙ cond-false (left cs w && member w xs) (getD cs w 255 - 1) (getD cs w 255) (and-no (left cs w) (member w xs) e)
 
-  left-other : (w : ℕ) → (x ≡ w → ⊥) → left cs1 w ≡ left cs w
+  left-other : (w : ℕ) → member w xs ≡ false → left cs1 w ≡ left cs w
   unfolding left
-  left-other w ne = ap (λ (y : ℕ). ltb y 128) (counter-other w ne)
+  left-other w e = ap (λ (y : ℕ). ltb y 128) (counter-other w e)
 
-  due-like : (w : ℕ) → x ≡ w → is-due k a held cs1 w ≡ is-due k a held ds w
+  due-like : (w : ℕ) → member w xs ≡ true → is-due k a held cs1 w ≡ is-due k a held ds w
   unfolding is-due
   due-like w e = rw (counter-same w e)
 
-  counter-both : (w : ℕ) → (eqb x w ≡ true) ⊎ (eqb x w ≡ false) → getD ds w 255 ≡ cond (left cs w && member w (x ∷ xs)) (getD cs w 255 - 1) (getD cs w 255)
-  counter-both w (inl q) =
-      let e : x ≡ w = eqb-true x w q in
+  counter-both : (w : ℕ) → (member w xs ≡ true) ⊎ (member w xs ≡ false)
+      → getD ds w 255 ≡ cond (left cs w && member w (xs ++ ys)) (getD cs w 255 - 1) (getD cs w 255)
+  counter-both w (inl e) =
       counter-same w e ∙ one .counter-after w ∙ ap (λ (b : Bool). cond (left cs w && b) (getD cs w 255 - 1) (getD cs w 255)) (both-same w e)
-  counter-both w (inr q) =
-      let ne : x ≡ w → ⊥ = eqb-false x w q in rw (more-other w ne, sym (left-other w ne), sym (counter-other w ne)) (rest .counter-after w)
+  counter-both w (inr e) = rw (more-other w e, sym (left-other w e), sym (counter-other w e)) (rest .counter-after w)
 
-  due-both : (w : ℕ) → w < max-radios → (eqb x w ≡ true) ⊎ (eqb x w ≡ false)
-      → marked new 0 w ≡ (marked due 0 w || ((left cs w && member w (x ∷ xs)) && is-due k a held ds w))
-  due-both w l (inl q) =
-      let e : x ≡ w = eqb-true x w q in
+  due-both : (w : ℕ) → w < max-radios → (member w xs ≡ true) ⊎ (member w xs ≡ false)
+      → marked new 0 w ≡ (marked due 0 w || ((left cs w && member w (xs ++ ys)) && is-due k a held ds w))
+  due-both w l (inl e) =
       rest .due-after w l
-      ∙ or-no (marked due1 0 w) ((left cs1 w && member w xs) && is-due k a held ds w) (rw (and-no (left cs1 w) (member w xs) (more-same w e)))
+      ∙ or-no (marked due1 0 w) ((left cs1 w && member w ys) && is-due k a held ds w) (rw (and-no (left cs1 w) (member w ys) (more-same w e)))
       ∙ one .due-after w l
       ∙ rw (both-same w e, due-like w e)
-  due-both w l (inr q) =
-      let ne : x ≡ w → ⊥ = eqb-false x w q in
+  due-both w l (inr e) =
       rest .due-after w l
-      ∙ ap (λ (b : Bool). b || ((left cs1 w && member w xs) && is-due k a held ds w))
-      (one .due-after w l ∙ or-no (marked due 0 w) ((left cs w && member w (x ∷ [])) && is-due k a held cs1 w) (rw (and-no (left cs w) (member w
-      (x ∷ [])) (one-other x w ne))))
-      ∙ rw (more-other w ne, left-other w ne)
+      ∙ ap (λ (b : Bool). b || ((left cs1 w && member w ys) && is-due k a held ds w))
+      (one .due-after w l ∙ or-no (marked due 0 w) ((left cs w && member w xs) && is-due k a held cs1 w) (rw (and-no (left cs w) (member w xs) e)))
+      ∙ rw (more-other w e, left-other w e)
 
-  pub lowered-cons : Lowered k a held (x ∷ xs) cs due ds new
-  lowered-cons = record {
+  pub lowered-append : Lowered k a held (xs ++ ys) cs due ds new
+  lowered-append = record {
     long = rest .long ∙ one .long;
     due-long = rest .due-long ∙ one .due-long;
-    counter-after = λ w. counter-both w (bool-cases (eqb x w));
-    due-after = λ w l. due-both w l (bool-cases (eqb x w));
+    counter-after = λ w. counter-both w (bool-cases (member w xs));
+    due-after = λ w l. due-both w l (bool-cases (member w xs));
   }
 
--- ---- the listed radios lowered
+-- ---- the radios of words lowered
 
--- from place i of the list on is left
-pub record Lowering (k a : ℕ) (held xs old old-due : List ℕ) (i : ℕ) (cs due : List ℕ) : Type 0 where
-  pub low : i ≤ length xs
+-- rest is left
+pub record Lowering (k a : ℕ) (held xs old old-due rest cs due : List ℕ) : Type 0 where
   pub long : length cs ≡ length old
   pub due-long : length due ≡ length old-due
-  pub once : Distinct (drop i xs)
-  pub whole : (ds new : List ℕ) → Lowered k a held (drop i xs) cs due ds new → Lowered k a held xs old old-due ds new
+  pub once : Distinct rest
+  pub whole : (ds new : List ℕ) → Lowered k a held rest cs due ds new → Lowered k a held xs old old-due ds new
 
 module _ (k a : ℕ) (held xs old old-due : List ℕ) where
-  pub lowering-none : Distinct xs → Lowering k a held xs old old-due 0 old old-due
-  lowering-none d = record { low = omega arith; long = refl; due-long = refl; once = d; whole = λ ds new h. h }
+  pub lowering-none : Distinct xs → Lowering k a held xs old old-due xs old old-due
+  lowering-none d = record { long = refl; due-long = refl; once = d; whole = λ ds new h. h }
 
-  pub lowering-turn : (i x : ℕ) (cs due ds new : List ℕ) → i < length xs → x ≡ getD xs i 0 → Lowered k a held (x ∷ []) cs due ds new
-      → Lowering k a held xs old old-due i cs due → Lowering k a held xs old old-due (i + 1) ds new
-  lowering-turn i x cs due ds new l e one h = go (rw (add-one i) (drop-cons xs i 0 l ∙ ap (λ (y : ℕ). y ∷ drop (suc i) xs) (sym e)))
-    where
-      go : drop i xs ≡ x ∷ drop (i + 1) xs → Lowering k a held xs old old-due (i + 1) ds new
-      go cut =
-          let both : Distinct (x ∷ drop (i + 1) xs) = subst Distinct cut (h .once) in
-          record {
-            low = omega arith;
-            long = one .long ∙ h .long;
-            due-long = one .due-long ∙ h .due-long;
-            once = both .1;
-            whole = λ es end r. h .whole es end (subst (λ (ys : List ℕ). Lowered k a held ys cs due es end) (sym cut)
-                (lowered-cons k a x held (drop (i + 1) xs) cs due ds new es end (both .0) one r));
-          }
+  lowering-part : (ys rest cs due ds new : List ℕ) → Lowering k a held xs old old-due (ys ++ rest) cs due → Lowered k a held ys cs due ds new
+      → Lowering k a held xs old old-due rest ds new
+  lowering-part ys rest cs due ds new h one = record {
+    long = one .long ∙ h .long;
+    due-long = one .due-long ∙ h .due-long;
+    once = distinct-right ys rest (h .once);
+    whole = λ es end r. h .whole es end (lowered-append k a held ys rest cs due ds new es end (distinct-apart ys rest (h .once)) one r);
+  }
 
-  pub lowering-end : (i : ℕ) (cs due : List ℕ) → length xs ≤ i → Lowering k a held xs old old-due i cs due → Lowered k a held xs old old-due cs due
-  lowering-end i cs due l h =
-      h .whole cs due (subst (λ (ys : List ℕ). Lowered k a held ys cs due cs due) (sym (drop-of-length-le xs l)) (lowered-none k a held cs due))
+  lowering-end : (rest cs due : List ℕ) → rest ≡ [] → Lowering k a held xs old old-due rest cs due → Lowered k a held xs old old-due cs due
+  lowering-end rest cs due e h = h .whole cs due (rw e (lowered-none k a held cs due))
+
+-- where the lowest set bit of a word stands
+pub lowest-bit : (w : ℕ) → (w ≡ 0 → ⊥) → w < 2 ^ 64 → (trailingZeros 64 w < 64) × (digit w (trailingZeros 64 w) ≡ true)
+lowest-bit w some small = go (in-filter (digit w) (range 0 64) (0 + trailingZeros 64 w) listed)
+  where
+    listed : In (0 + trailingZeros 64 w) (filter (digit w) (range 0 64))
+    listed =
+        subst (In (0 + trailingZeros 64 w))
+        (sym (set-bits-lowest 64 0 w (omega arith) small) ∙ set-bits-filter 64 0 w (digit w) (λ m l. ap (digit w) (omega arith))) (inl refl)
+
+    go : In (0 + trailingZeros 64 w) (range 0 64) × (digit w (0 + trailingZeros 64 w) ≡ true)
+        → (trailingZeros 64 w < 64) × (digit w (trailingZeros 64 w) ≡ true)
+    go (there, on) = let same : 0 + trailingZeros 64 w ≡ trailingZeros 64 w = omega arith in
+        (omega (arith, range-in 0 64 (0 + trailingZeros 64 w) there .1), ap (digit w) (sym same) ∙ on)
+
+-- the set bits of a word, the lowest first
+pub record Word-lowering (k a : ℕ) (held : List ℕ) (first word : ℕ) (old old-due : List ℕ) (rest : ℕ) (cs due : List ℕ) : Type 0 where
+  pub small : rest < 2 ^ 64
+  pub lowering : Lowering k a held (set-bits 64 first word) old old-due (set-bits 64 first rest) cs due
+
+module _ (k a : ℕ) (held : List ℕ) (first word : ℕ) (old old-due : List ℕ) where
+  distinct-bits : (w : ℕ) → Distinct (set-bits 64 first w)
+  distinct-bits w =
+      let f : ℕ → Bool = λ v. digit w (v - first) in
+      subst Distinct (sym (set-bits-filter 64 first w f (λ m l. ap (digit w) (omega arith)))) (distinct-filter f (range first 64) (distinct-range first 64))
+
+  pub word-none : word < 2 ^ 64 → Word-lowering k a held first word old old-due word old old-due
+  word-none l = record { small = l; lowering = lowering-none k a held (set-bits 64 first word) old old-due (distinct-bits word) }
+
+  pub word-turn : (rest : ℕ) (cs due ds new : List ℕ) → (rest ≡ 0 → ⊥) → Word-lowering k a held first word old old-due rest cs due
+      → Lowered k a held ((first + trailingZeros 64 rest) ∷ []) cs due ds new
+      → Word-lowering k a held first word old old-due (bitAnd rest (rest - 1)) ds new
+  word-turn rest cs due ds new some h one = record {
+    small = omega (arith, and-le-l rest (rest - 1), h .small);
+    lowering = lowering-part k a held (set-bits 64 first word) old old-due ((first + trailingZeros 64 rest) ∷ [])
+        (set-bits 64 first (bitAnd rest (rest - 1))) cs due ds new (rw (set-bits-lowest 64 first rest (omega arith) (h .small)) at (h .lowering)) one;
+  }
+
+  pub word-end : (rest : ℕ) (cs due : List ℕ) → rest ≡ 0 → Word-lowering k a held first word old old-due rest cs due
+      → Lowered k a held (set-bits 64 first word) old old-due cs due
+  word-end rest cs due e h =
+      lowering-end k a held (set-bits 64 first word) old old-due (set-bits 64 first rest) cs due
+      (ap (set-bits 64 first) e ∙ set-bits-nothing 64 first) (h .lowering)
+
+-- the words of two sets
+pub record Words-lowering (k a : ℕ) (held x y old old-due : List ℕ) (i : ℕ) (cs due : List ℕ) : Type 0 where
+  pub low : i ≤ 8
+  pub lowering : Lowering k a held (common x y) old old-due (both-from x y i) cs due
+
+module _ (k a : ℕ) (held x y old old-due : List ℕ) where
+  pub words-none : Words-lowering k a held x y old old-due 0 old old-due
+  words-none = record {
+    low = omega arith;
+    lowering = rw (common-filter x y) (lowering-none k a held (both-from x y 0) old old-due
+        (distinct-filter _ (range 0 max-radios) (distinct-range 0 max-radios)));
+  }
+
+  pub words-turn : (i : ℕ) (cs due ds new : List ℕ) → i < 8 → Words-lowering k a held x y old old-due i cs due
+      → Lowered k a held (set-bits 64 (64 * i) (bitAnd (getD x i 0) (getD y i 0))) cs due ds new
+      → Words-lowering k a held x y old old-due (i + 1) ds new
+  words-turn i cs due ds new l h one = record {
+    low = omega arith;
+    lowering = lowering-part k a held (common x y) old old-due (set-bits 64 (64 * i) (bitAnd (getD x i 0) (getD y i 0))) (both-from x y (i + 1)) cs due ds new
+        (rw (words-from _ i (bitAnd (getD x i 0) (getD y i 0)) l (both-word x y i)) at (h .lowering)) one;
+  }
+
+  pub words-over : (i : ℕ) (cs due : List ℕ) → 8 ≤ i → Words-lowering k a held x y old old-due i cs due → Lowered k a held (common x y) old old-due cs due
+  words-over i cs due l h = lowering-end k a held (common x y) old old-due (both-from x y i) cs due (words-end _ i l) (h .lowering)

@@ -1,40 +1,26 @@
 -- Turns of the peel: a radio that is due is taken, and the counters say the same of the graph after as before.
 --   Sound-links    what sound links say of the graph that they mark
 --   state-takes    the state after a turn, and that fewer radios are left
-use mathlib.Core.Path.{_≡_, refl, sym, ap, subst, _∙_}
-use mathlib.Core.Logic.{_⊎_, inl, inr}
-use mathlib.Core.Bool.{Bool, true, false, _&&_, _||_, not, cond}
-use mathlib.Core.List.{List, [], _∷_}
-use Prim.Native.Nat.{ℕ, suc, _+_, _-_, _/_, _≤_, _<_, min}
-use native.Mathlib.Omega.{arith}
-use lib.Dec.{ltb, leb, eqb}
-use lib.ListN.{length, getD, set, take, length-set, List·getD-eq-default}
-use lib.Seq.{getD-set-same, getD-set-other}
-use borrow.Author.Tests.{eqb-true, eqb-false, eq-eqb, ne-eqb, ltb-true, ltb-false, lt-ltb, leb-true, leb-false, le-leb, lt-leb, not-true, not-false}
-use Rattle.lists.specs.Lists.{In, Entries-below, member, count, range, overwrite, head-or}
-use Rattle.lists.proofs.Tests.{bool-cases, never, and-left, and-right, and-both, or-cases, or-left, or-right, cond-false, cond-true}
-use Rattle.lists.proofs.Ascending.{head-or-lowest}
-use Rattle.lists.proofs.Member.{in-getD, member-in, head-or-below}
-use Rattle.mesh.specs.Limits.{max-radios, max-neighbours, row-bytes}
-use Rattle.mesh.specs.Graph.{linked}
-use Rattle.mesh.specs.Cores.{number}
-use Rattle.mesh.specs.Tables.{Tables, tables, marked, put-bit, byte-at, graph-in}
-use Rattle.mesh.specs.Sound.{sound}
-use Rattle.mesh.specs.Valid.{Valid}
-use Rattle.mesh.proofs.Tables.Laws.{marked-put-bit, length-put-bit}
-use Rattle.mesh.proofs.Tables.Rows.{few-of}
-use Rattle.mesh.proofs.Images.Tables.{valid-graph-in}
+use Rattle.lists.{specs.Kit.{_≡_, refl, sym, ap, subst, _∙_, _⊎_, inl, inr, Bool, true, false, _&&_, _||_, not, cond, List, ℕ, suc, _+_, _-_, _/_, _≤_, _<_}}
+use Rattle.lists.{specs.Kit.{min, arith, ltb, leb, eqb, length, getD, set, take, length-set, List·getD-eq-default, getD-set-same, getD-set-other, eqb-true}}
+use Rattle.lists.{specs.Kit.{eqb-false, eq-eqb, ne-eqb, ltb-true, ltb-false, lt-ltb, leb-true, leb-false, le-leb, lt-leb, not-true, not-false}}
+use Rattle.lists.{specs.Lists.{In, member, count, range, overwrite, head-or}, proofs.Tests.{bool-cases, never, and-left, and-right, and-both}}
+use Rattle.lists.{proofs.Tests.{or-cases, or-left, or-right, cond-false, cond-true}, proofs.Ascending.{head-or-lowest}, proofs.Member.{member-in}}
+use Rattle.lists.{proofs.Member.{head-or-below}, proofs.Parts.{getD-any}, proofs.Filter.{member-filter}, proofs.Range.{in-range}, proofs.All.{all-in}}
+use Rattle.lists.{specs.Kit.{_*_, _^_, _%_, bitAnd, and-le-l, trailingZeros, replicate, length-replicate, getD-replicate}, specs.Lists.{all}}
+use Rattle.mesh.{specs.Limits.{max-radios, max-neighbours, row-bytes}, specs.Graph.{linked}, specs.Cores.{number}, specs.Tables.{Tables, tables, marked, digit}}
+use Rattle.mesh.{specs.Tables.{put-bit, byte-at, graph-in}, specs.Sound.{sound}, specs.Valid.{Valid}, proofs.Tables.Laws.{marked-put-bit, length-put-bit}}
+use Rattle.mesh.{proofs.Tables.Rows.{few-of}, proofs.Images.Tables.{valid-graph-in}}
 use Rattle.calls.specs.Questions.{size-good, site-lengths, lengths-of}
-use Rattle.rows.specs.Rows.{neighbours-of, row-listed, row-count}
-use Rattle.rows.proofs.RowListLaws.{ascending-neighbours-of, in-neighbours-of, member-neighbours-of, length-neighbours-of, row-listed-fits}
-use Rattle.rows.proofs.RowWords.{row-listed-whole}
-use Rattle.soundness.specs.Checks.{fits-sound}
-use Rattle.soundness.proofs.SoundSite.{Sound-site, fits-sound-site, linked-marked, row-listed-neighbours}
-use Rattle.lifting.specs.Peeling.{left, stays, Taken}
-use Rattle.lifting.proofs.Peeling.{left-below, high-left, below-left, stays-above, stays-left, stays-cases, taken-fewer, peeling-near, peeling-takes}
-use Rattle.lift.specs.Peels.{graph-of, Sound-links, is-due, Due, gone-of, Lowered, Peel-state, Peel-begin, Peel-end}
-use Rattle.lift.proofs.PeelLaws.{or-no}
-use Rattle.lists.proofs.Parts.{getD-any}
+use Rattle.rows.{specs.Rows.{row-word, word-of}, proofs.WordLaws.{word-at-less}, specs.Sets.{in-set, take-out, common, Row-joined}}
+use Rattle.rows.{proofs.SetLaws.{digit-and, in-set-zeros, in-take-out, length-take-out, common-filter}}
+use Rattle.rows.{specs.Rows.{neighbours-of, row-listed, row-count}, proofs.RowListLaws.{ascending-neighbours-of, in-neighbours-of, member-neighbours-of}}
+use Rattle.rows.{proofs.RowListLaws.{length-neighbours-of, row-listed-fits}, proofs.RowWords.{row-listed-whole, marked-word, word-of-whole}}
+use Rattle.soundness.{specs.Checks.{fits-sound}, proofs.SoundSite.{Sound-site, fits-sound-site, linked-marked, row-listed-neighbours}}
+use Rattle.lifting.{specs.Peeling.{left, stays, Taken}, proofs.Peeling.{left-below, high-left, below-left, stays-above, stays-left, stays-cases, taken-fewer}}
+use Rattle.lifting.{proofs.Peeling.{taken-still, peeling-near, peeling-takes}}
+use Rattle.lift.specs.Peels.{graph-of, Sound-links, is-due, Due, gone-of, Lowered, Next-due, Peel-state, Peel-begin, Peel-end}
+use Rattle.lift.proofs.PeelLaws.{or-no, lowest-bit}
 
 -- ---- sound links
 
@@ -69,13 +55,22 @@ module _ (links : List ℕ) (s : Sound-links links) where
       let fits = row-listed-fits max-neighbours links v old new r (omega (arith, ap length listed, few-neighbours v lv)) e f in
       (omega (arith, e, long), fits .1 ∙ listed)
 
-  pub neighbours-below : (v : ℕ) → Entries-below max-radios (neighbours-of links v)
-  neighbours-below v i l = in-neighbours-of links v (getD (neighbours-of links v) i 0) (in-getD (neighbours-of links v) i l) .0
+  pub row-own : (v : ℕ) → v < n → row-listed links v ≡ neighbours-of links v
+  row-own v lv = row-listed-neighbours n t links-site v lv
 
 -- ---- a radio that is due
 
-module _ (links held : List ℕ) (k a : ℕ) (cs due : List ℕ) (s : Sound-links links) (h : Peel-state links held k a cs due) (v : ℕ) (lv : v < max-radios)
-    (m : marked due 0 v ≡ true) where
+-- a radio that is left has an entry
+pub inside-left : (cs : List ℕ) (w : ℕ) → length cs ≡ max-radios → left cs w ≡ true → w < max-radios
+inside-left cs w long l = by-test (bool-cases (ltb w max-radios))
+  where
+    by-test : (ltb w max-radios ≡ true) ⊎ (ltb w max-radios ≡ false) → w < max-radios
+    by-test (inl q) = ltb-true w max-radios q
+    by-test (inr q) =
+        absurd (omega (arith, left-below cs w l, List·getD-eq-default cs 255 {n = w} (omega (arith, long, ltb-false w max-radios q))))
+
+module _ (links held : List ℕ) (k a : ℕ) (stay cs due : List ℕ) (s : Sound-links links) (h : Peel-state links held k a stay cs due) (v : ℕ)
+    (lv : v < max-radios) (m : marked due 0 v ≡ true) where
   own-due : is-due k a held cs v ≡ true
   own-due = sym (h .due-is v lv) ∙ m
 
@@ -138,9 +133,46 @@ module _ (links held : List ℕ) (k a : ℕ) (cs due : List ℕ) (s : Sound-link
   unfolding left
   other-left w ne = ap (λ (x : ℕ). ltb x 128) (other-counter w ne)
 
-  -- then its neighbours'
-  module _ (due1 ds new xs : List ℕ) (out : due1 ≡ put-bit false 0 v due) (near : xs ≡ neighbours-of links v)
-      (lower : Lowered k a held xs cs1 due1 ds new) where
+  -- then its neighbours', of which those that are left stand in both sets
+  module _ (due1 ds new near stay1 : List ℕ) (out : due1 ≡ put-bit false 0 v due) (out-stay : stay1 ≡ take-out v stay)
+      (row : Row-joined links v (replicate 8 0) near) (masked : Lowered k a held (common near stay1) cs1 due1 ds new) where
+    abbrev xs : List ℕ
+    xs = neighbours-of links v
+
+    stay-other : (w : ℕ) → (w ≡ v → ⊥) → in-set stay1 w ≡ in-set stay w
+    stay-other w ne =
+        ap (λ (ws : List ℕ). in-set ws w) out-stay ∙ in-take-out v w stay (omega (arith, h .stay-long))
+        ∙ cond-false (eqb v w) false (in-set stay w) (ne-eqb v w (λ e. ne (sym e)))
+
+    in-row : (w : ℕ) → in-set near w ≡ member w xs
+    in-row w = row .bits w ∙ rw (in-set-zeros 8 w) (ap (member w) (row-own links s v own-radio))
+
+    -- a radio that is left stands in the sets as in the row
+    same-near : (w : ℕ) → (left cs1 w ≡ true) ⊎ (left cs1 w ≡ false) → (left cs1 w && member w (common near stay1)) ≡ (left cs1 w && member w xs)
+    same-near w (inr q) = rw q
+    same-near w (inl q) =
+        let ne : w ≡ v → ⊥ = λ e. never (left cs1 v) (ap (left cs1) (sym e) ∙ q) own-gone in
+        let small : w < max-radios = inside-left cs1 w own-long q in
+        let has : in-set stay1 w ≡ true = stay-other w ne ∙ h .stay-has w (sym (other-left w ne) ∙ q) in
+        ap (λ (b : Bool). left cs1 w && b)
+        (ap (member w) (common-filter near stay1)
+        ∙ member-filter (λ x. in-set near x && in-set stay1 x) (range 0 max-radios) w (in-range 0 max-radios w (omega arith) (omega arith))
+        ∙ rw has (and-true (in-set near w)) ∙ in-row w)
+      where
+        and-true : (b : Bool) → (b && true) ≡ b
+        and-true true = refl
+        and-true false = refl
+
+    lower : Lowered k a held xs cs1 due1 ds new
+    lower = record {
+      long = masked .long;
+      due-long = masked .due-long;
+      counter-after = λ w. masked .counter-after w
+          ∙ ap (λ (b : Bool). cond b (getD cs1 w 255 - 1) (getD cs1 w 255)) (same-near w (bool-cases (left cs1 w)));
+      due-after = λ w lw. masked .due-after w lw
+          ∙ ap (λ (b : Bool). marked due1 0 w || (b && is-due k a held ds w)) (same-near w (bool-cases (left cs1 w)));
+    }
+
     own-after : getD ds v 255 ≡ 128 + getD cs v 255
     own-after =
         lower .counter-after v ∙ cond-false (left cs1 v && member v xs) (getD cs1 v 255 - 1) (getD cs1 v 255) (rw own-gone) ∙ own-counter
@@ -149,7 +181,7 @@ module _ (links held : List ℕ) (k a : ℕ) (cs due : List ℕ) (s : Sound-link
     touched w ne = rw (other-left w ne) (by-test (bool-cases (left cs w)))
       where
         by-test : (left cs w ≡ true) ⊎ (left cs w ≡ false) → (left cs w && member w xs) ≡ (left cs w && linked (graph-of links) v w)
-        by-test (inl q) = ap (λ (b : Bool). left cs w && b) (ap (member w) near ∙ member-linked links s v w own-radio (left-radio w q))
+        by-test (inl q) = ap (λ (b : Bool). left cs w && b) (member-linked links s v w own-radio (left-radio w q))
         by-test (inr q) = rw q
 
     after-other : (w : ℕ) → (w ≡ v → ⊥) → getD ds w 255 ≡ cond (left cs w && linked (graph-of links) v w) (getD cs w 255 - 1) (getD cs w 255)
@@ -255,7 +287,7 @@ module _ (links held : List ℕ) (k a : ℕ) (cs due : List ℕ) (s : Sound-link
         at (inr h) (inr z) =
             inl (stays-left (graph-of links) k ds w (below-left ds w (omega (arith, never-more w (eqb-false w v z), left-below cs w h))))
 
-    pub state-takes : Peel-state links held k a ds new
+    pub state-takes : Peel-state links held k a stay1 ds new
     state-takes = record {
       peeling = peeling-takes (graph-of links) (s .order) (links-valid links s) k a cs ds v (h .peeling) own-left not-low-end own-low taken;
       low = h .low;
@@ -263,6 +295,8 @@ module _ (links held : List ℕ) (k a : ℕ) (cs due : List ℕ) (s : Sound-link
       due-long = lower .due-long ∙ ap length out ∙ length-put-bit false 0 v due ∙ h .due-long;
       due-is = λ w lw. due-after w lw (bool-cases (eqb v w));
       kept = λ w lw on. kept-after w on (h .kept w lw on);
+      stay-long = ap length out-stay ∙ length-take-out v stay ∙ h .stay-long;
+      stay-has = λ w q. let was = taken-still (graph-of links) cs ds v own-left taken w q in stay-other w (was .1) ∙ h .stay-has w (was .0);
     }
 
     pub state-fewer : count (left ds) (range 0 max-radios) < count (left cs) (range 0 max-radios)
@@ -290,16 +324,30 @@ module _ (due : List ℕ) (long : length due ≡ row-bytes) (v : ℕ) (e : v ≡
           let there : In w (neighbours-of due 0) = member-in w (neighbours-of due 0) (member-neighbours-of due 0 w lw ∙ q) in
           absurd (omega (arith, first, head-or-lowest max-radios w (neighbours-of due 0) (ascending-neighbours-of due 0) there))
 
--- ---- the whole peel
+  -- the lowest is one that may be next
+  pub next-first : Next-due due v
+  next-first = record { some = first-due; none = λ past w lw. none-before w (omega arith) lw }
 
--- a radio that is left has an entry
-pub inside-left : (cs : List ℕ) (w : ℕ) → length cs ≡ max-radios → left cs w ≡ true → w < max-radios
-inside-left cs w long l = by-test (bool-cases (ltb w max-radios))
+-- the lowest bit of what is left of word k of the set when another word masks it
+pub early-due : (due : List ℕ) → ((j : ℕ) → getD due j 0 < 256) → length due ≡ row-bytes → (k x y : ℕ) → k < 8 → x ≡ word-of due k
+    → (bitAnd x y ≡ 0 → ⊥) → marked due 0 (64 * k + trailingZeros 64 (bitAnd x y)) ≡ true
+early-due due bytes long k x y h e some = lowest (lowest-bit (bitAnd x y) some (omega (arith, and-le-l x y, small)))
   where
-    by-test : (ltb w max-radios ≡ true) ⊎ (ltb w max-radios ≡ false) → w < max-radios
-    by-test (inl q) = ltb-true w max-radios q
-    by-test (inr q) =
-        absurd (omega (arith, left-below cs w l, List·getD-eq-default cs 255 {n = w} (omega (arith, long, ltb-false w max-radios q))))
+    word : row-word 8 due (row-bytes * 0 + 8 * k) ≡ x
+    word =
+        let at : row-bytes * 0 + 8 * k ≡ 8 * k = omega arith in
+        ap (row-word 8 due) at ∙ sym (word-of-whole due k (omega arith)) ∙ sym e
+
+    small : x < 2 ^ 64
+    small = omega (arith, word, word-at-less due bytes (row-bytes * 0 + 8 * k) 8)
+
+    lowest : (trailingZeros 64 (bitAnd x y) < 64) × (digit (bitAnd x y) (trailingZeros 64 (bitAnd x y)) ≡ true)
+        → marked due 0 (64 * k + trailingZeros 64 (bitAnd x y)) ≡ true
+    lowest (less, on) =
+        let m = trailingZeros 64 (bitAnd x y) in
+        marked-word due bytes 0 k m less ∙ ap (λ (z : ℕ). digit z m) word ∙ and-left (digit x m) (digit y m) (sym (digit-and x y m) ∙ on)
+
+-- ---- the whole peel
 
 due-again : (k a : ℕ) (held cs : List ℕ) (w : ℕ) → leb (getD cs w 255) k ≡ true → (w ≡ a → ⊥) → marked held 0 w ≡ false → is-due k a held cs w ≡ true
 unfolding is-due
@@ -309,17 +357,28 @@ due-short-again : (k a : ℕ) (held cs : List ℕ) (w : ℕ) → getD cs w 255 <
 unfolding is-due
 due-short-again k a held cs w l ne = rw (le-leb (getD cs w 255) k (omega arith), ne-eqb w a ne, lt-ltb (getD cs w 255) k l)
 
--- r and b are left so far, a has enough neighbours that stay, and v is the first radio due
-pub record Peeling-on (links held : List ℕ) (k a r b : ℕ) (cs due : List ℕ) (v : ℕ) : Type 0 where
-  pub state : Peel-state links held k a cs due
+-- the set of all radios, as the peel begins with it
+full-bits : all (digit 18446744073709551615) (range 0 64) ≡ true
+unfolding digit all range
+full-bits = refl
+
+all-stay : (w : ℕ) → w < max-radios → in-set (replicate 8 18446744073709551615) w ≡ true
+unfolding in-set
+all-stay w l =
+    ap (λ (x : ℕ). digit x (w % 64)) (getD-replicate 8 (w / 64) 18446744073709551615 0 (omega arith))
+    ∙ all-in (digit 18446744073709551615) (range 0 64) full-bits (w % 64) (in-range 0 64 (w % 64) (omega arith) (omega arith))
+
+-- r and b are left so far, a has enough neighbours that stay, and v is to be taken next
+pub record Peeling-on (links held : List ℕ) (k a r b : ℕ) (stay cs due : List ℕ) (v : ℕ) : Type 0 where
+  pub state : Peel-state links held k a stay cs due
   pub there : left cs r ≡ true
   pub stop-there : left cs b ≡ true
   pub fits : k ≤ getD cs a 255
-  pub first : v ≡ head-or max-radios (row-listed due 0)
+  pub next : Next-due due v
 
 module _ (links held : List ℕ) (k a r b : ℕ) (cs due : List ℕ) where
-  pub peel-starts : (v : ℕ) → length due ≡ row-bytes → Due k a held cs due → Peel-begin links held k a r b cs → v ≡ head-or max-radios (row-listed due 0)
-      → Peeling-on links held k a r b cs due v
+  pub peel-starts : (v : ℕ) → length due ≡ row-bytes → Due k a held cs due → Peel-begin links held k a r b cs → Next-due due v
+      → Peeling-on links held k a r b (replicate 8 18446744073709551615) cs due v
   peel-starts v long d h e = record {
     state = record {
       peeling = h .base .peeling;
@@ -328,14 +387,16 @@ module _ (links held : List ℕ) (k a r b : ℕ) (cs due : List ℕ) where
       due-long = long;
       due-is = d;
       kept = h .kept;
+      stay-long = length-replicate {A = ℕ} 8 18446744073709551615;
+      stay-has = λ w q. all-stay w (inside-left cs w (h .base .long) q);
     };
     there = h .base .there;
     stop-there = h .stop-there;
     fits = h .base .fits;
-    first = e;
+    next = e;
   }
 
-  module _ (h : Peel-state links held k a cs due) where
+  module _ (stay : List ℕ) (h : Peel-state links held k a stay cs due) where
     stopped : (gone-of k a r cs ≡ true) ⊎ (left cs b ≡ false) → Peel-end links held k a r b cs false
     stopped e = record {
       peeling = h .peeling;
@@ -356,7 +417,7 @@ module _ (links held : List ℕ) (k a r b : ℕ) (cs due : List ℕ) where
         at (inr e) = inr (not-true (left cs b) e)
 
     -- it goes on
-    pub peel-on : (v : ℕ) → (gone-of k a r cs || not (left cs b)) ≡ false → v ≡ head-or max-radios (row-listed due 0) → Peeling-on links held k a r b cs due v
+    pub peel-on : (v : ℕ) → (gone-of k a r cs || not (left cs b)) ≡ false → Next-due due v → Peeling-on links held k a r b stay cs due v
     unfolding gone-of
     peel-on v q e =
         let both = or-none (gone-of k a r cs) (not (left cs b)) q in
@@ -366,7 +427,7 @@ module _ (links held : List ℕ) (k a r b : ℕ) (cs due : List ℕ) where
           there = not-false (left cs r) (own .0);
           stop-there = not-false (left cs b) (both .1);
           fits = ltb-false (getD cs a 255) k (own .1);
-          first = e;
+          next = e;
         }
       where
         or-none : (x y : Bool) → (x || y) ≡ false → (x ≡ false) × (y ≡ false)
@@ -374,8 +435,8 @@ module _ (links held : List ℕ) (k a r b : ℕ) (cs due : List ℕ) where
         or-none false y z = (refl, z)
 
   -- nothing is due
-  pub peel-done : (v : ℕ) → max-radios ≤ v → Peeling-on links held k a r b cs due v → Peel-end links held k a r b cs true
-  peel-done v past h = record {
+  pub peel-done : (stay : List ℕ) (v : ℕ) → max-radios ≤ v → Peeling-on links held k a r b stay cs due v → Peel-end links held k a r b cs true
+  peel-done stay v past h = record {
     peeling = h .state .peeling;
     long = h .state .long;
     kept = h .state .kept;
@@ -389,8 +450,7 @@ module _ (links held : List ℕ) (k a r b : ℕ) (cs due : List ℕ) where
       none-due : (w : ℕ) → left cs w ≡ true → is-due k a held cs w ≡ true → ⊥
       none-due w l q =
           let small : w < max-radios = inside-left cs w (h .state .long) l in
-          never (is-due k a held cs w) q (sym (h .state .due-is w small)
-          ∙ none-before due (h .state .due-long) v (h .first) w (omega arith) small)
+          never (is-due k a held cs w) q (sym (h .state .due-is w small) ∙ h .next .none past w small)
 
       fit : (w : ℕ) → left cs w ≡ true → (w ≡ a → ⊥) → (ltb (getD cs w 255) k ≡ true) ⊎ (ltb (getD cs w 255) k ≡ false) → k ≤ getD cs w 255
       fit w l ne (inr q) = ltb-false (getD cs w 255) k q

@@ -2,40 +2,20 @@
 --   trying-start    the marked radios are the higher ends of a's candidates
 --   end-..          the lower end a is done: no candidates, a pair that lifts, or all ruled out
 --   pair-..         the first pair, or none
-use mathlib.Core.Path.{_≡_, refl, sym, subst, _∙_}
-use mathlib.Core.Logic.{_⊎_, inl, inr}
-use mathlib.Core.Bool.{Bool, true, false, _&&_, not, cond}
-use mathlib.Core.List.{List}
-use Prim.Native.Nat.{ℕ, _+_, _/_, _≤_, _<_, min}
-use native.Mathlib.Omega.{arith}
-use lib.Dec.{ltb, leb, eqb}
-use lib.ListN.{length, getD, replicate, length-replicate}
-use borrow.Author.Tests.{eqb-true, eq-eqb, ltb-true, ltb-false, lt-ltb, le-leb, lt-leb, leb-true, leb-false, not-true}
-use Rattle.lists.proofs.Tests.{bool-cases, never, and-left, and-right, and-both}
-use Rattle.mesh.specs.Limits.{max-radios, max-neighbours, row-bytes}
-use Rattle.mesh.specs.Graph.{Graph, link-of, linked, degree}
-use Rattle.mesh.specs.Cores.{number}
-use Rattle.mesh.specs.Levels.{lower-level}
-use Rattle.mesh.specs.Tables.{tables, marked, byte-at}
-use Rattle.mesh.specs.Valid.{Valid}
-use Rattle.mesh.proofs.Tables.Laws.{marked-replicate}
-use Rattle.calls.specs.Questions.{can-switch, has-room}
-use Rattle.calls.specs.Lift.{lifts}
-use Rattle.lists.specs.Lists.{head-or}
+use Rattle.lists.{specs.Kit.{_≡_, refl, sym, subst, _∙_, _⊎_, inl, inr, Bool, true, false, _&&_, not, cond, List, ℕ, _+_, _/_, _≤_, _<_, min, arith, ltb, leb}}
+use Rattle.lists.{specs.Kit.{eqb, length, getD, replicate, length-replicate, eqb-true, eq-eqb, ltb-true, ltb-false, lt-ltb, le-leb, lt-leb, leb-true}}
+use Rattle.lists.{specs.Kit.{leb-false, not-true}, proofs.Tests.{bool-cases, never, and-left, and-right, and-both}, specs.Lists.{head-or}}
+use Rattle.mesh.{specs.Limits.{max-radios, max-neighbours, row-bytes}, specs.Graph.{Graph, link-of, linked, degree}, specs.Cores.{number}}
+use Rattle.mesh.{specs.Levels.{lower-level}, specs.Tables.{tables, marked, byte-at}, specs.Valid.{Valid}, proofs.Tables.Laws.{marked-replicate}}
+use Rattle.calls.specs.{Questions.{can-switch, has-room}, Lift.{lifts}}
 use Rattle.rows.specs.Rows.{row-listed, row-count}
 use Rattle.soundness.proofs.SoundSite.{linked-marked, degree-counted}
-use Rattle.lifting.specs.Search.{candidate, None-below}
-use Rattle.lifting.specs.Tight.{later, tight, first-end}
-use Rattle.lifting.proofs.Pairs.{candidate-refutes, candidate-allowed}
-use Rattle.lifting.proofs.Tight.{tight-refutes}
-use Rattle.lifting.proofs.Search.{none-next, first-found, none-found}
-use Rattle.lift.specs.Counters.{room-left}
-use Rattle.lift.specs.Peels.{graph-of}
-use Rattle.lift.specs.Tries.{Search-site, Trying, Settling, Settled, Tried}
-use Rattle.lift.specs.Search.{is-free, Free, Search-places, place-in, Tight, may-lift, Marked, Higher-end, Pair-found}
-use Rattle.lift.proofs.PeelSteps.{links-site, links-valid, first-due, none-before}
-use Rattle.lift.proofs.OrderLaws.{places-ordered, tight-is}
-use Rattle.lift.proofs.TrySteps.{candidate-level, site-links, site-radios, graph-radios, site-small, number-is, level-is}
+use Rattle.lifting.{specs.Search.{candidate, None-below}, specs.Tight.{later, tight, first-end}, proofs.Pairs.{candidate-refutes, candidate-allowed}}
+use Rattle.lifting.{proofs.Tight.{tight-refutes}, proofs.Search.{none-next, first-found, none-found}}
+use Rattle.lift.specs.{Counters.{room-left}, Peels.{graph-of}, Tries.{Search-site, Trying, Settling, Settled, Tried}, Search.{is-free, Free}}
+use Rattle.lift.specs.{Search.{Search-places, place-in, Tight, may-lift, Marked, Higher-end, Pair-found}}
+use Rattle.lift.proofs.{PeelSteps.{links-site, links-valid, first-due, none-before}, OrderLaws.{places-ordered, tight-is}, TrySteps.{candidate-level}}
+use Rattle.lift.proofs.{TrySteps.{site-links, site-radios, graph-radios, site-small, number-is, level-is}}
 
 -- a candidate, from its parts
 candidate-made : (g : Graph) (k a c : ℕ) → min (number g a) (number g c) ≡ k → linked g a c ≡ false → degree g a < max-neighbours → degree g c < max-neighbours
@@ -49,7 +29,7 @@ candidate-made g k a c e l da dc = rw (
       (degree g c) max-neighbours dc,
 )
 
-module _ (links numbers highs : List ℕ) (s : Search-site links numbers highs) (r : ℕ) (lr : r < length numbers) where
+module _ (links numbers not-lower : List ℕ) (s : Search-site links numbers not-lower) (r : ℕ) (lr : r < length numbers) where
   abbrev g : Graph
   g = graph-of links
 
@@ -57,23 +37,23 @@ module _ (links numbers highs : List ℕ) (s : Search-site links numbers highs) 
   k = getD numbers r 0
 
   valid : Valid max-neighbours g (s .order)
-  valid = links-valid links (site-links links numbers highs s)
+  valid = links-valid links (site-links links numbers not-lower s)
 
   lr-graph : r < g .n
-  lr-graph = omega (arith, graph-radios links numbers highs s)
+  lr-graph = omega (arith, graph-radios links numbers not-lower s)
 
   kr : number g r ≡ k
-  kr = level-is links numbers highs s r lr
+  kr = level-is links numbers not-lower s r lr
 
   row-degree-is : (v : ℕ) → v < length numbers → row-count max-neighbours links v ≡ degree g v
   row-degree-is v l =
-      degree-counted (length links / row-bytes) (tables links numbers (s .order)) (links-site links (site-links links numbers highs s)) v
-      (omega (arith, site-radios links numbers highs s))
+      degree-counted (length links / row-bytes) (tables links numbers (s .order)) (links-site links (site-links links numbers not-lower s)) v
+      (omega (arith, site-radios links numbers not-lower s))
 
   linked-is : (v w : ℕ) → v < length numbers → w < length numbers → linked g v w ≡ marked links v w
   linked-is v w l m =
-      linked-marked (length links / row-bytes) (tables links numbers (s .order)) (links-site links (site-links links numbers highs s)) v w
-      (omega (arith, site-radios links numbers highs s)) (omega (arith, site-radios links numbers highs s))
+      linked-marked (length links / row-bytes) (tables links numbers (s .order)) (links-site links (site-links links numbers not-lower s)) v w
+      (omega (arith, site-radios links numbers not-lower s)) (omega (arith, site-radios links numbers not-lower s))
 
   module _ (free : List ℕ) (fr : Free k links numbers free) where
     free-is : (v : ℕ) → v < length numbers → marked free 0 v ≡ true → (k ≤ number g v) × (degree g v < max-neighbours)
@@ -82,7 +62,7 @@ module _ (links numbers highs : List ℕ) (s : Search-site links numbers highs) 
         let both : (leb k (getD numbers v 0) && ltb (row-count max-neighbours links v) max-neighbours) ≡ true = sym (fr .is v l) ∙ e in (
           omega (
             arith,
-            number-is links numbers highs s v l,
+            number-is links numbers not-lower s v l,
             leb-true k (getD numbers v 0) (and-left (leb k (getD numbers v 0)) (ltb
                 (row-count max-neighbours links v) max-neighbours) both),
           ),
@@ -99,7 +79,7 @@ module _ (links numbers highs : List ℕ) (s : Search-site links numbers highs) 
     is-free-of v l h d =
         fr .is v l
         ∙ and-both (leb k (getD numbers v 0)) (ltb (row-count max-neighbours links v) max-neighbours) (le-leb k (getD numbers v 0) (omega
-        (arith, number-is links numbers highs s v l)))
+        (arith, number-is links numbers not-lower s v l)))
         (lt-ltb (row-count max-neighbours links v) max-neighbours (omega (arith, row-degree-is v l)))
 
     module _ (places tight-row : List ℕ) (o : Search-places links numbers places) (tr : Tight k r links numbers places tight-row) (a : ℕ)
@@ -119,7 +99,7 @@ module _ (links numbers highs : List ℕ) (s : Search-site links numbers highs) 
       tight-at : (c : ℕ) → c < length numbers → marked tight-row 0 (first c) ≡ tight g (place-in places) k r (first c)
       tight-at c lc =
           tr .is (first c) (first-radio c lc)
-          ∙ tight-is links numbers places o k r (first c) (omega (arith, first-radio c lc, site-radios links numbers highs s))
+          ∙ tight-is links numbers places o k r (first c) (omega (arith, first-radio c lc, site-radios links numbers not-lower s))
 
       -- a tight end has the level
       lower-is : (c : ℕ) → c < length numbers → k ≤ number g a → k ≤ number g c → marked tight-row 0 (first c) ≡ true → min (number g a) (number g c) ≡ k
@@ -155,7 +135,7 @@ module _ (links numbers highs : List ℕ) (s : Search-site links numbers highs) 
       candidate-free : (c : ℕ) → a < c → c < length numbers → candidate g k a c ≡ true → marked free 0 a ≡ true
       candidate-free c ac lc e =
           let level = candidate-level g k a c e in
-          let room = candidate-allowed g k a c ac (omega (arith, graph-radios links numbers highs s)) e .room refl in
+          let room = candidate-allowed g k a c ac (omega (arith, graph-radios links numbers not-lower s)) e .room refl in
           is-free-of a la (omega (arith, level)) (room .0)
 
       candidate-may : (c : ℕ) → a < c → c < length numbers → candidate g k a c ≡ true → marked tight-row 0 (first c) ≡ true
@@ -163,7 +143,7 @@ module _ (links numbers highs : List ℕ) (s : Search-site links numbers highs) 
       unfolding may-lift
       candidate-may c ac lc e begins =
           let level = candidate-level g k a c e in
-          let ok = candidate-allowed g k a c ac (omega (arith, graph-radios links numbers highs s)) e in
+          let ok = candidate-allowed g k a c ac (omega (arith, graph-radios links numbers not-lower s)) e in
           let room = ok .room refl in
           rw (lt-ltb a c ac, is-free-of c lc (omega (arith, level)) (room .1), begins, sym (linked-is a c la lc) ∙ ok .state)
 
@@ -182,7 +162,7 @@ module _ (links numbers highs : List ℕ) (s : Search-site links numbers highs) 
       end-closed off = record {
         found = λ l. absurd (omega arith);
         none-below = λ c ac l m. candidate-refutes g (s .order) valid k r a c lr-graph kr (not-candidate c ac (omega
-            (arith, graph-radios links numbers highs s)) (bool-cases (candidate g k a c)));
+            (arith, graph-radios links numbers not-lower s)) (bool-cases (candidate g k a c)));
       }
         where
           not-candidate : (c : ℕ) → a < c → c < length numbers → (candidate g k a c ≡ true) ⊎ (candidate g k a c ≡ false) → candidate g k a c ≡ false
@@ -201,9 +181,9 @@ module _ (links numbers highs : List ℕ) (s : Search-site links numbers highs) 
         trying-start = record {
           long = m .long ∙ length-replicate {A = ℕ} row-bytes 0;
           candidates = λ c lc q. own c lc q (bool-cases (ltb c (length numbers)));
-          rest = λ c ac lc q. not-lifts c ac (omega (arith, lc, graph-radios links numbers highs s))
-              (sym (m .is c (omega (arith, lc, graph-radios links numbers highs s)) (omega
-              (arith, lc, graph-radios links numbers highs s, site-small links numbers highs s))) ∙ q);
+          rest = λ c ac lc q. not-lifts c ac (omega (arith, lc, graph-radios links numbers not-lower s))
+              (sym (m .is c (omega (arith, lc, graph-radios links numbers not-lower s)) (omega
+              (arith, lc, graph-radios links numbers not-lower s, site-small links numbers not-lower s))) ∙ q);
         }
           where
             own : (c : ℕ) → c < max-radios → marked new 0 c ≡ true → (ltb c (length numbers) ≡ true) ⊎ (ltb c (length numbers) ≡ false)
@@ -211,7 +191,7 @@ module _ (links numbers highs : List ℕ) (s : Search-site links numbers highs) 
             own c lc q (inl e) =
                 let l = ltb-true c (length numbers) e in
                 let is = may-candidate on c l (sym (m .is c l lc) ∙ q) in
-                (is .0, omega (arith, l, graph-radios links numbers highs s), subst (λ (x : ℕ). candidate g x a c ≡ true) (sym kr) (is .1))
+                (is .0, omega (arith, l, graph-radios links numbers not-lower s), subst (λ (x : ℕ). candidate g x a c ≡ true) (sym kr) (is .1))
             own c lc q (inr e) = never (marked new 0 c) q (none-past c (ltb-false c (length numbers) e) lc)
 
   -- ---- a lower end done
@@ -232,7 +212,7 @@ module _ (links numbers highs : List ℕ) (s : Search-site links numbers highs) 
         record {
           found = λ q. (own .0, own .1, t .does e);
           none-below = λ c ac cb m. at .trying .rest c ac m (none-before old (at .trying .long) b (at .first) c cb (omega
-              (arith, m, graph-radios links numbers highs s, site-small links numbers highs s)));
+              (arith, m, graph-radios links numbers not-lower s, site-small links numbers not-lower s)));
         }
 
     pub end-none : max-radios ≤ b → Higher-end links r a max-radios
@@ -253,17 +233,17 @@ module _ (links numbers highs : List ℕ) (s : Search-site links numbers highs) 
         record {
           some = λ q. first-found g r a b (λ c. leb b c) none (λ c ac lc e. end .none-below c ac (leb-false b c e) lc) (λ c ac cb. lt-leb b c cb)
               (f .0) (f .1) (f .2);
-          none = λ q. absurd (omega (arith, q, la, site-small links numbers highs s));
+          none = λ q. absurd (omega (arith, q, la, site-small links numbers not-lower s));
         }
 
     pub pair-next : max-radios ≤ b → None-below g r (a + 1)
     pair-next l =
         none-next g r a (λ c. false) none (λ c ac lc e. end .none-below c ac (omega
-        (arith, l, lc, graph-radios links numbers highs s, site-small links numbers highs s)) lc)
+        (arith, l, lc, graph-radios links numbers not-lower s, site-small links numbers not-lower s)) lc)
         (λ c ac lc. refl)
 
   pub pair-none : (a : ℕ) → a ≡ length numbers → None-below g r a → Pair-found links r max-radios 0
   pair-none a e none = record {
     some = λ q. absurd (omega arith);
-    none = λ q. none-found g r (subst (λ (x : ℕ). None-below g r x) (e ∙ sym (graph-radios links numbers highs s)) none);
+    none = λ q. none-found g r (subst (λ (x : ℕ). None-below g r x) (e ∙ sym (graph-radios links numbers not-lower s)) none);
   }

@@ -3,23 +3,13 @@
 --   Starting    the counters of the radios below v stand
 --   Ruling      the radios below i are ruled out or stay
 --   held-at     a set of one radio
-use mathlib.Core.Path.{_≡_, refl, sym, ap, subst, _∙_}
-use mathlib.Core.Logic.{_⊎_, inl, inr}
-use mathlib.Core.Bool.{Bool, true, false, _&&_, not, cond}
-use mathlib.Core.List.{List}
-use Prim.Native.Nat.{ℕ, _+_, _≤_, _<_}
-use native.Mathlib.Omega.{arith}
-use lib.Dec.{ltb, eqb}
-use lib.ListN.{length, getD, set, replicate, length-set, length-replicate}
-use lib.Seq.{getD-set-same, getD-set-other}
-use borrow.Author.Tests.{eqb-true, eqb-false, eq-eqb, ne-eqb, ltb-true, lt-ltb, le-ltb}
-use Rattle.lists.proofs.Tests.{bool-cases, iff-eq}
-use Rattle.mesh.specs.Limits.{max-radios, row-bytes}
-use Rattle.mesh.specs.Tables.{marked, put-bit, byte-at}
-use Rattle.mesh.proofs.Tables.Laws.{marked-replicate, marked-put-bit, length-put-bit}
+use Rattle.lists.{specs.Kit.{_≡_, refl, sym, ap, subst, _∙_, _⊎_, inl, inr, Bool, true, false, _&&_, not, cond, List, ℕ, _+_, _≤_, _<_, arith, ltb, eqb}}
+use Rattle.lists.{specs.Kit.{length, getD, set, replicate, length-set, length-replicate, getD-set-same, getD-set-other, eqb-true, eqb-false, eq-eqb, ne-eqb}}
+use Rattle.lists.{specs.Kit.{ltb-true, lt-ltb, le-ltb}, proofs.Tests.{bool-cases, iff-eq}, proofs.Parts.{getD-any}}
+use Rattle.mesh.{specs.Limits.{max-radios, row-bytes}, specs.Tables.{marked, put-bit, byte-at}, proofs.Tables.Laws.{marked-replicate, marked-put-bit}}
+use Rattle.mesh.{proofs.Tables.Laws.{length-put-bit}}
 use Rattle.lift.proofs.CounterLaws.{rules-above, rules-left, rules-taken}
 use Rattle.lift.specs.Tries.{counter-start, Started, ruled-out, Ruled-out}
-use Rattle.lists.proofs.Parts.{getD-any}
 
 -- ---- the counters before the peel
 

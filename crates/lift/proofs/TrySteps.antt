@@ -4,44 +4,23 @@
 --   settled-..     the peel with all untried radios held
 --   tried-found    the pair lifts the radio
 --   tried-not      the pair does not, nor do the others that are ruled out
-use mathlib.Core.Path.{_≡_, refl, sym, ap, subst, _∙_}
-use mathlib.Core.Logic.{_⊎_, inl, inr}
-use mathlib.Core.Bool.{Bool, true, false, _&&_, _||_, not, cond, and-false}
-use mathlib.Core.List.{List}
-use Prim.Native.Nat.{ℕ, _+_, _/_, _≤_, _<_, min}
-use native.Mathlib.Omega.{arith}
-use native.Mathlib.Nat.{le-antisymm}
-use lib.Dec.{ltb, leb, eqb}
-use lib.ListN.{length, getD, replicate, List·getD-eq-default}
-use borrow.Author.Tests.{eqb-true, eqb-false, eq-eqb, ne-eqb, ltb-true, ltb-false, lt-ltb}
-use Rattle.lists.specs.Lists.{count, range, head-or}
-use Rattle.lists.proofs.Tests.{bool-cases, never, and-left}
-use Rattle.lists.proofs.Range.{in-range, range-in}
-use Rattle.lists.proofs.Count.{count-less, count-mono}
-use Rattle.mesh.specs.Limits.{max-radios, max-neighbours, row-bytes}
-use Rattle.mesh.specs.Graph.{Graph, link-of, neighbours-in}
-use Rattle.mesh.specs.Cores.{number}
-use Rattle.mesh.specs.Levels.{lower-level}
-use Rattle.mesh.specs.Tables.{tables, marked, put-bit, byte-at, graph-in}
-use Rattle.mesh.specs.Valid.{Valid}
-use Rattle.mesh.proofs.GraphLaws.{neighbours-in-subset, degree-in}
-use Rattle.mesh.proofs.Cores.Certificate.{core-enough}
-use Rattle.mesh.proofs.Cores.Peeling.{number-core}
-use Rattle.mesh.proofs.Tables.Laws.{marked-put-bit, length-put-bit}
-use Rattle.calls.specs.Questions.{can-switch, has-room}
-use Rattle.calls.specs.Lift.{lifts}
+use Rattle.lists.{specs.Kit.{_≡_, refl, sym, ap, subst, _∙_, _⊎_, inl, inr, Bool, true, false, _&&_, _||_, not, cond, and-false, List, ℕ, _+_, _/_, _≤_, _<_}}
+use Rattle.lists.{specs.Kit.{min, arith, le-antisymm, ltb, leb, eqb, length, getD, replicate, List·getD-eq-default, eqb-true, eqb-false, eq-eqb, ne-eqb}}
+use Rattle.lists.{specs.Kit.{ltb-true, ltb-false, lt-ltb}, specs.Lists.{count, range, head-or}, proofs.Tests.{bool-cases, never, and-left}}
+use Rattle.lists.{proofs.Range.{in-range, range-in}, proofs.Count.{count-less, count-mono}}
+use Rattle.mesh.{specs.Limits.{max-radios, max-neighbours, row-bytes}, specs.Graph.{Graph, link-of, neighbours-in}, specs.Cores.{number}}
+use Rattle.mesh.{specs.Levels.{lower-level}, specs.Tables.{tables, marked, put-bit, byte-at, graph-in}, specs.Valid.{Valid}}
+use Rattle.mesh.{proofs.GraphLaws.{neighbours-in-subset, degree-in}, proofs.Cores.Certificate.{core-enough}, proofs.Cores.Peeling.{number-core}}
+use Rattle.mesh.{proofs.Tables.Laws.{marked-put-bit, length-put-bit}}
+use Rattle.calls.specs.{Questions.{can-switch, has-room}, Lift.{lifts}}
 use Rattle.soundness.proofs.SoundSite.{number-entry}
-use Rattle.lifting.specs.Peeling.{left, stays, Peeling}
-use Rattle.lifting.specs.Search.{candidate}
-use Rattle.lifting.proofs.Peeling.{below-left, stays-above, stays-left, stays-cases, peeling-starts}
-use Rattle.lifting.proofs.Pairs.{candidate-allowed, radio-refutes, few-refutes, low-refutes, peeling-lifts}
-use Rattle.lifting.proofs.Search.{untried-next}
+use Rattle.lifting.{specs.Peeling.{left, stays, Peeling}, specs.Search.{candidate}, proofs.Peeling.{below-left, stays-above, stays-left, stays-cases}}
+use Rattle.lifting.{proofs.Peeling.{peeling-starts}, proofs.Pairs.{candidate-allowed, radio-refutes, few-refutes, low-refutes, peeling-lifts}}
+use Rattle.lifting.{proofs.Search.{untried-next}}
 use Rattle.rows.specs.Rows.{row-listed}
-use Rattle.lift.specs.Peels.{graph-of, Sound-links, gone-of, Peel-begin, Peel-end}
-use Rattle.lift.specs.Counters.{rules-out}
-use Rattle.lift.specs.Tries.{Search-site, Started, ruled-out, Ruled-out, Trying, Settling, Settled-at, Settled, Tried}
-use Rattle.lift.proofs.PeelSteps.{links-site, links-valid, first-due, none-before, inside-left}
-use Rattle.lift.proofs.TryLaws.{start-past, start-other, start-own, held-at}
+use Rattle.lift.specs.{Peels.{graph-of, Sound-links, gone-of, Peel-begin, Peel-end}, Counters.{rules-out}, Tries.{Search-site, Started, ruled-out}}
+use Rattle.lift.specs.{Tries.{Ruled-out, Trying, Settling, Settled-at, Settled, Tried}}
+use Rattle.lift.proofs.{PeelSteps.{links-site, links-valid, first-due, none-before, inside-left}, TryLaws.{start-past, start-other, start-own, held-at}}
 
 -- the lower number of a candidate is the level
 pub candidate-level : (g : Graph) (k a c : ℕ) → candidate g k a c ≡ true → min (number g a) (number g c) ≡ k
@@ -61,7 +40,7 @@ ruled-passed true true false e q = never true refl q
 ruled-passed true false u e q = never true refl q
 ruled-passed false l u e q = never false e refl
 
-module _ (links numbers highs : List ℕ) (s : Search-site links numbers highs) where
+module _ (links numbers not-lower : List ℕ) (s : Search-site links numbers not-lower) where
   abbrev g : Graph
   g = graph-of links
 
@@ -87,7 +66,7 @@ module _ (links numbers highs : List ℕ) (s : Search-site links numbers highs) 
   few-high : (v : ℕ) (f : ℕ → Bool) → v < length numbers → neighbours-in g v f ≤ max-neighbours
   few-high v f l = omega (arith, neighbours-in-subset g v f (λ b. true) (λ w lw q. refl), degree-in g v, valid .degrees v (omega (arith, graph-radios)))
 
-  high-is : (v : ℕ) → v < length numbers → getD highs v 0 ≡ neighbours-in g v (λ w. leb (number g v) (number g w))
+  high-is : (v : ℕ) → v < length numbers → getD not-lower v 0 ≡ neighbours-in g v (λ w. leb (number g v) (number g w))
   high-is v l =
       s .counted v l
       ∙ le-antisymm
@@ -113,10 +92,10 @@ module _ (links numbers highs : List ℕ) (s : Search-site links numbers highs) 
     level-low =
         omega (arith, level-is, core-enough g (number g) (number-core g) r lr-graph, few-high r (λ w. leb (number g r) (number g w)) lr)
 
-    module _ (cs : List ℕ) (long : length cs ≡ max-radios) (st : Started k numbers highs cs) where
+    module _ (cs : List ℕ) (long : length cs ≡ max-radios) (st : Started k numbers not-lower cs) where
       own-start : (v : ℕ) → v < length numbers → number g v ≡ k → getD cs v 255 ≡ neighbours-in g v (λ w. leb k (number g w))
       own-start v l e =
-          st v (omega (arith, site-small)) ∙ sym (start-own k numbers highs v l (number-is v l ∙ e)) ∙ high-is v l
+          st v (omega (arith, site-small)) ∙ sym (start-own k numbers not-lower v l (number-is v l ∙ e)) ∙ high-is v l
           ∙ ap (λ (x : ℕ). neighbours-in g v (λ w. leb x (number g w))) e
 
       left-start : (v : ℕ) → v < length numbers → number g v ≡ k → left cs v ≡ true
@@ -133,14 +112,14 @@ module _ (links numbers highs : List ℕ) (s : Search-site links numbers highs) 
       past-start v l = by-test (bool-cases (ltb v max-radios))
         where
           by-test : (ltb v max-radios ≡ true) ⊎ (ltb v max-radios ≡ false) → getD cs v 255 ≡ 255
-          by-test (inl q) = st v (ltb-true v max-radios q) ∙ sym (start-past k numbers highs v (omega (arith, graph-radios)))
+          by-test (inl q) = st v (ltb-true v max-radios q) ∙ sym (start-past k numbers not-lower v (omega (arith, graph-radios)))
           by-test (inr q) = List·getD-eq-default cs 255 {n = v} (omega (arith, long, ltb-false v max-radios q))
 
       pub started : (a : ℕ) → a < length numbers → k ≤ number g a → Peeling g k a cs
       started a la ka =
           peeling-starts g (s .order) valid k a cs (omega (arith, graph-radios)) ka (λ v lv e. own-start v (omega (arith, graph-radios)) e)
           (λ v lv ne. st v (omega (arith, graph-radios, site-small))
-          ∙ sym (start-other k numbers highs v (omega (arith, graph-radios)) (λ e. ne (sym (number-is v (omega (arith, graph-radios))) ∙ e))))
+          ∙ sym (start-other k numbers not-lower v (omega (arith, graph-radios)) (λ e. ne (sym (number-is v (omega (arith, graph-radios))) ∙ e))))
           past-start
 
       -- what the peels of a's pairs begin with
@@ -162,7 +141,7 @@ module _ (links numbers highs : List ℕ) (s : Search-site links numbers highs) 
                   omega (
                     arith,
                     level-low,
-                    st a (omega (arith, site-small)) ∙ sym (start-other k numbers highs a la (λ e. omega
+                    st a (omega (arith, site-small)) ∙ sym (start-other k numbers not-lower a la (λ e. omega
                         (arith, number-is a la, ltb-true k (number g a) q))),
                   )
               by-test (inr q) =

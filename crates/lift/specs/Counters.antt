@@ -2,9 +2,7 @@
 --   room-left d          a radio with d neighbours may have one more
 --   rules-out k t m x    the pair of a radio with number m and counter x does not lift the radio asked for; t is whether no pair does whose other end stays
 -- Definitions only.
-use mathlib.Core.Bool.{Bool, _||_, cond}
-use Prim.Native.Nat.{ℕ, _+_}
-use lib.Dec.{ltb}
+use Rattle.lists.specs.Kit.{Bool, _||_, cond, ℕ, _+_, ltb}
 use Rattle.mesh.specs.Limits.{max-neighbours}
 
 unfoldable pub room-left : (degree : ℕ) → Bool

@@ -6,22 +6,15 @@
 --   Lowered            some radios, where they are left, have one less, and are due where they are then to be taken
 --   gone-of            r is taken, or a has fewer neighbours that stay than the level: no pair of a whose other end stays lifts r
 --   Kept               a held radio stays, or was taken with fewer neighbours than the level
+--   Next-due           the radio to take next, of a set of radios that are due: any, or 512 where there is none
 --   Peel-state         a peel on its way
 --   Base               counters of a peel with r left and enough neighbours of a
 --   Peel-begin         what a peel begins with
 --   Peel-end           what the peel comes back with
 -- A set of radios is one row. Definitions only.
-use mathlib.Core.Path.{_≡_}
-use mathlib.Core.Logic.{_⊎_}
-use mathlib.Core.Bool.{Bool, true, false, _&&_, _||_, not, cond}
-use mathlib.Core.List.{List}
-use Prim.Native.Nat.{ℕ, _+_, _-_, _/_, _≤_, _<_}
-use lib.Dec.{ltb, leb, eqb}
-use lib.ListN.{length, getD}
-use Rattle.lists.specs.Lists.{member}
-use Rattle.mesh.specs.Limits.{max-radios, row-bytes}
-use Rattle.mesh.specs.Graph.{Graph}
-use Rattle.mesh.specs.Tables.{tables, marked, graph-in}
+use Rattle.lists.specs.{Kit.{_≡_, _⊎_, Bool, true, false, _&&_, _||_, not, cond, List, ℕ, _+_, _-_, _/_, _≤_, _<_, ltb, leb, eqb, length, getD}, Lists.{member}}
+use Rattle.mesh.specs.{Limits.{max-radios, row-bytes}, Graph.{Graph}, Tables.{tables, marked, graph-in}}
+use Rattle.rows.specs.Sets.{in-set}
 use Rattle.soundness.specs.Checks.{fits-sound}
 use Rattle.lifting.specs.Peeling.{left, stays, Peeling}
 
@@ -55,13 +48,20 @@ Kept links held k cs =
     (w : ℕ) → w < max-radios → marked held 0 w ≡ true →
     (stays (graph-of links) k cs w ≡ true) ⊎ ((128 ≤ getD cs w 255) × (getD cs w 255 < 128 + k))
 
-pub record Peel-state (links held : List ℕ) (k a : ℕ) (cs due : List ℕ) : Type 0 where
+pub record Next-due (due : List ℕ) (v : ℕ) : Type 0 where
+  pub some : v < max-radios → marked due 0 v ≡ true
+  pub none : max-radios ≤ v → (w : ℕ) → w < max-radios → marked due 0 w ≡ false
+
+-- stay is a set that has every radio that is left
+pub record Peel-state (links held : List ℕ) (k a : ℕ) (stay cs due : List ℕ) : Type 0 where
   pub peeling : Peeling (graph-of links) k a cs
   pub low : k < 128
   pub long : length cs ≡ max-radios
   pub due-long : length due ≡ row-bytes
   pub due-is : Due k a held cs due
   pub kept : Kept links held k cs
+  pub stay-long : length stay ≡ 8
+  pub stay-has : (w : ℕ) → left cs w ≡ true → in-set stay w ≡ true
 
 pub record Base (links : List ℕ) (k a r : ℕ) (cs : List ℕ) : Type 0 where
   pub peeling : Peeling (graph-of links) k a cs

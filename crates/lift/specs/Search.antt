@@ -7,28 +7,15 @@
 --   may-lift, Marked   the pair a, c may lift a radio of level k, where a may be an end: its first end in the order is tight
 --   Higher-end         the lowest radio above a whose pair with a lifts r, or none
 --   Pair-found         the first pair that lifts r, or none
---   Checked            questions 1 to 3, and then what the search reads
 -- Definitions only.
-use mathlib.Core.Path.{_≡_}
-use mathlib.Core.Bool.{Bool, true, false, _&&_, not}
-use mathlib.Core.List.{List, []}
-use Prim.Native.Nat.{ℕ, _/_, _≤_, _<_}
-use lib.Dec.{ltb, leb, eqb}
-use lib.ListN.{length, getD}
-use Rattle.lists.specs.Lists.{count}
-use Rattle.mesh.specs.Limits.{max-radios, max-neighbours, row-bytes}
-use Rattle.mesh.specs.Graph.{link-of}
-use Rattle.mesh.specs.Tables.{Tables, tables, marked}
-use Rattle.mesh.specs.Sound.{sound}
-use Rattle.calls.specs.Questions.{lengths-of, site-refusal}
+use Rattle.lists.specs.{Kit.{_≡_, Bool, true, false, _&&_, not, List, [], ℕ, _/_, _≤_, _<_, ltb, leb, eqb, length, getD}, Lists.{count}}
+use Rattle.mesh.specs.{Limits.{max-radios, max-neighbours, row-bytes}, Graph.{link-of}, Tables.{tables, marked}}
 use Rattle.calls.specs.Lift.{lifts, lifting, first-pair, is-lifted}
 use Rattle.rows.specs.Rows.{neighbours-of, row-count}
 use Rattle.conditions.specs.Conditions.{Placed, later-count}
 use Rattle.soundness.specs.Checks.{fits-sound}
 use Rattle.lifting.specs.Tight.{first-end}
-use Rattle.lift.specs.Counters.{room-left}
-use Rattle.lift.specs.Peels.{graph-of}
-use Rattle.lift.specs.Tries.{Search-site}
+use Rattle.lift.specs.{Counters.{room-left}, Peels.{graph-of}}
 
 unfoldable pub is-free : (k : ℕ) → (links numbers : List ℕ) → (v : ℕ) → Bool
 is-free k ts ns v = leb k (getD ns v 0) && room-left (row-count max-neighbours ts v)
@@ -75,8 +62,3 @@ pub record Pair-found (links : List ℕ) (r low high : ℕ) : Type 0 where
   pub some :
       low < max-radios → (is-lifted (lifting (graph-of links) r) ≡ true) × (first-pair (lifting (graph-of links) r) ≡ link-of low high)
   pub none : max-radios ≤ low → lifting (graph-of links) r ≡ []
-
-pub record Checked (n : ℕ) (t : Tables) (places highs : List ℕ) (q : ℕ) : Type 0 where
-  pub asked : q ≡ site-refusal n (lengths-of t) true (sound n t) 0
-  pub ready : q ≡ 0 → Search-site (t .links) (t .numbers) highs × Search-places (t .links) (t .numbers) places
-  pub long : length places ≡ max-radios

@@ -11,41 +11,30 @@
 --   Settled            what the peel with all untried radios held comes back with
 --   Tried              what trying a pair comes back with
 -- Definitions only.
-use mathlib.Core.Path.{_≡_}
-use mathlib.Core.Bool.{Bool, true, false, _&&_, _||_, not, cond}
-use mathlib.Core.List.{List}
-use Prim.Native.Nat.{ℕ, _+_, _/_, _≤_, _<_}
-use lib.Dec.{ltb, leb, eqb}
-use lib.ListN.{length, getD}
-use Rattle.lists.specs.Lists.{count, range, head-or}
-use Rattle.mesh.specs.Limits.{max-radios, row-bytes}
-use Rattle.mesh.specs.Graph.{link-of, neighbours-in}
-use Rattle.mesh.specs.Cores.{number}
-use Rattle.mesh.specs.Tables.{tables, marked}
+use Rattle.lists.specs.{Kit.{_≡_, Bool, true, false, _&&_, not, cond, List, ℕ, _/_, _≤_, _<_, ltb, leb, eqb, length, getD}, Lists.{count, range, head-or}}
+use Rattle.mesh.specs.{Limits.{max-radios, row-bytes}, Graph.{link-of, neighbours-in}, Cores.{number}, Tables.{tables, marked}}
 use Rattle.calls.specs.Lift.{lifts}
 use Rattle.soundness.specs.Checks.{fits-sound}
-use Rattle.lifting.specs.Peeling.{stays}
-use Rattle.lifting.specs.Search.{candidate, Untried}
+use Rattle.lifting.specs.{Peeling.{stays}, Search.{candidate, Untried}}
 use Rattle.rows.specs.Rows.{row-listed}
-use Rattle.lift.specs.Counters.{rules-out}
-use Rattle.lift.specs.Peels.{graph-of, Kept, Base}
+use Rattle.lift.specs.{Counters.{rules-out}, Peels.{graph-of, Kept, Base}}
 
 -- the order is the one of the tables
-pub record Search-site (links numbers highs : List ℕ) : Type 0 where
+pub record Search-site (links numbers not-lower : List ℕ) : Type 0 where
   pub order : List ℕ
   pub is-sound : fits-sound (length links / row-bytes) (tables links numbers order) ≡ true
-  pub highs-long : length numbers ≤ length highs
-  pub counted : (v : ℕ) → v < length numbers → getD highs v 0 ≡ neighbours-in (graph-of links) v (λ w. leb (getD numbers v 0) (getD numbers w 0))
+  pub not-lower-long : length numbers ≤ length not-lower
+  pub counted : (v : ℕ) → v < length numbers → getD not-lower v 0 ≡ neighbours-in (graph-of links) v (λ w. leb (getD numbers v 0) (getD numbers w 0))
 
--- highs are counts that the check found
+-- not-lower are counts that the check found
 pub record Search-numbers (links numbers : List ℕ) : Type 0 where
-  pub highs : List ℕ
-  pub site : Search-site links numbers highs
+  pub not-lower : List ℕ
+  pub site : Search-site links numbers not-lower
 
-unfoldable pub counter-start : (k : ℕ) → (numbers highs : List ℕ) → (v : ℕ) → ℕ
+unfoldable pub counter-start : (k : ℕ) → (numbers not-lower : List ℕ) → (v : ℕ) → ℕ
 counter-start k ns hs v = cond (ltb v (length ns) && eqb (getD ns v 0) k) (getD hs v 0) 255
 
-abbrev pub Started : (k : ℕ) → (numbers highs counters : List ℕ) → Type 0
+abbrev pub Started : (k : ℕ) → (numbers not-lower counters : List ℕ) → Type 0
 Started k ns hs cs = (v : ℕ) → v < max-radios → getD cs v 255 ≡ counter-start k ns hs v
 
 -- `gone` is whether no pair whose other end stays lifts the radio

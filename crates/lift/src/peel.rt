@@ -1,18 +1,16 @@
 // The peel of a level, without any new link: radios with at most K neighbours that are left or above are taken, never a, the lower end of
 // the pairs tried, and a held radio only with fewer than K, where the link of its pair would not keep it. A counter below 128 is of a radio
 // that is left, 128 more of one that is taken, as it was when it was taken; 255 stands for no radio of the level.
-ghost use mathlib.Core.Path.{_≡_};
-ghost use mathlib.Core.Bool.{true, _||_, not};
-ghost use Prim.Native.Nat.{_≤_, _<_, _-_};
-ghost use mathlib.Core.List.{[], _∷_};
-ghost use lib.ListN.{length, take, replicate};
+ghost use Rattle.lists.specs.Kit.{_≡_, true, _||_, not, _+_, _≤_, _<_, _-_, [], _∷_, length, replicate};
 ghost use Rattle.mesh.specs.Limits.{max-radios, row-bytes};
-ghost use Rattle.lists.specs.Facts.{Distinct};
-ghost use Rattle.lists.specs.Lists.{Entries-below, range, count};
+ghost use Rattle.lists.specs.Lists.{range, count};
+ghost use Rattle.rows.specs.Rows.{set-bits};
+ghost use Rattle.rows.specs.Sets.{common};
 ghost use Rattle.mesh.specs.Tables.{marked};
 ghost use Rattle.lifting.specs.Peeling.{left};
-ghost use Rattle.lift.specs.Peels.{is-due, Due, gone-of, Lowered, Sound-links, Peel-state, Peel-begin, Peel-end};
+ghost use Rattle.lift.specs.Peels.{is-due, Due, gone-of, Lowered, Sound-links, Next-due, Peel-state, Peel-begin, Peel-end};
 use mesh::Site;
+use rows::sets;
 
 // What a counter grows by when its radio is taken.
 pub(crate) const GONE: u8 = 128;
@@ -75,40 +73,80 @@ fn lower_one(w: u32, level: u8, a: u32, held: &[u8], counters: &mut [u8], due: &
     }
 }
 
-// Does so for the first k listed radios.
-fn lower(
-    near: &[u16],
-    k: usize,
+// Does so for the radios of a word's set bits, counted from `first`.
+fn lower_word(
+    word: u64,
+    first: u32,
     level: u8,
     a: u32,
     held: &[u8],
     counters: &mut [u8],
     due: &mut [u8],
 )
-    requires { ⌜ (k ≤ length (now near)) × Distinct (take k (now near)) × Entries-below max-radios (take k (now near)) ×
-        (length (now counters) ≡ max-radios) × (length (now due) ≡ row-bytes) ⌝ }
-    ensures { λ _. ⌜ Lowered level a (now (held .entry)) (take k (now (near .entry))) (now (counters .entry)) (now (due .entry))
+    requires { ⌜ (first + 64 ≤ max-radios) × (length (now counters) ≡ max-radios) × (length (now due) ≡ row-bytes) ⌝ }
+    ensures { λ _. ⌜ Lowered level a (now (held .entry)) (set-bits 64 first word) (now (counters .entry)) (now (due .entry))
         (now (counters .exit)) (now (due .exit)) ⌝ }
 {
-    let mut i: usize = 0;
-    while i < k {
-        lower_one(near[i] as u32, level, a, held, counters, due);
-        i += 1;
+    let mut rest = word;
+    while rest != 0 {
+        let w = first + u64::trailing_zeros(rest);
+        lower_one(w, level, a, held, counters, due);
+        rest = rest & (rest - 1);
     }
 }
 
-// Takes radio v, which is due: its neighbours that are left have one less.
-fn take(links: &[u8], v: u32, level: u8, a: u32, held: &[u8], counters: &mut [u8], due: &mut [u8])
-    requires { ⌜ Sound-links (now links) × Peel-state (now links) (now held) level a (now counters) (now due) ×
+// Does so for the radios that two sets both have.
+fn lower<'a>(
+    near: &'a [u64],
+    stay: &'a [u64],
+    level: u8,
+    a: u32,
+    held: &[u8],
+    counters: &mut [u8],
+    due: &mut [u8],
+)
+    requires { ⌜ (length (now near) ≡ 8) × (length (now stay) ≡ 8) × (length (now counters) ≡ max-radios) × (length (now due) ≡ row-bytes) ⌝ }
+    ensures { λ _. ⌜ Lowered level a (now (held .entry)) (common (now (near .entry)) (now (stay .entry))) (now (counters .entry)) (now (due .entry))
+        (now (counters .exit)) (now (due .exit)) ⌝ }
+{
+    let mut k: u32 = 0;
+    while k < rows::ROW_WORDS {
+        let at = k as usize;
+        lower_word(
+            near[at] & stay[at],
+            rows::WORD_BITS * k,
+            level,
+            a,
+            held,
+            counters,
+            due,
+        );
+        k += 1;
+    }
+}
+
+// Takes radio v, which is due: its neighbours that are left have one less. `stay` has every radio that is left.
+fn take(
+    links: &[u8],
+    v: u32,
+    level: u8,
+    a: u32,
+    held: &[u8],
+    stay: &mut [u64],
+    counters: &mut [u8],
+    due: &mut [u8],
+)
+    requires { ⌜ Sound-links (now links) × Peel-state (now links) (now held) level a (now stay) (now counters) (now due) ×
         (v < max-radios) × (marked (now due) 0 v ≡ true) ⌝ }
-    ensures state { λ _. ⌜ Peel-state (now (links .entry)) (now (held .entry)) level a (now (counters .exit)) (now (due .exit)) ⌝ }
+    ensures state { λ _. ⌜ Peel-state (now (links .entry)) (now (held .entry)) level a (now (stay .exit)) (now (counters .exit)) (now (due .exit)) ⌝ }
     ensures fewer { λ _. ⌜ count (left (now (counters .exit))) (range 0 max-radios) < count (left (now (counters .entry))) (range 0 max-radios) ⌝ }
 {
-    let mut near = [0u16; Site::NEIGHBOURS as usize];
+    let mut near = [0u64; rows::ROW_WORDS as usize];
     rows::put_bit(due, false, 0, v);
+    sets::take_out(stay, v);
     counters[v as usize] += GONE;
-    let k = rows::row_neighbours(links, v, &mut near) as usize;
-    lower(&near, k, level, a, held, counters, due);
+    sets::join_row(links, v, &mut near);
+    lower(&near, stay, level, a, held, counters, due);
 }
 
 // Whether no pair of a whose other end stays lifts r: r is taken, or a has fewer neighbours that stay than the level.
@@ -133,8 +171,36 @@ fn is_over(r: u32, stop: u32, a: u32, level: u8, counters: &[u8]) -> bool
     GONE <= counters[stop as usize]
 }
 
-// Takes the lowest radio due, again and again, until none is due, or radio r or radio `stop` is taken, or a has fewer neighbours that stay than
-// the level. Comes back with whether none is due.
+// The lowest radio due that is not late; 512 where there is none.
+fn first_early<'a>(due: &'a [u8], late: &'a [u8]) -> u32
+    requires { ⌜ length (now due) ≡ row-bytes ⌝ }
+    ensures { λ v. ⌜ (v < max-radios → marked (now (due .entry)) 0 v ≡ true) ⌝ }
+{
+    let mut k: u32 = 0;
+    while k < rows::ROW_WORDS {
+        let word = rows::word_of(due, k) & !rows::word_of(late, k);
+        if word != 0 {
+            return rows::WORD_BITS * k + u64::trailing_zeros(word);
+        }
+        k += 1;
+    }
+    Site::RADIOS
+}
+
+// The radio to take next: the lowest due, a late one only where no other is due; 512 where none is due.
+fn next_due<'a>(due: &'a [u8], late: &'a [u8]) -> u32
+    requires { ⌜ length (now due) ≡ row-bytes ⌝ }
+    ensures { λ v. ⌜ Next-due (now (due .entry)) v ⌝ }
+{
+    let v = first_early(due, late);
+    if v < Site::RADIOS {
+        return v;
+    }
+    rows::first_marked(due, 0)
+}
+
+// Takes radios that are due, late ones last, until none is due, or radio r or radio `stop` is taken, or a has fewer neighbours that stay than
+// the level. Comes back with whether none is due. A late radio has lost most when it is taken, and is ruled out most often.
 pub(crate) fn peel(
     links: &[u8],
     r: u32,
@@ -142,6 +208,7 @@ pub(crate) fn peel(
     level: u8,
     a: u32,
     held: &[u8],
+    late: &[u8],
     counters: &mut [u8],
     due: &mut [u8],
 ) -> bool
@@ -149,13 +216,14 @@ pub(crate) fn peel(
         (length (now due) ≡ row-bytes) × Due level a (now held) (now counters) (now due) ⌝ }
     ensures { λ x. ⌜ Peel-end (now (links .entry)) (now (held .entry)) level a r stop (now (counters .exit)) x ⌝ }
 {
-    let mut v = rows::first_marked(due, 0);
+    let mut stay = [u64::MAX; rows::ROW_WORDS as usize];
+    let mut v = next_due(due, late);
     while v < Site::RADIOS {
-        take(links, v, level, a, held, counters, due);
+        take(links, v, level, a, held, &mut stay, counters, due);
         if is_over(r, stop, a, level, counters) {
             return false;
         }
-        v = rows::first_marked(due, 0);
+        v = next_due(due, late);
     }
     true
 }

@@ -1,8 +1,6 @@
 // The search over pairs, by lower and then higher radio: for each lower end the pairs that may lift the radio are tried, the lowest higher
 // end first, until one lifts it or all are ruled out.
-ghost use mathlib.Core.Path.{_≡_};
-ghost use Prim.Native.Nat.{_/_, _≤_, _<_};
-ghost use lib.ListN.{length, getD, take};
+ghost use Rattle.lists.specs.Kit.{_≡_, _/_, _≤_, _<_, length, getD, take};
 ghost use Rattle.lists.specs.Lists.{Entries-below};
 ghost use Rattle.mesh.specs.Limits.{max-radios, max-neighbours, row-bytes};
 ghost use Rattle.mesh.specs.Tables.{marked};
@@ -163,13 +161,13 @@ fn higher_end(
     links: &[u8],
     numbers: &[u8],
     places: &[u16],
-    highs: &[u8],
+    not_lower: &[u8],
     r: u32,
     a: u32,
     free: &[u8],
     tight: &[u8],
 ) -> u32
-    requires { ⌜ Search-site (now links) (now numbers) (now highs) × (r < length (now numbers)) × (a < length (now numbers)) ×
+    requires { ⌜ Search-site (now links) (now numbers) (now «not_lower») × (r < length (now numbers)) × (a < length (now numbers)) ×
         Free (getD (now numbers) r 0) (now links) (now numbers) (now free) × Search-places (now links) (now numbers) (now places) ×
         Tight (getD (now numbers) r 0) r (now links) (now numbers) (now places) (now tight) ⌝ }
     ensures { λ b. ⌜ Higher-end (now (links .entry)) r a b ⌝ }
@@ -183,7 +181,7 @@ fn higher_end(
     if Site::RADIOS <= rows::first_marked(&untried, 0) {
         return Site::RADIOS;
     }
-    tries::start(numbers[r as usize], numbers, highs, &mut base);
+    tries::start(numbers[r as usize], numbers, not_lower, &mut base);
     let mut b = tries::settle(links, numbers, r, a, &mut base, &mut untried);
     while b < Site::RADIOS {
         if tries::lifts(links, numbers, r, a, b, &base, &mut untried) {
@@ -195,8 +193,14 @@ fn higher_end(
 }
 
 // The first pair that lifts r, by lower radio and then higher.
-pub(crate) fn first_pair(links: &[u8], numbers: &[u8], places: &[u16], highs: &[u8], r: u32) -> Ends
-    requires { ⌜ Search-site (now links) (now numbers) (now highs) × (r < length (now numbers)) × Search-places (now links) (now numbers) (now places) ⌝ }
+pub(crate) fn first_pair(
+    links: &[u8],
+    numbers: &[u8],
+    places: &[u16],
+    not_lower: &[u8],
+    r: u32,
+) -> Ends
+    requires { ⌜ Search-site (now links) (now numbers) (now «not_lower») × (r < length (now numbers)) × Search-places (now links) (now numbers) (now places) ⌝ }
     ensures { λ x. ⌜ Pair-found (now (links .entry)) r (x .low) (x .high) ⌝ }
 {
     let mut free = [0u8; Site::ROW_BYTES];
@@ -205,7 +209,16 @@ pub(crate) fn first_pair(links: &[u8], numbers: &[u8], places: &[u16], highs: &[
     mark_tight(r, links, numbers, places, &mut tight);
     let mut a: usize = 0;
     while a < numbers.len() {
-        let b = higher_end(links, numbers, places, highs, r, a as u32, &free, &tight);
+        let b = higher_end(
+            links,
+            numbers,
+            places,
+            not_lower,
+            r,
+            a as u32,
+            &free,
+            &tight,
+        );
         if b < Site::RADIOS {
             return Ends {
                 low: a as u32,

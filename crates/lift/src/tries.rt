@@ -1,11 +1,7 @@
 // Pairs of one lower end tried: the radio's level is peeled with that end and all untried higher ends left alone, and from there, for each pair
 // tried, with its two ends. Where the radio is left and both ends have enough, the pair lifts it; else what was taken rules this pair out, and
 // others of the same lower end.
-ghost use mathlib.Core.Path.{_≡_};
-ghost use mathlib.Core.Bool.{cond};
-ghost use Prim.Native.Nat.{_≤_, _<_};
-ghost use lib.Dec.{eqb};
-ghost use lib.ListN.{length, getD};
+ghost use Rattle.lists.specs.Kit.{_≡_, cond, _≤_, _<_, eqb, length, getD};
 ghost use Rattle.lists.specs.Lists.{count, range};
 ghost use Rattle.mesh.specs.Limits.{max-radios, row-bytes};
 ghost use Rattle.mesh.specs.Tables.{marked};
@@ -18,9 +14,9 @@ use super::peel::NO_COUNTER;
 use mesh::Site;
 
 // The counter of radio v before the peel.
-fn counter_of(v: usize, level: u8, numbers: &[u8], highs: &[u8]) -> u8
-    requires { ⌜ length (now numbers) ≤ length (now highs) ⌝ }
-    ensures { λ r. ⌜ r ≡ counter-start level (now (numbers .entry)) (now (highs .entry)) v ⌝ }
+fn counter_of(v: usize, level: u8, numbers: &[u8], not_lower: &[u8]) -> u8
+    requires { ⌜ length (now numbers) ≤ length (now «not_lower») ⌝ }
+    ensures { λ r. ⌜ r ≡ counter-start level (now (numbers .entry)) (now («not_lower» .entry)) v ⌝ }
 {
     if numbers.len() <= v {
         return NO_COUNTER;
@@ -28,22 +24,23 @@ fn counter_of(v: usize, level: u8, numbers: &[u8], highs: &[u8]) -> u8
     if numbers[v] != level {
         return NO_COUNTER;
     }
-    highs[v]
+    not_lower[v]
 }
 
 // The counters before the peel.
-pub(crate) fn start(level: u8, numbers: &[u8], highs: &[u8], counters: &mut [u8])
-    requires { ⌜ (length (now numbers) ≤ length (now highs)) × (length (now counters) ≡ max-radios) ⌝ }
-    ensures { λ _. ⌜ Started level (now (numbers .entry)) (now (highs .entry)) (now (counters .exit)) ⌝ }
+pub(crate) fn start(level: u8, numbers: &[u8], not_lower: &[u8], counters: &mut [u8])
+    requires { ⌜ (length (now numbers) ≤ length (now «not_lower»)) × (length (now counters) ≡ max-radios) ⌝ }
+    ensures { λ _. ⌜ Started level (now (numbers .entry)) (now («not_lower» .entry)) (now (counters .exit)) ⌝ }
 {
     let mut v: usize = 0;
     while v < Site::RADIOS as usize {
-        counters[v] = counter_of(v, level, numbers, highs);
+        counters[v] = counter_of(v, level, numbers, not_lower);
         v += 1;
     }
 }
 
-// Peels with a and the held radios left alone, until r or `stop` is taken or a falls short. Comes back with whether none is due.
+// Peels with a and the held radios left alone and the late ones taken last, until r or `stop` is taken or a falls short. Comes back with
+// whether none is due.
 fn peel_around(
     links: &[u8],
     r: u32,
@@ -51,6 +48,7 @@ fn peel_around(
     level: u8,
     a: u32,
     held: &[u8],
+    late: &[u8],
     counters: &mut [u8],
 ) -> bool
     requires { ⌜ Sound-links (now links) × Peel-begin (now links) (now held) level a r stop (now counters) × (a < max-radios) ⌝ }
@@ -58,7 +56,7 @@ fn peel_around(
 {
     let mut due = [0u8; Site::ROW_BYTES];
     peel::mark_due(level, a, held, counters, &mut due);
-    peel::peel(links, r, stop, level, a, held, counters, &mut due)
+    peel::peel(links, r, stop, level, a, held, late, counters, &mut due)
 }
 
 // Whether the pair of a and c is ruled out: c had too few neighbours for the link to keep it when it was taken, or c stays and no such pair lifts
@@ -108,7 +106,7 @@ pub(crate) fn settle(
     ensures fewer { λ _. ⌜ count (marked (now (untried .exit)) 0) (range 0 max-radios) ≤ count (marked (now (untried .entry)) 0) (range 0 max-radios) ⌝ }
 {
     let level = numbers[r as usize];
-    if !peel_around(links, r, r, level, a, untried, base) {
+    if !peel_around(links, r, r, level, a, untried, untried, base) {
         return Site::RADIOS;
     }
     rule_out(level, false, numbers, base, untried);
@@ -147,7 +145,7 @@ pub(crate) fn lifts(
     tables::fill::copy8(&mut counters, base);
     rows::put_bit(&mut held, true, 0, b);
     let stop = stop_of(b, r, level, numbers);
-    if peel_around(links, r, stop, level, a, &held, &mut counters) {
+    if peel_around(links, r, stop, level, a, &held, untried, &mut counters) {
         return true;
     }
     rule_out(

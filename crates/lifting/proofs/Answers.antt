@@ -4,38 +4,18 @@
 --   lift-none       20 exactly if questions 1 to 4 get yes and no pair lifts it
 --   lift-accepted   a link call that takes the pair given up is accepted, and lists the radio
 --   lift-right      all of an accepted call
-use mathlib.Core.Path.{_≡_, refl, sym, ap, _∙_}
-use mathlib.Core.Logic.{_⊎_, inl, inr, _↔_}
-use mathlib.Core.Bool.{true, false}
-use mathlib.Core.List.{List, [], _∷_}
-use Prim.Native.Nat.{ℕ, _≤_, _<_}
-use native.Mathlib.Omega.{arith}
-use lib.ListN.{length, take}
-use Rattle.lists.specs.Lists.{In, member}
-use Rattle.mesh.specs.Limits.{max-neighbours}
-use Rattle.mesh.specs.Graph.{Link, link-of, Graph, relinked}
-use Rattle.mesh.specs.Cores.{number}
-use Rattle.mesh.specs.Levels.{changed}
-use Rattle.mesh.specs.Tables.{Tables, graph-in}
-use Rattle.mesh.specs.Sound.{sound}
-use Rattle.lists.proofs.Tests.{bool-cases, never}
-use Rattle.lists.proofs.Member.{member-in}
-use Rattle.lists.proofs.Overwrite.{take-overwrite}
-use Rattle.mesh.proofs.Cores.Peeling.{number-core, number-unique}
-use Rattle.mesh.proofs.Links.Call.{unchanged-number}
-use Rattle.calls.specs.Questions.{lengths-of, answer-length, ends-refusal, link-refusal, radio-refusal}
-use Rattle.calls.specs.Lift.{lifts, lifting, first-pair, is-lifted, lift-refusal}
-use Rattle.calls.specs.Outcomes.{link-outcome}
-use Rattle.calls.specs.LiftOutcome.{lift-outcome}
-use Rattle.calls.specs.Contracts.{Lift-contract}
-use Rattle.calls.specs.declared.Pair.{Pair}
-use Rattle.calls.proofs.QuestionLaws.{true-answer-length}
-use Rattle.calls.proofs.ChainLaws.{Site-good, site-yes, ends-yes}
-use Rattle.calls.proofs.ContractLaws.{number-by, accepted-is, by-zero}
-use Rattle.calls.proofs.LiftOutcome.{lift-zero, lift-twenty, lift-unanswered}
+use Rattle.lists.{specs.Kit.{_≡_, refl, sym, ap, _∙_, _⊎_, inl, inr, _↔_, true, false, List, [], _∷_, ℕ, _≤_, _<_, arith, length, take}, specs.Lists.{In}}
+use Rattle.lists.{specs.Lists.{member}, proofs.Tests.{bool-cases, never}, proofs.Member.{member-in}, proofs.Overwrite.{take-overwrite}}
+use Rattle.mesh.{specs.Limits.{max-neighbours}, specs.Graph.{Link, link-of, Graph, relinked}, specs.Cores.{number}, specs.Levels.{changed}}
+use Rattle.mesh.{specs.Tables.{Tables, graph-in}, specs.Sound.{sound}, proofs.Cores.Peeling.{number-core, number-unique}, proofs.Links.Call.{unchanged-number}}
+use Rattle.calls.{specs.Questions.{lengths-of, answer-length, ends-refusal, radio-refusal}, specs.Lift.{lifts, lifting, first-pair, is-lifted}}
+use Rattle.calls.{specs.Outcomes.{link-outcome}, specs.LiftOutcome.{lift-outcome}, specs.Contracts.{Lift-contract}}
+use Rattle.calls.{specs.declared.Pair.{Pair}, proofs.QuestionLaws.{true-answer-length}, proofs.ChainLaws.{Site-good, site-yes, ends-yes}}
+use Rattle.calls.{proofs.ContractLaws.{number-by, accepted-is, by-zero}, proofs.LiftOutcome.{lift-zero, lift-twenty, lift-unanswered}}
 use Rattle.lifting.specs.Results.{First-lift, No-lift, Raises, Lift-right}
-use Rattle.lifting.proofs.Pairs.{lifts-lifted, lifted-lifts}
-use Rattle.lifting.proofs.Search.{lifted-first, lifted-none, none-lifted}
+use Rattle.lifting.proofs.{Pairs.{lifts-lifted, lifted-lifts}, Search.{lifted-first, lifted-none, none-lifted}}
+use Rattle.calls.specs.Chains.{lift-refusal}
+use Rattle.calls.specs.Chains.{link-refusal}
 
 -- ---- by the largest group
 
@@ -96,8 +76,8 @@ module _ (n v : ℕ) (t : Tables) where
 
     pub lift-accepted :
         (w : List ℕ) → n ≤ length w → let o = link-outcome true n (given .low) (given .high) t w in
-        (o .reply .number ≡ 0) × In v (take (o .reply .count) (o .answer))
-    unfolding link-outcome link-refusal sound graph-in
+        (o .reply .number ≡ 0) × In v (take (o .reply .count) (o .lent))
+    unfolding link-outcome sound graph-in
     lift-accepted w long = rw (by-zero {o = link-outcome true n a b t w} _ _ _ zero-refusal refl) (refl, rw (take-overwrite (changed true a b g) w) moved)
       where
         a : ℕ

@@ -4,39 +4,18 @@
 --   lift-group          a pair that lifts a radio has a group with it
 --   radio-refutes .. high-refutes   pairs without such a group
 --   peeling-lifts       what stays is such a group
-use mathlib.Core.Path.{_≡_, sym, ap, _∙_}
-use mathlib.Core.Logic.{_⊎_, inl, inr}
-use mathlib.Core.Bool.{Bool, true, false, _&&_}
-use mathlib.Core.List.{List}
-use Prim.Native.Nat.{ℕ, suc, _+_, _≤_, _<_}
-use native.Mathlib.Omega.{arith}
-use native.Mathlib.Nat.{le-trans, le-of-eq}
-use lib.Dec.{ltb, leb, eqb}
-use lib.ListN.{getD}
-use borrow.Author.Tests.{ltb-true, lt-ltb, leb-true, le-leb, eqb-true, eqb-false, eq-eqb}
-use Rattle.lists.specs.Lists.{range, filter, member}
-use Rattle.mesh.specs.Limits.{max-neighbours}
-use Rattle.mesh.specs.Graph.{Graph, link-of, radios, linked, neighbours-in, relinked, Allowed}
-use Rattle.mesh.specs.Cores.{Group, number}
-use Rattle.mesh.specs.Levels.{changed, lower-level}
-use Rattle.mesh.specs.Valid.{Valid, smaller, larger}
-use Rattle.lists.proofs.Tests.{bool-cases, never, and-left, and-right, and-both}
-use Rattle.lists.proofs.Range.{in-range, distinct-range}
-use Rattle.lists.proofs.Count.{count-less}
-use Rattle.lists.proofs.Filter.{distinct-filter}
-use Rattle.mesh.proofs.GraphLaws.{Ends, Adds, linked-sym, relinked-adds, adds-cases, adds-has, adds-keeps}
-use Rattle.mesh.proofs.GraphLaws.{neighbours-in-mono, neighbours-in-subset, neighbours-in-filter}
-use Rattle.mesh.proofs.Links.Moves.{adds-most}
-use Rattle.mesh.proofs.Cores.Certificate.{core-enough}
-use Rattle.mesh.proofs.Cores.Peeling.{number-core}
-use Rattle.mesh.proofs.Links.Call.{unchanged-number}
-use Rattle.mesh.proofs.Links.Laws.{link-level, link-by-one}
-use Rattle.calls.specs.Questions.{ends-refusal, can-switch, has-room}
-use Rattle.calls.specs.Lift.{lifts}
-use Rattle.calls.proofs.QuestionLaws.{true-can-switch, true-has-room, can-switch-true, has-room-true}
-use Rattle.calls.proofs.ChainLaws.{ends-zero, ends-yes}
-use Rattle.lifting.specs.Peeling.{left, stays, Pair-group, Peeling}
-use Rattle.lifting.specs.Search.{candidate}
+use Rattle.lists.{specs.Kit.{_≡_, sym, ap, _∙_, _⊎_, inl, inr, Bool, true, false, _&&_, List, ℕ, suc, _+_, _≤_, _<_, arith, le-trans, le-of-eq, ltb, leb, eqb}}
+use Rattle.lists.{specs.Kit.{getD, ltb-true, lt-ltb, leb-true, le-leb, eqb-true, eqb-false, eq-eqb}, specs.Lists.{range, filter, member}}
+use Rattle.lists.{proofs.Tests.{bool-cases, never, and-left, and-right, and-both}, proofs.Range.{in-range, distinct-range}, proofs.Count.{count-less}}
+use Rattle.lists.{proofs.Filter.{distinct-filter}}
+use Rattle.mesh.{specs.Limits.{max-neighbours}, specs.Graph.{Graph, link-of, radios, linked, neighbours-in, relinked, Allowed}, specs.Cores.{Group, number}}
+use Rattle.mesh.{specs.Levels.{changed, lower-level}, specs.Valid.{Valid, smaller, larger}, proofs.GraphLaws.{Ends, Adds, linked-sym, relinked-adds}}
+use Rattle.mesh.{proofs.GraphLaws.{adds-cases, adds-has, adds-keeps, neighbours-in-mono, neighbours-in-subset, neighbours-in-filter}}
+use Rattle.mesh.{proofs.Links.Moves.{adds-most}, proofs.Cores.Certificate.{core-enough}, proofs.Cores.Peeling.{number-core}}
+use Rattle.mesh.{proofs.Links.Call.{unchanged-number}, proofs.Links.Laws.{link-level, link-by-one}}
+use Rattle.calls.{specs.Questions.{ends-refusal, can-switch, has-room}, specs.Lift.{lifts}, proofs.QuestionLaws.{true-can-switch, true-has-room}}
+use Rattle.calls.{proofs.QuestionLaws.{can-switch-true, has-room-true}, proofs.ChainLaws.{ends-zero, ends-yes}}
+use Rattle.lifting.specs.{Peeling.{left, stays, Pair-group, Peeling}, Search.{candidate}}
 use Rattle.lifting.proofs.Peeling.{stays-above, stays-left, stays-cases, stays-not}
 
 -- ---- what lifts a radio

@@ -5,28 +5,12 @@
 --   taken-fewer      fewer radios are left
 -- Why a group of a pair keeps clear of the taken radios: the first one taken that it had would have had k + 1 neighbours in the group, and
 -- all of them stayed.
-use mathlib.Core.Path.{_≡_, refl, sym, ap, _∙_}
-use mathlib.Core.Logic.{_⊎_, inl, inr}
-use mathlib.Core.Bool.{Bool, true, false, _&&_, _||_, and-false}
-use mathlib.Core.List.{List}
-use Prim.Native.Nat.{ℕ, _+_, _≤_, _<_}
-use native.Mathlib.Omega.{arith}
-use native.Mathlib.Nat.{le-antisymm, le-trans, le-of-eq}
-use lib.Dec.{ltb, leb, eqb}
-use lib.ListN.{getD}
-use borrow.Author.Tests.{ltb-true, ltb-false, lt-ltb, le-ltb, leb-true, le-leb, eqb-true, eqb-false}
-use Rattle.lists.specs.Lists.{range, count}
-use Rattle.mesh.specs.Limits.{max-neighbours}
-use Rattle.mesh.specs.Graph.{Graph, radios, linked, neighbours-in}
-use Rattle.mesh.specs.Cores.{number}
-use Rattle.mesh.specs.Valid.{Valid}
-use Rattle.lists.proofs.Tests.{bool-cases, never, and-both, or-cases, or-left, or-right}
-use Rattle.lists.proofs.Range.{in-range, distinct-range}
-use Rattle.lists.proofs.Count.{count-pos, count-less, count-ext}
-use Rattle.lists.proofs.Distinct.{count-plus-one}
-use Rattle.mesh.proofs.GraphLaws.{linked-sym, neighbours-in-subset, degree-in}
-use Rattle.mesh.proofs.Cores.Certificate.{core-enough}
-use Rattle.mesh.proofs.Cores.Peeling.{number-core}
+use Rattle.lists.{specs.Kit.{_≡_, refl, sym, ap, _∙_, _⊎_, inl, inr, Bool, true, false, _&&_, _||_, and-false, List, ℕ, _+_, _≤_, _<_, arith, le-antisymm}}
+use Rattle.lists.{specs.Kit.{le-trans, le-of-eq, ltb, leb, eqb, getD, ltb-true, ltb-false, lt-ltb, le-ltb, leb-true, le-leb, eqb-true, eqb-false}}
+use Rattle.lists.{specs.Lists.{range, count}, proofs.Tests.{bool-cases, never, and-both, or-cases, or-left, or-right}, proofs.Range.{in-range, distinct-range}}
+use Rattle.lists.{proofs.Count.{count-pos, count-less, count-ext}, proofs.Distinct.{count-plus-one}}
+use Rattle.mesh.{specs.Limits.{max-neighbours}, specs.Graph.{Graph, radios, linked, neighbours-in}, specs.Cores.{number}, specs.Valid.{Valid}}
+use Rattle.mesh.{proofs.GraphLaws.{linked-sym, neighbours-in-subset, degree-in}, proofs.Cores.Certificate.{core-enough}, proofs.Cores.Peeling.{number-core}}
 use Rattle.lifting.specs.Peeling.{left, stays, Pair-group, Taken, Peeling}
 
 -- ---- what is left
@@ -83,7 +67,7 @@ module _ (g : Graph) (cs ds : List ℕ) (v : ℕ) (now : left cs v ≡ true) (t 
       go (inl a) (inr b) = same (rw (a, b))
       go (inr a) b = same (rw a)
 
-  taken-still : (w : ℕ) → left ds w ≡ true → (left cs w ≡ true) × (w ≡ v → ⊥)
+  pub taken-still : (w : ℕ) → left ds w ≡ true → (left cs w ≡ true) × (w ≡ v → ⊥)
   taken-still w e = (sym (taken-left w other) ∙ e, other)
     where
       other : w ≡ v → ⊥

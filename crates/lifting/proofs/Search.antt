@@ -3,26 +3,13 @@
 --   none-start, none-next         lower radios that are done
 --   first-found, none-found       what `lifting` then is
 --   lifted-first, lifted-none, none-lifted   what a pair of the list, and an empty list, say
-use mathlib.Core.Path.{_≡_, refl, ap, _∙_}
-use mathlib.Core.Logic.{_⊎_, inl, inr}
-use mathlib.Core.Bool.{Bool, true, false, _&&_}
-use mathlib.Core.List.{List, [], _∷_, _++_, map, flatMap}
-use Prim.Native.Nat.{ℕ, zero, suc, _+_, _-_, _≤_, _<_}
-use native.Mathlib.Omega.{arith}
-use lib.Dec.{ltb, eqb}
-use borrow.Author.Tests.{ltb-true, ltb-false, eqb-true, eqb-false}
-use Rattle.lists.specs.Lists.{range, filter}
-use Rattle.mesh.specs.Limits.{max-neighbours}
-use Rattle.mesh.specs.Graph.{Link, link-of, Graph, radios, link-before}
-use Rattle.mesh.specs.Cores.{number}
-use Rattle.mesh.specs.Valid.{Valid}
-use Rattle.lists.proofs.Tests.{bool-cases, never, and-left, and-right, or-cases}
-use Rattle.lists.proofs.Range.{range-append, range-in}
-use Rattle.lists.proofs.Filter.{filter-none, filter-append}
-use Rattle.lists.proofs.Map.{flatMap-none, flatMap-append}
+use Rattle.lists.{specs.Kit.{_≡_, refl, ap, _∙_, _⊎_, inl, inr, Bool, true, false, _&&_, List, [], _∷_, _++_, map, flatMap, ℕ, zero, suc, _+_, _-_, _≤_, _<_}}
+use Rattle.lists.{specs.Kit.{arith, ltb, eqb, ltb-true, ltb-false, eqb-true, eqb-false}, specs.Lists.{range, filter}, proofs.Tests.{bool-cases, never}}
+use Rattle.lists.{proofs.Tests.{and-left, and-right, or-cases}, proofs.Range.{range-append, range-in}, proofs.Filter.{filter-none, filter-append}}
+use Rattle.lists.{proofs.Map.{flatMap-none, flatMap-append}}
+use Rattle.mesh.specs.{Limits.{max-neighbours}, Graph.{Link, link-of, Graph, radios, link-before}, Cores.{number}, Valid.{Valid}}
 use Rattle.calls.specs.Lift.{lifts, lifting-from, lifting, first-pair, is-lifted}
-use Rattle.lifting.specs.Search.{candidate, None-below, Untried}
-use Rattle.lifting.specs.Results.{Is-pair, First-lift, No-lift}
+use Rattle.lifting.specs.{Search.{candidate, None-below, Untried}, Results.{Is-pair, First-lift, No-lift}}
 use Rattle.lifting.proofs.Pairs.{candidate-refutes}
 
 -- ---- pairs with one lower radio

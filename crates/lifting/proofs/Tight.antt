@@ -1,24 +1,13 @@
 -- A pair that lifts a radio begins at a tight end. Of the pair's group the radio that stands first in the order has all its neighbours of the
 -- group later. It is no other than an end, which has at least k of them, and then it has no more.
-use mathlib.Core.Path.{_≡_, refl, sym, ap, _∙_}
-use mathlib.Core.Logic.{_⊎_, inl, inr}
-use mathlib.Core.Bool.{Bool, true, false, _&&_, cond}
-use mathlib.Core.List.{List}
-use Prim.Native.Nat.{ℕ, zero, suc, _≤_, _<_}
-use native.Mathlib.Omega.{arith}
-use native.Mathlib.Nat.{le-antisymm, le-trans}
-use lib.Dec.{ltb, leb, eqb}
-use borrow.Author.Tests.{eqb-true, eqb-false, eq-eqb, leb-true, leb-false, le-leb, ltb-true, ltb-false, lt-ltb, le-ltb}
-use Rattle.mesh.specs.Limits.{max-neighbours}
-use Rattle.mesh.specs.Graph.{Graph, proper, link-of, linked, neighbours-in}
-use Rattle.mesh.specs.Cores.{number}
-use Rattle.mesh.specs.Valid.{Valid}
-use Rattle.mesh.proofs.GraphLaws.{neighbours-in-mono, linked-self}
-use Rattle.lists.proofs.Tests.{bool-cases, never, and-both}
+use Rattle.lists.{specs.Kit.{_≡_, refl, sym, ap, _∙_, _⊎_, inl, inr, Bool, true, false, _&&_, cond, List, ℕ, zero, suc, _≤_, _<_, arith, le-antisymm, ltb, leb}}
+use Rattle.lists.{specs.Kit.{eqb, eqb-true, eqb-false, eq-eqb, leb-true, leb-false, le-leb, ltb-true, ltb-false, lt-ltb}, proofs.Tests.{bool-cases, never}}
+use Rattle.lists.{proofs.Tests.{and-both}}
+use Rattle.mesh.{specs.Limits.{max-neighbours}, specs.Graph.{Graph, proper, link-of, linked, neighbours-in}, specs.Cores.{number}, specs.Valid.{Valid}}
+use Rattle.mesh.{proofs.GraphLaws.{neighbours-in-mono, linked-self}}
 use Rattle.calls.specs.Lift.{lifts}
-use Rattle.lifting.specs.Peeling.{Pair-group}
-use Rattle.lifting.specs.Tight.{later, Ordered, tight, first-end}
-use Rattle.lifting.proofs.Pairs.{Lifted, refuted, lift-group, risen, r-risen}
+use Rattle.lifting.specs.{Peeling.{Pair-group}, Tight.{later, Ordered, tight, first-end}}
+use Rattle.lifting.proofs.Pairs.{refuted, lift-group, risen, r-risen}
 
 -- ---- the first radio of a set
 

@@ -8,15 +8,8 @@
 --   Taken g v cs ds       the counters when v is taken
 --   Peeling g k a cs      radios were taken of whose neighbours at most k stayed, and a was not
 -- Laws are in proofs/Peeling.antt. Definitions only.
-use mathlib.Core.Path.{_≡_}
-use mathlib.Core.Bool.{Bool, true, false, _&&_, _||_}
-use mathlib.Core.List.{List}
-use Prim.Native.Nat.{ℕ, suc, _+_, _≤_, _<_}
-use lib.Dec.{ltb}
-use lib.ListN.{getD}
-use Rattle.mesh.specs.Limits.{max-neighbours}
-use Rattle.mesh.specs.Graph.{Graph, linked, neighbours-in}
-use Rattle.mesh.specs.Cores.{number}
+use Rattle.lists.specs.Kit.{_≡_, Bool, true, false, _&&_, _||_, List, ℕ, suc, _+_, _≤_, _<_, ltb, getD}
+use Rattle.mesh.specs.{Limits.{max-neighbours}, Graph.{Graph, linked, neighbours-in}, Cores.{number}}
 
 unfoldable pub left : (counters : List ℕ) → (v : ℕ) → Bool
 left cs v = ltb (getD cs v 255) 128

@@ -5,18 +5,9 @@
 --   Raises g v l       with the link l, which a link call would take up now, the core number of v by the largest group is greater
 --   Lift-right         l is the first pair that lifts v; it raises v; taking it up is accepted and lists v
 -- That they hold is `lift-core`, `lift-accepted`, `lift-right` in proofs/Answers.antt. Definitions only.
-use mathlib.Core.Path.{_≡_}
-use mathlib.Core.Bool.{true, false}
-use mathlib.Core.List.{List}
-use Prim.Native.Nat.{ℕ, _≤_, _<_}
-use lib.ListN.{length, take}
-use Rattle.lists.specs.Lists.{In}
-use Rattle.mesh.specs.Limits.{max-neighbours}
-use Rattle.mesh.specs.Graph.{Link, Graph, link-before, relinked, Allowed}
-use Rattle.mesh.specs.Cores.{Core}
-use Rattle.mesh.specs.Tables.{Tables, graph-in}
-use Rattle.calls.specs.Outcomes.{link-outcome}
-use Rattle.calls.specs.Lift.{lifts}
+use Rattle.lists.specs.{Kit.{_≡_, true, false, List, ℕ, _≤_, _<_, length, take}, Lists.{In}}
+use Rattle.mesh.specs.{Limits.{max-neighbours}, Graph.{Link, Graph, link-before, relinked, Allowed}, Cores.{Core}, Tables.{Tables, graph-in}}
+use Rattle.calls.specs.{Outcomes.{link-outcome}, Lift.{lifts}}
 
 -- ---- pairs that lift a radio
 
@@ -52,4 +43,4 @@ pub record Lift-right (n v : ℕ) (t : Tables) (l : Link) : Type 0 where
   -- a link call that takes it up is accepted and lists v; w is the answer table before, long enough
   pub listed :
       (w : List ℕ) → n ≤ length w → let o = link-outcome true n (l .low) (l .high) t w in
-      (o .reply .number ≡ 0) × In v (take (o .reply .count) (o .answer))
+      (o .reply .number ≡ 0) × In v (take (o .reply .count) (o .lent))

@@ -3,15 +3,9 @@
 --   None-below g r a      no pair whose lower radio is below a lifts r
 --   Untried g r a rest    of the pairs whose lower radio is a, only ones with a radio of `rest` can lift r
 -- Laws are in proofs/Search.antt. Definitions only.
-use mathlib.Core.Path.{_≡_}
-use mathlib.Core.Bool.{Bool, true, false, _&&_}
-use Prim.Native.Nat.{ℕ, _<_}
-use lib.Dec.{eqb}
-use Rattle.mesh.specs.Limits.{max-neighbours}
-use Rattle.mesh.specs.Graph.{link-of, Graph}
-use Rattle.mesh.specs.Levels.{lower-level}
-use Rattle.calls.specs.Questions.{can-switch, has-room}
-use Rattle.calls.specs.Lift.{lifts}
+use Rattle.lists.specs.Kit.{_≡_, Bool, true, false, _&&_, ℕ, _<_, eqb}
+use Rattle.mesh.specs.{Limits.{max-neighbours}, Graph.{link-of, Graph}, Levels.{lower-level}}
+use Rattle.calls.specs.{Questions.{can-switch, has-room}, Lift.{lifts}}
 
 unfoldable pub candidate : Graph → (K a b : ℕ) → Bool
 candidate g K a b = eqb (lower-level g a b) K && (can-switch true g a b && has-room max-neighbours true g a b)

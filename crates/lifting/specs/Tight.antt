@@ -4,12 +4,8 @@
 --   tight g place k r v    v has number k and exactly k later neighbours, and stands no later than r
 --   first-end place a b    the end of the pair a, b that stands first in the order, where a walk of its link begins
 -- That only a pair whose first end is tight lifts r is `tight-refutes` in proofs/Tight.antt. Definitions only.
-use mathlib.Core.Path.{_≡_}
-use mathlib.Core.Bool.{Bool, _&&_, cond}
-use Prim.Native.Nat.{ℕ, _≤_, _<_}
-use lib.Dec.{ltb, leb, eqb}
-use Rattle.mesh.specs.Graph.{Graph, neighbours-in}
-use Rattle.mesh.specs.Cores.{number}
+use Rattle.lists.specs.Kit.{_≡_, Bool, _&&_, cond, ℕ, _≤_, _<_, ltb, leb, eqb}
+use Rattle.mesh.specs.{Graph.{Graph, neighbours-in}, Cores.{number}}
 
 unfoldable pub later : Graph → (place : ℕ → ℕ) → (v : ℕ) → ℕ
 later g place v = neighbours-in g v (λ w. ltb (place v) (place w))

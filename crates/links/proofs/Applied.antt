@@ -1,42 +1,19 @@
 -- A plan applied, on plain values: what is written is what an accepted link call comes to.
 -- In order: laws of lists, a bound on numbers, the changed radios, the numbers, the order, the call.
-use mathlib.Core.Path.{_≡_, sym, ap, ap₂, _∙_}
-use mathlib.Core.Logic.{_⊎_, inl, inr}
-use mathlib.Core.Bool.{Bool, true, false, _&&_, not}
-use mathlib.Core.List.{List, [], _∷_}
-use Prim.Native.Nat.{ℕ, suc, _+_, _-_, _≤_, _<_}
-use native.Mathlib.Omega.{arith}
-use native.Mathlib.Nat.{le-trans}
-use lib.Dec.{eqb}
-use borrow.Author.Tests.{le-leb}
-use lib.IntN.{ℤ}
-use lib.ListN.{length, getD, take, drop, length-drop}
-use lib.Seq.{length-take-le, take-all, ext-getD, getD-take, getD-drop}
-use Rattle.mesh.specs.Limits.{max-radios, max-neighbours}
-use Rattle.lists.specs.Lists.{range, count, filter, member, overwrite, In, Entries-below}
-use Rattle.lists.specs.Facts.{Distinct}
-use Rattle.mesh.specs.Graph.{Graph, radios, linked, degree, neighbours-among, neighbours-in, relinked, Allowed}
-use Rattle.mesh.specs.Cores.{Group, number, numbers}
-use Rattle.mesh.specs.Levels.{changed, step-of}
-use Rattle.mesh.specs.Tables.{Tables, graph-in}
-use Rattle.lists.proofs.Tests.{bool-cases, never, and-left}
-use Rattle.lists.proofs.Member.{in-member, member-in, not-member, getD-of-in}
-use Rattle.lists.proofs.Range.{range-in, length-range, distinct-range}
-use Rattle.lists.proofs.Count.{count-mono, count-le-length}
-use Rattle.lists.proofs.Filter.{length-filter, filter-ext, distinct-filter, filter-range-within, filter-member-filter}
-use Rattle.lists.proofs.Overwrite.{take-overwrite}
-use Rattle.mesh.proofs.Cores.Peeling.{number-core, length-numbers, getD-numbers}
-use Rattle.mesh.proofs.Links.Call.{unchanged-number}
-use Rattle.mesh.proofs.Links.Laws.{link-by-one, link-valid}
-use Rattle.mesh.specs.Valid.{Valid, smaller, larger}
-use Rattle.calls.specs.Switches.{switch, switched}
-use Rattle.calls.specs.Outcomes.{reply, linked-with}
-use Rattle.calls.specs.declared.Reply.{Reply}
-use Rattle.tables.specs.Steps.{stepped, all-stepped}
-use Rattle.tables.proofs.StepLaws.{length-all-stepped, getD-all-stepped-other, getD-all-stepped-listed}
-use Rattle.plan.specs.Plans.{Planned, Applicable}
-use Rattle.plan.specs.Planned.{changed-part}
-use Rattle.links.specs.Changes.{in-order, counted-step, plan-fits, Applied}
+use Rattle.lists.{specs.Kit.{_≡_, sym, ap, ap₂, _∙_, _⊎_, inl, inr, Bool, true, false, _&&_, not, List, [], _∷_, ℕ, suc, _+_, _-_, _≤_, _<_, arith, le-trans}}
+use Rattle.lists.{specs.Kit.{eqb, ℤ, length, getD, take, drop, length-drop, length-take-le, take-all, ext-getD, getD-take, getD-drop}}
+use Rattle.lists.{specs.Lists.{range, count, filter, member, overwrite, In, Entries-below}, specs.Facts.{Distinct}, proofs.Tests.{bool-cases, never, and-left}}
+use Rattle.lists.{proofs.Member.{in-member, member-in, not-member, getD-of-in}, proofs.Range.{range-in, length-range, distinct-range}}
+use Rattle.lists.{proofs.Count.{count-mono, count-le-length}, proofs.Filter.{length-filter, filter-ext, distinct-filter, filter-range-within}}
+use Rattle.lists.{proofs.Filter.{filter-member-filter}, proofs.Overwrite.{take-overwrite}}
+use Rattle.mesh.{specs.Limits.{max-radios, max-neighbours}, specs.Graph.{Graph, radios, linked, degree, neighbours-among, neighbours-in, relinked, Allowed}}
+use Rattle.mesh.{specs.Cores.{Group, number, numbers}, specs.Levels.{changed, step-of}, specs.Tables.{Tables, graph-in}, proofs.Cores.Peeling.{number-core}}
+use Rattle.mesh.{proofs.Cores.Peeling.{length-numbers, getD-numbers}, proofs.Links.Call.{unchanged-number}, proofs.Links.Laws.{link-by-one, link-valid}}
+use Rattle.mesh.{specs.Valid.{Valid, smaller, larger}}
+use Rattle.calls.specs.{Switches.{switch, switched}, Outcomes.{reply, linked-with}, declared.Reply.{Reply}}
+use Rattle.tables.{specs.Steps.{stepped, all-stepped}, proofs.StepLaws.{length-all-stepped, getD-all-stepped-other, getD-all-stepped-listed}}
+use Rattle.plan.specs.{Plans.{Planned, Applicable, plan-of}, Planned.{changed-part}}
+use Rattle.links.specs.Changes.{in-order, counted-step, Plan-fits, Applied}
 use Rattle.links.proofs.ChangeLaws.{counted-step-length}
 
 -- ---- a bound on numbers
@@ -123,7 +100,7 @@ numbers-stepped up a b g xs valid ok =
 -- ---- the call
 
 module _ (up : Bool) (n a b : ℕ) (t : Tables) (answer : List ℕ) (ok : Applicable up n a b t answer)
-    (start size taken : ℕ) (stretch : List ℕ) (plan : Planned up a b (graph-in n (t .links)) (t .order) start size taken stretch) where
+    (start size taken : ℕ) (stretch : List ℕ) (plan : Planned up a b (graph-in n (t .links)) (t .order) (plan-of start size taken) stretch) where
   abbrev g : Graph
   g = graph-in n (t .links)
 
@@ -134,11 +111,9 @@ module _ (up : Bool) (n a b : ℕ) (t : Tables) (answer : List ℕ) (ok : Applic
   unfolding graph-in
   entries-planned = entries-changed-part up taken size stretch n (plan .taken-fits) (plan .long) (plan .radios)
 
-  pub planned-fits : n ≤ length (t .order) → plan-fits start size taken (length stretch) (length (t .order)) ≡ true
-  unfolding plan-fits graph-in
-  planned-fits long =
-      let fits : start + size ≤ length (t .order) = omega (arith, plan .fits) in
-      rw (le-leb taken size (plan .taken-fits), le-leb size (length stretch) (plan .long), le-leb (start + size) (length (t .order)) fits)
+  pub planned-fits : n ≤ length (t .order) → Plan-fits start size taken (length stretch) (length (t .order))
+  unfolding graph-in
+  planned-fits long = record { taken-fits = plan .taken-fits; long = plan .long; fits = omega (arith, plan .fits) }
 
   pub in-order-planned : in-order (changed-part up taken size stretch) ≡ cs
   unfolding graph-in

@@ -1,55 +1,22 @@
--- Laws of what applying a plan writes. In order: the changed radios, a plan that fits, the stretch in the order, the step, the calls.
-use mathlib.Core.Path.{_≡_, refl, sym, ap, ap₂, _∙_}
-use mathlib.Core.Logic.{_⊎_, inl, inr}
-use mathlib.Core.Bool.{Bool, true, false, _&&_, cond}
-use mathlib.Core.List.{List, [], _∷_, _++_, append-assoc}
-use Prim.Native.Nat.{ℕ, zero, suc, _+_, _-_, _≤_, _<_, min}
-use native.Mathlib.Omega.{arith}
-use mir.Syntax.{w8}
-use mir.Val.{SFits, toZ, ofZ}
-use mir.Facts.{toZ-ofZ}
-use lib.Dec.{leb}
-use lib.IntN.{ℤ, pos, negsuc}
-use lib.ListN.{length, take, drop, length-drop}
-use lib.Seq.{length-take-le, take-all, take-take, take-add, drop-drop, paste, take-paste, drop-paste}
-use borrow.Author.Tests.{leb-true, leb-false, le-leb, lt-leb}
-use borrow.Rule.Slice.PartMut.{midOf, putMid, mid-len, post-is}
-use Rattle.mesh.specs.Limits.{max-radios}
-use Rattle.lists.specs.Lists.{range, member, overwrite}
-use Rattle.mesh.specs.Levels.{step-of}
-use Rattle.mesh.specs.Tables.{Tables}
-use Rattle.calls.specs.declared.Reply.{Reply}
+-- Laws of what applying a plan writes. In order: the changed radios, the stretch in the order, the step.
+use Rattle.lists.{specs.Kit.{_≡_, refl, sym, ap, ap₂, _∙_, Bool, true, false, List, [], _∷_, _++_, append-assoc, ℕ, zero, suc, _+_, _-_, _≤_, arith, ℤ, pos}}
+use Rattle.lists.{specs.Kit.{negsuc, length, take, drop, length-drop, length-take-le, take-take, take-add, drop-drop, paste, take-paste, drop-paste}}
+use Rattle.lists.{specs.Lists.{range, member}, proofs.Count.{count-le-length}, proofs.Filter.{length-filter}, proofs.Range.{length-range}}
+use Rattle.lists.{proofs.Parts.{drop-take}}
+use mir.{Syntax.{w8}, Val.{SFits, toZ, ofZ}, Facts.{toZ-ofZ}}
+use Rattle.mesh.specs.{Limits.{max-radios}, Levels.{step-of}}
 use Rattle.tables.specs.Steps.{all-stepped}
-use Rattle.lists.proofs.Tests.{bool-cases, never, and-left, and-right}
-use Rattle.lists.proofs.Count.{count-le-length}
-use Rattle.lists.proofs.Filter.{length-filter}
-use Rattle.lists.proofs.Range.{length-range}
-use Rattle.lists.proofs.Overwrite.{overwrite-take}
 use Rattle.plan.specs.Planned.{changed-part}
-use Rattle.links.specs.Changes.{in-order, counted-step, plan-fits, Plan-put, Write-contract, Applied, Apply-contract}
-use Rattle.lists.proofs.Parts.{take-min, drop-take}
-use Rattle.plan.proofs.Pasted.{put-part}
+use Rattle.links.specs.Changes.{in-order, counted-step}
 
 -- ---- the changed radios of a plan
 
 -- as the code cuts them out of the stretch
-drop-min : (k : ℕ) (xs : List ℕ) → drop (min k (length xs)) xs ≡ drop k xs
-drop-min zero xs = let e : min 0 (length xs) ≡ 0 = omega arith in rw e
-drop-min (suc k) [] = let e : min (suc k) 0 ≡ 0 = omega arith in rw e
-drop-min (suc k) (x ∷ xs) = let e : min (suc k) (suc (length xs)) ≡ suc (min k (length xs)) = omega arith in rw e (drop-min k xs)
-
-pub part-cut : (k m i j : ℕ) (xs : List ℕ) → j ≡ min m (length xs) → i ≡ min k j → drop k (take m xs) ≡ take (j - i) (drop i xs)
-part-cut k m i j xs ej ei =
-    let long : length (take j xs) ≡ j = length-take-le j xs (omega arith) in
-    let at : min k (length (take j xs)) ≡ i = omega arith in
-    let cut : take m xs ≡ take j xs = sym (take-min m xs) ∙ ap (λ (l : ℕ). take l xs) (sym ej) in
-    ap (drop k) cut ∙ sym (drop-min k (take j xs)) ∙ ap (λ (l : ℕ). drop l (take j xs)) at ∙ drop-take i j xs
-
-pub changed-up : (up : Bool) (k m : ℕ) (xs : List ℕ) → up ≡ true → drop k (take m xs) ≡ changed-part up k m xs
+pub changed-up : (up : Bool) (k m : ℕ) (xs : List ℕ) → up ≡ true → take (m - k) (drop k xs) ≡ changed-part up k m xs
 unfolding changed-part
-changed-up up k m xs e = rw e
+changed-up up k m xs e = rw e (sym (drop-take k m xs))
 
-pub changed-down : (up : Bool) (k m : ℕ) (xs : List ℕ) → up ≡ false → drop 0 (take k xs) ≡ changed-part up k m xs
+pub changed-down : (up : Bool) (k m : ℕ) (xs : List ℕ) → up ≡ false → take k xs ≡ changed-part up k m xs
 unfolding changed-part
 changed-down up k m xs e = rw e
 
@@ -59,40 +26,6 @@ unfolding in-order
 length-in-order xs =
     let f : ℕ → Bool = λ v. member v xs in
     omega (arith, length-filter f (range 0 max-radios), count-le-length f (range 0 max-radios), length-range 0 max-radios)
-
--- ---- a plan that fits
-
--- each test of the code
-module _ (start size taken stretch order : ℕ) where
-  pub fits-taken : size < taken → false ≡ plan-fits start size taken stretch order
-  unfolding plan-fits
-  fits-taken h = rw (lt-leb taken size h)
-
-  pub fits-stretch : taken ≤ size → stretch < size → false ≡ plan-fits start size taken stretch order
-  unfolding plan-fits
-  fits-stretch k h = rw (le-leb taken size k, lt-leb size stretch h)
-
-  module _ (k : taken ≤ size) (m : size ≤ stretch) where
-    pub fits-none : order < size → false ≡ plan-fits start size taken stretch order
-    unfolding plan-fits
-    fits-none h = rw (le-leb taken size k, le-leb size stretch m, lt-leb (start + size) order (omega arith))
-
-    pub fits-order : size ≤ order → leb start (order - size) ≡ plan-fits start size taken stretch order
-    unfolding plan-fits
-    fits-order h = rw (le-leb taken size k, le-leb size stretch m) (either (bool-cases (leb start (order - size))))
-      where
-        either : (leb start (order - size) ≡ true) ⊎ (leb start (order - size) ≡ false) → leb start (order - size) ≡ leb (start + size) order
-        either (inl e) = e ∙ sym (le-leb (start + size) order (omega (arith, leb-true start (order - size) e)))
-        either (inr e) = e ∙ sym (lt-leb (start + size) order (omega (arith, leb-false start (order - size) e)))
-
-  pub fits-true : plan-fits start size taken stretch order ≡ true → (taken ≤ size) × (size ≤ stretch) × (start + size ≤ order)
-  unfolding plan-fits
-  fits-true e =
-      let rest = and-right (leb taken size) (leb size stretch && leb (start + size) order) e in (
-        leb-true taken size (and-left (leb taken size) (leb size stretch && leb (start + size) order) e),
-        leb-true size stretch (and-left (leb size stretch) (leb (start + size) order) rest),
-        leb-true (start + size) order (and-right (leb size stretch) (leb (start + size) order) rest),
-      )
 
 -- ---- the stretch
 
@@ -169,29 +102,3 @@ stepped-held up k z vs ns new e h = h ∙ ap (λ (y : ℤ). all-stepped vs y ns)
 -- the same of a step that fits eight bits
 pub stepped-fits : (z : ℤ) (vs ns new : List ℕ) → SFits w8 z → new ≡ all-stepped vs (toZ w8 (ofZ w8 z)) ns → new ≡ all-stepped vs z ns
 stepped-fits z vs ns new f h = h ∙ ap (λ (y : ℤ). all-stepped vs y ns) (toZ-ofZ f)
-
--- ---- the calls, on plain values
-
-module _ (up : Bool) (a b start size taken : ℕ) (stretch listed : List ℕ) (z : ℤ) (t : Tables) where
-  abbrev room : Bool
-  room = plan-fits start size taken (length stretch) (length (t .order))
-
-  pub unwritten : room ≡ false → Write-contract up a b start size taken stretch listed z t t
-  unwritten e = record { fitting = λ yes. absurd (never room yes e); unfit = λ no. refl }
-
-  pub written : room ≡ true → (v : Tables) → Plan-put up a b start size stretch listed z t v → Write-contract up a b start size taken stretch listed z t v
-  written e v put = record { fitting = λ yes. put; unfit = λ no. absurd (never room e no) }
-
-module _ (up : Bool) (a b start size taken : ℕ) (stretch : List ℕ) (t : Tables) (answer : List ℕ) where
-  abbrev fit : Bool
-  fit = plan-fits start size taken (length stretch) (length (t .order))
-
-  pub unapplied : fit ≡ false → Apply-contract up a b start size taken stretch t answer (record { number = 0; step = pos 0; count = 0 }) t answer
-  unapplied e = record {
-    fitting = λ yes. absurd (never fit yes e);
-    unfit = λ no. record { number = refl; count = refl; step = refl; links = refl; numbers = refl; order = refl; answer-is = refl };
-  }
-
-  pub applied : fit ≡ true → (r : Reply) (v : Tables) (x : List ℕ) → Applied up a b start size taken stretch t answer r v x
-      → Apply-contract up a b start size taken stretch t answer r v x
-  applied e r v x done = record { fitting = λ yes. done; unfit = λ no. absurd (never fit e no) }

@@ -1,35 +1,18 @@
 -- The not-lower counts after a link: the loops that count radios anew, and which radios keep theirs.
 -- In order: a counted list, a listed row, radios put into a set, the touched radios, counts anew, of a word, of a set.
-use mathlib.Core.Path.{_≡_, refl, sym, ap, subst, _∙_}
-use mathlib.Core.Logic.{_⊎_, inl, inr}
-use mathlib.Core.Bool.{Bool, true, false, _||_, cond, or-false}
-use mathlib.Core.List.{List, [], _∷_, _++_}
-use Prim.Native.Nat.{ℕ, suc, _+_, _*_, _-_, _/_, _%_, _^_, _≤_, _<_, min}
-use native.Mathlib.Omega.{arith}
-use native.Mathlib.Numerals.{add-one}
+use Rattle.lists.{specs.Kit.{_≡_, refl, sym, ap, subst, _∙_, _⊎_, inl, inr, Bool, true, false, _||_, cond, or-false, List, [], _∷_, _++_, ℕ, suc, _+_, _*_}}
+use Rattle.lists.{specs.Kit.{_-_, _/_, _%_, _^_, _≤_, _<_, min, arith, add-one, bitAnd, and-le-l, trailingZeros, leb, eqb, length, getD, set, take, drop}}
+use Rattle.lists.{specs.Kit.{replicate, length-set, drop-of-length-le, length-take-le, getD-take, getD-set-same, getD-set-other, drop-cons, eqb-true}}
+use Rattle.lists.{specs.Kit.{eqb-false, eq-eqb}, specs.Facts.{folded}, specs.Lists.{range, count, filter, member, overwrite, In}, proofs.Tests.{bool-cases}}
+use Rattle.lists.{proofs.Tests.{or-cases, or-left, or-right}, proofs.Member.{in-getD, getD-of-in, member-in, in-member, member-append, in-left, in-right}}
+use Rattle.lists.{proofs.Member.{in-cases}, proofs.Filter.{in-filter, member-filter, filter-ext}, proofs.Range.{in-range}, proofs.Loops.{Counted-from}}
+use Rattle.lists.{proofs.Loops.{counted-turn, folded-append, length-folded}}
 use mir.Val.{boolByte}
-use lib.Bits.{bitAnd, and-le-l}
-use lib.Count.{trailingZeros}
-use lib.Dec.{leb, eqb}
-use lib.ListN.{length, getD, set, take, drop, replicate, length-set, drop-of-length-le}
-use lib.Seq.{length-take-le, getD-take, getD-set-same, getD-set-other, drop-cons}
-use borrow.Author.Tests.{eqb-true, eqb-false, eq-eqb}
-use Rattle.mesh.specs.Limits.{max-radios, max-neighbours, row-bytes}
-use Rattle.lists.specs.Facts.{folded}
-use Rattle.lists.specs.Lists.{range, count, filter, member, overwrite, In}
-use Rattle.lists.proofs.Tests.{bool-cases, or-cases, or-left, or-right}
-use Rattle.lists.proofs.Member.{in-getD, getD-of-in, member-in, in-member, member-append, in-left, in-right, in-cases}
-use Rattle.lists.proofs.Filter.{in-filter, member-filter, filter-ext}
-use Rattle.lists.proofs.Range.{in-range}
-use Rattle.lists.proofs.Loops.{Counted-from, counted-turn, folded-append, length-folded}
-use Rattle.mesh.specs.Tables.{digit}
-use Rattle.rows.specs.Rows.{neighbours-of, row-listed, row-count, set-bits}
-use Rattle.rows.proofs.RowListLaws.{row-listed-fits}
-use Rattle.rows.proofs.RowWords.{row-listed-whole, words-from, words-end}
-use Rattle.rows.proofs.WordLaws.{set-bits-nothing, set-bits-lowest}
+use Rattle.mesh.specs.{Limits.{max-radios, max-neighbours, row-bytes}, Tables.{digit}}
+use Rattle.rows.{specs.Rows.{neighbours-of, row-listed, row-count, set-bits}, proofs.RowListLaws.{row-listed-fits}, proofs.RowWords.{row-listed-whole}}
+use Rattle.rows.{proofs.RowWords.{words-from, words-end}, proofs.WordLaws.{set-bits-nothing, set-bits-lowest}, specs.Sets.{in-set, put-in, Row-joined}}
+use Rattle.rows.{proofs.SetLaws.{in-set-zeros, in-put-in, length-put-in}}
 use Rattle.conditions.specs.Conditions.{high-count}
-use Rattle.rows.specs.Sets.{in-set, put-in, Row-joined}
-use Rattle.rows.proofs.SetLaws.{in-set-zeros, in-put-in, length-put-in}
 use Rattle.links.specs.Steps.{around, all-around, Joined, set-radios, touched, recounted, Rows-known}
 
 -- ---- a counted list
@@ -171,7 +154,8 @@ module _ (a b : ℕ) (cs ts : List ℕ) where
   pub touched-around : (v w : ℕ) → w < max-radios → In v cs → In w (around ts v) → member w (touched a b cs ts) ≡ true
   touched-around v w l i j =
       member-touched w l
-      ∙ or-right (eqb b w) (eqb a w || member w (all-around ts cs)) (or-right (eqb a w) (member w (all-around ts cs)) (in-member w (all-around ts cs) (in-around v w cs i j)))
+      ∙ or-right (eqb b w) (eqb a w || member w (all-around ts cs))
+      (or-right (eqb a w) (member w (all-around ts cs)) (in-member w (all-around ts cs) (in-around v w cs i j)))
 
   -- and no others
   touched-of : (w : ℕ) → In w (touched a b cs ts) → ((w ≡ a) ⊎ (w ≡ b)) ⊎ ((v : ℕ) × In v cs × In w (around ts v))
@@ -213,14 +197,8 @@ module _ (a b : ℕ) (cs ts : List ℕ) where
 -- ---- counts anew
 
 module _ (ts ns : List ℕ) (v : ℕ) where
-  recounted-other : (vs hs : List ℕ) → (In v vs → ⊥) → getD (recounted ts ns vs hs) v 0 ≡ getD hs v 0
-  unfolding recounted folded
-  recounted-other [] hs h = refl
-  recounted-other (x ∷ vs) hs h =
-      recounted-other vs (set hs x (high-count ns x (neighbours-of ts x))) (λ m. h (inr m))
-      ∙ getD-set-other hs x v (high-count ns x (neighbours-of ts x)) 0 (λ e. h (inl (sym e)))
-
-  pub getD-recounted : (vs hs : List ℕ) → v < length hs → getD (recounted ts ns vs hs) v 0 ≡ cond (member v vs) (high-count ns v (neighbours-of ts v)) (getD hs v 0)
+  pub getD-recounted : (vs hs : List ℕ) → v < length hs → getD (recounted ts ns vs hs) v 0 ≡ cond (member v vs) (high-count ns v (neighbours-of ts v))
+      (getD hs v 0)
   unfolding recounted folded member
   getD-recounted [] hs l = refl
   getD-recounted (x ∷ vs) hs l =
@@ -244,10 +222,10 @@ length-recounted ts ns vs hs =
     length-folded (λ v now. set now v (high-count ns v (neighbours-of ts v))) (λ v now. length-set now v (high-count ns v (neighbours-of ts v))) vs hs
 
 -- what is left of the radios brings the counts to what all of them bring them to
-pub record Recounting (n : ℕ) (links numbers radios old rest highs : List ℕ) : Type 0 where
-  pub long : length highs ≡ length old
+pub record Recounting (n : ℕ) (links numbers radios old rest not-lower : List ℕ) : Type 0 where
+  pub long : length not-lower ≡ length old
   pub known : (v : ℕ) → In v rest → v < n
-  pub is : recounted links numbers rest highs ≡ recounted links numbers radios old
+  pub is : recounted links numbers rest not-lower ≡ recounted links numbers radios old
 
 module _ (n : ℕ) (ts ns near old : List ℕ) where
   pub recounting-none : ((v : ℕ) → In v near → v < n) → Recounting n ts ns near old near old
@@ -277,7 +255,7 @@ module _ (n : ℕ) (ts ns near old : List ℕ) where
 
 -- the set bits of a word: each turn takes the lowest off
 module _ (n : ℕ) (ts ns : List ℕ) (first word : ℕ) (old : List ℕ) where
-  abbrev pub Word-recounting : (rest : ℕ) → (highs : List ℕ) → Type 0
+  abbrev pub Word-recounting : (rest : ℕ) → (not-lower : List ℕ) → Type 0
   Word-recounting rest now = (rest < 2 ^ 64) × Recounting n ts ns (set-bits 64 first word) old (set-bits 64 first rest) now
 
   module _ (rest : ℕ) (now : List ℕ) (some : rest ≡ 0 → ⊥) (h : Word-recounting rest now) where
@@ -305,7 +283,7 @@ abbrev pub radios-from : (words : List ℕ) → (j : ℕ) → List ℕ
 radios-from ws j = filter (in-set ws) (range (64 * j) (max-radios - 64 * j))
 
 module _ (n : ℕ) (ts ns ws old : List ℕ) where
-  abbrev pub Set-recounting : (j : ℕ) → (highs : List ℕ) → Type 0
+  abbrev pub Set-recounting : (j : ℕ) → (not-lower : List ℕ) → Type 0
   Set-recounting j now = (j ≤ 8) × Recounting n ts ns (set-radios ws) old (radios-from ws j) now
 
   pub set-none : ((v : ℕ) → In v (set-radios ws) → v < n) → Set-recounting 0 old

@@ -1,26 +1,11 @@
 -- A set of radios kept as one row: a list of radios marked in it, one after the other, and the set listed ascending.
 -- In order: all-marked, in-order.
-use mathlib.Core.Path.{_≡_, refl, ap, _∙_}
-use mathlib.Core.Logic.{_⊎_, inl, inr}
-use mathlib.Core.Bool.{Bool, true, false, _||_, cond}
-use mathlib.Core.List.{List, [], _∷_}
-use Prim.Native.Nat.{ℕ, _+_, _*_, _≤_, _<_, _/_}
-use native.Mathlib.Omega.{arith}
-use lib.Dec.{ltb, eqb}
-use lib.ListN.{length, replicate, length-replicate}
-use lib.Seq.{set-out}
-use borrow.Author.Tests.{eq-eqb, ne-eqb, ltb-true, ltb-false}
-use Rattle.mesh.specs.Limits.{max-radios, row-bytes}
-use Rattle.lists.proofs.Loops.{length-folded}
-use Rattle.lists.specs.Facts.{folded}
-use Rattle.lists.specs.Lists.{range, member}
-use Rattle.mesh.specs.Tables.{byte-at, marked, put-bit}
-use Rattle.lists.proofs.Tests.{bool-cases}
-use Rattle.lists.proofs.Range.{range-in}
-use Rattle.lists.proofs.Filter.{filter-ext}
-use Rattle.mesh.proofs.Tables.Laws.{length-put-bit, marked-put-bit, marked-replicate, byte-at-less}
-use Rattle.rows.specs.Rows.{neighbours-of, row-listed}
-use Rattle.rows.proofs.RowWords.{row-listed-whole}
+use Rattle.lists.{specs.Kit.{_≡_, refl, ap, _∙_, _⊎_, inl, inr, Bool, true, false, _||_, cond, List, [], _∷_, ℕ, _+_, _*_, _≤_, _<_, _/_, arith, ltb, eqb}}
+use Rattle.lists.{specs.Kit.{length, replicate, length-replicate, set-out, eq-eqb, ne-eqb, ltb-true, ltb-false}, proofs.Loops.{length-folded}}
+use Rattle.lists.{specs.Facts.{folded}, specs.Lists.{range, member}, proofs.Tests.{bool-cases}, proofs.Range.{range-in}, proofs.Filter.{filter-ext}}
+use Rattle.mesh.{specs.Limits.{max-radios, row-bytes}, specs.Tables.{byte-at, marked, put-bit}, proofs.Tables.Laws.{length-put-bit, marked-put-bit}}
+use Rattle.mesh.{proofs.Tables.Laws.{marked-replicate, byte-at-less}}
+use Rattle.rows.{specs.Rows.{neighbours-of, row-listed}, proofs.RowWords.{row-listed-whole}}
 use Rattle.links.specs.Changes.{all-marked, in-order}
 
 -- ---- all-marked

@@ -1,21 +1,9 @@
 -- Places put anew for a part of the order: outside of it nothing moved, so that the table tells every radio's place again.
-use mathlib.Core.Path.{_≡_, refl, sym, ap, _∙_}
-use mathlib.Core.Logic.{_⊎_, inl, inr}
-use mathlib.Core.Bool.{true, false}
-use mathlib.Core.List.{List, [], _∷_, _++_, append-assoc}
-use Prim.Native.Nat.{ℕ, _+_, _-_, _≤_, _<_}
-use native.Mathlib.Omega.{arith}
-use lib.Dec.{ltb}
-use lib.ListN.{length, getD, set, take, drop, length-set}
-use lib.Seq.{paste, length-paste-head, length-take-le, take-at, getD-take, getD-drop, getD-append-add, getD-set-same, getD-set-other}
-use borrow.Author.Tests.{ltb-true, ltb-false}
-use Rattle.lists.specs.Facts.{folded, Distinct}
-use Rattle.lists.specs.Lists.{range, member, In}
-use Rattle.lists.proofs.Tests.{bool-cases, never}
-use Rattle.lists.proofs.Member.{member-in, in-member}
-use Rattle.lists.proofs.Range.{in-range, range-in}
-use Rattle.lists.proofs.Distinct.{distinct-twice}
-use Rattle.lists.proofs.Loops.{length-folded}
+use Rattle.lists.{specs.Kit.{_≡_, refl, sym, ap, _∙_, _⊎_, inl, inr, true, false, List, [], _∷_, _++_, append-assoc, ℕ, _+_, _-_, _≤_, _<_, arith, ltb, length}}
+use Rattle.lists.{specs.Kit.{getD, set, take, drop, length-set, paste, length-paste-head, length-take-le, take-at, getD-take, getD-drop, getD-append-add}}
+use Rattle.lists.{specs.Kit.{getD-set-same, getD-set-other, ltb-true, ltb-false}, specs.Facts.{folded, Distinct}, specs.Lists.{range, member, In}}
+use Rattle.lists.{proofs.Tests.{bool-cases, never}, proofs.Member.{member-in, in-member}, proofs.Range.{in-range, range-in}, proofs.Distinct.{distinct-twice}}
+use Rattle.lists.{proofs.Loops.{length-folded}}
 use Rattle.conditions.specs.Conditions.{Placed}
 use Rattle.links.specs.Steps.{places-put}
 

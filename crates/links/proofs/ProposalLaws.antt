@@ -1,45 +1,26 @@
 -- Asking and committing meet their contracts, on plain values. In order: a plan's changed radios, asking, a proposal held against a plan,
 -- committing.
-use mathlib.Core.Path.{_≡_, refl, sym, ap, subst, _∙_}
-use mathlib.Core.Bool.{Bool, true, false, _&&_}
-use mathlib.Core.List.{List}
-use Prim.Native.Nat.{ℕ, _≤_, min}
-use native.Mathlib.Omega.{arith}
-use mir.Syntax.{w8}
-use mir.Val.{SFits, toZ, ofZ}
-use mir.Facts.{toZ-ofZ}
-use lib.IntN.{ℤ, pos}
-use lib.ListN.{length, take, replicate, length-replicate}
-use lib.Seq.{length-take-le, take-all}
-use Rattle.mesh.specs.Limits.{max-radios}
-use Rattle.lists.specs.Lists.{same, overwrite}
-use Rattle.mesh.specs.Graph.{Graph}
-use Rattle.mesh.specs.Levels.{changed, step-of}
-use Rattle.mesh.specs.Tables.{Tables, graph-in}
-use Rattle.mesh.specs.Sound.{sound}
-use Rattle.lists.proofs.Parts.{take-min}
-use Rattle.lists.proofs.Overwrite.{take-overwrite}
-use Rattle.calls.specs.Questions.{ask, lengths-of, same-step, is-proposal, link-refusal, commit-refusal}
-use Rattle.calls.specs.Outcomes.{Linked, committed-with, ask-outcome, commit-outcome}
-use Rattle.calls.specs.Contracts.{Ask-contract, Commit-contract}
-use Rattle.calls.specs.declared.Reply.{Reply}
-use Rattle.calls.proofs.QuestionLaws.{ask-yes, ask-no}
-use Rattle.calls.proofs.ContractLaws.{by-accepted, by-refused}
-use Rattle.calls.proofs.Proposals.{commit-numbered, proposal-iff, same-step-eq, same-step-refl}
+use Rattle.lists.{specs.Kit.{_≡_, refl, sym, ap, subst, _∙_, Bool, true, false, _&&_, List, ℕ, _≤_, min, arith, ℤ, pos, length, take, replicate}}
+use Rattle.lists.{specs.Kit.{length-replicate, length-take-le, take-all}, specs.Lists.{same, overwrite}, proofs.Parts.{take-min}}
+use Rattle.lists.{proofs.Overwrite.{take-overwrite}}
+use mir.{Syntax.{w8}, Val.{SFits, toZ, ofZ}, Facts.{toZ-ofZ}}
+use Rattle.mesh.specs.{Limits.{max-radios}, Graph.{Graph}, Levels.{changed, step-of}, Tables.{Tables, graph-in}, Sound.{sound}}
+use Rattle.calls.{specs.Questions.{ask, lengths-of, same-step, is-proposal, commit-refusal}, specs.Outcomes.{Linked, tabled, ask-outcome}}
+use Rattle.calls.{specs.Outcomes.{commit-outcome}, specs.Contracts.{Ask-contract, Commit-contract}, specs.declared.Reply.{Reply}, proofs.QuestionLaws.{ask-yes}}
+use Rattle.calls.{proofs.QuestionLaws.{ask-no}, proofs.ContractLaws.{asking-is, by-accepted, by-refused}, proofs.Proposals.{commit-numbered, proposal-iff}}
+use Rattle.calls.{proofs.Proposals.{same-step-eq}}
+use Rattle.calls.{proofs.Proposals.{same-step-refl}}
 use Rattle.tables.specs.Steps.{all-stepped}
-use Rattle.plan.specs.Planned.{changed-part}
-use Rattle.links.specs.Changes.{in-order, counted-step, Reported, Plan-put, Write-contract, Applied}
-use Rattle.links.proofs.ChangeLaws.{counted-step-length, counted-step-held, length-in-order}
-use Rattle.plan.specs.Asked.{Plan-contract}
-use Rattle.plan.proofs.Asking.{asked-applicable}
-use Rattle.links.proofs.Applied.{in-order-planned, fits-answer}
-use Rattle.links.proofs.LinkCalls.{number-decided, fits-decided, link-applied}
-use Rattle.links.specs.Proposed.{plan-proposes}
+use Rattle.calls.specs.Chains.{link-refusal}
+use Rattle.plan.{specs.Planned.{changed-part}, specs.Asked.{Plan-contract}, proofs.Asking.{asked-applicable}}
+use Rattle.links.specs.{Changes.{in-order, counted-step, Plan-fits, Reported, Plan-put, Applied}, Proposed.{plan-proposes}}
+use Rattle.links.proofs.{ChangeLaws.{counted-step-length, counted-step-held, length-in-order}, Applied.{in-order-planned, fits-answer}}
+use Rattle.links.proofs.{LinkCalls.{fits-decided, link-applied}}
 
 -- ---- a plan in a stretch for as many radios as a site may have; w is the answer table
 
-module _ (up : Bool) (n a b : ℕ) (t : Tables) (w lent : List ℕ) (q start size taken : ℕ) (stretch : List ℕ)
-    (decided : Plan-contract up n a b t (length w) lent q start size taken stretch) (long : max-radios ≤ length lent) where
+module _ (up : Bool) (n a b : ℕ) (t : Tables) (w before : List ℕ) (q start size taken : ℕ) (stretch : List ℕ)
+    (decided : Plan-contract up n a b t (length w) before q start size taken stretch) where
   abbrev g : Graph
   g = graph-in n (t .links)
 
@@ -49,29 +30,26 @@ module _ (up : Bool) (n a b : ℕ) (t : Tables) (w lent : List ℕ) (q start siz
   abbrev R : ℕ
   R = link-refusal up n a b (lengths-of t) (length w) (sound n t) g
 
-  number-is : q ≡ R
-  number-is = number-decided up n a b t w lent q start size taken stretch decided long
-
   pub listed-is : q ≡ 0 → in-order (changed-part up taken size stretch) ≡ cs
   listed-is z =
-      in-order-planned up n a b t w (asked-applicable up n a b t w (sym number-is ∙ z)) start size taken stretch (decided .planned z)
+      in-order-planned up n a b t w (asked-applicable up n a b t w (sym (decided .number) ∙ z)) start size taken stretch (decided .planned z)
 
   listed-fits : q ≡ 0 → take (length w) cs ≡ cs
-  listed-fits z = fits-answer up n a b t w (asked-applicable up n a b t w (sym number-is ∙ z)) start size taken stretch (decided .planned z)
+  listed-fits z = fits-answer up n a b t w (asked-applicable up n a b t w (sym (decided .number) ∙ z)) start size taken stretch (decided .planned z)
 
   -- ---- asking
 
   pub ask-refused : (q ≡ 0 → ⊥) → (r : Reply) → r .number ≡ q → r .step ≡ pos 0 → r .count ≡ 0 → Ask-contract up n a b t w r w
-  unfolding Ask-contract ask-outcome
-  ask-refused h r e s c = by-refused R _ _ (λ z. h (number-is ∙ z)) (rw (e ∙ number-is, s, c))
+  unfolding Ask-contract
+  ask-refused h r e s c = by-refused R _ _ (λ z. h (decided .number ∙ z)) (rw (e ∙ decided .number, s, c)) ∙ sym (asking-is up n a b t w)
 
   pub ask-accepted : q ≡ 0 → (r : Reply) (x : List ℕ) → Reported up size taken stretch w r x → Ask-contract up n a b t w r x
-  unfolding Ask-contract ask-outcome
+  unfolding Ask-contract
   ask-accepted z r x d =
       let many : r .count ≡ length cs = d .count ∙ ap length (listed-is z) in
       let way : r .step ≡ step-of up cs = d .step ∙ ap (counted-step up) many ∙ counted-step-length up cs in
       let listed : x ≡ overwrite cs w = d .answer-is ∙ ap (λ (ys : List ℕ). overwrite ys w) (ap (take (length w)) (listed-is z) ∙ listed-fits z) in
-      by-accepted R _ (sym number-is ∙ z) (rw (d .number, way, many, listed))
+      by-accepted R _ (sym (decided .number) ∙ z) (rw (d .number, way, many, listed)) ∙ sym (asking-is up n a b t w)
 
 -- ---- a proposal held against a plan: steps are compared as eight bits
 
@@ -122,8 +100,8 @@ module _ (up : Bool) (size taken : ℕ) (stretch lent : List ℕ) (long : length
 abbrev pub scratch : List ℕ
 scratch = replicate max-radios 0
 
-module _ (up : Bool) (n a b : ℕ) (t : Tables) (k : ℕ) (is : k ≡ max-radios) (lent : List ℕ) (q start size taken : ℕ) (stretch : List ℕ)
-    (planned : Plan-contract up n a b t k lent q start size taken stretch) (long : max-radios ≤ length lent) (z : ℤ) (xs : List ℕ) where
+module _ (up : Bool) (n a b : ℕ) (t : Tables) (k : ℕ) (is : k ≡ max-radios) (before : List ℕ) (q start size taken : ℕ) (stretch : List ℕ)
+    (planned : Plan-contract up n a b t k before q start size taken stretch) (z : ℤ) (xs : List ℕ) where
   abbrev site : Graph
   site = graph-in n (t .links)
 
@@ -133,12 +111,9 @@ module _ (up : Bool) (n a b : ℕ) (t : Tables) (k : ℕ) (is : k ≡ max-radios
   abbrev L : ℕ
   L = link-refusal up n a b (lengths-of t) (length scratch) (sound n t) site
 
-  decided : Plan-contract up n a b t (length scratch) lent q start size taken stretch
+  decided : Plan-contract up n a b t (length scratch) before q start size taken stretch
   decided =
-      subst (λ (j : ℕ). Plan-contract up n a b t j lent q start size taken stretch) (is ∙ sym (length-replicate {A = ℕ} max-radios 0)) planned
-
-  number-asked : q ≡ L
-  number-asked = number-decided up n a b t scratch lent q start size taken stretch decided long
+      subst (λ (j : ℕ). Plan-contract up n a b t j before q start size taken stretch) (is ∙ sym (length-replicate {A = ℕ} max-radios 0)) planned
 
   numbered : ((L ≡ 0 → ⊥) → C ≡ L) × (L ≡ 0 → C ≡ ask 16 (is-proposal up a b z xs site) 0)
   numbered = commit-numbered up n a b t (length scratch) (omega (arith, length-replicate {A = ℕ} max-radios 0)) z xs
@@ -146,17 +121,20 @@ module _ (up : Bool) (n a b : ℕ) (t : Tables) (k : ℕ) (is : k ≡ max-radios
   pub commit-refused : (q ≡ 0 → ⊥) → (r : Reply) → r .number ≡ q → r .step ≡ pos 0 → r .count ≡ 0 → Commit-contract up n a b z xs t r t
   unfolding Commit-contract commit-outcome
   commit-refused h r e s c =
-      let same : C ≡ q = numbered .0 (λ y. h (number-asked ∙ y)) ∙ sym number-asked in
+      let same : C ≡ q = numbered .0 (λ y. h (decided .number ∙ y)) ∙ sym (decided .number) in
       by-refused C _ _ (λ y. h (sym same ∙ y)) (rw (e ∙ sym same, s, c))
 
   module _ (zero : q ≡ 0) where
     held : plan-proposes up size taken stretch z xs ≡ is-proposal up a b z xs site
     unfolding plan-proposes is-proposal
     held =
-        rw (listed-is up n a b t scratch lent q start size taken stretch decided long zero, counted-step-length up (changed up a b site)) refl
+        rw (listed-is up n a b t scratch before q start size taken stretch decided zero, counted-step-length up (changed up a b site)) refl
+
+    pub commit-fits : Plan-fits start size taken (length stretch) (length (t .order))
+    commit-fits = fits-decided up n a b t scratch before q start size taken stretch decided zero
 
     asked : C ≡ ask 16 (is-proposal up a b z xs site) 0
-    asked = numbered .1 (sym number-asked ∙ zero)
+    asked = numbered .1 (sym (decided .number) ∙ zero)
 
     -- y is the step as the code holds it, o what the proposal's test says
     module _ (y : ℤ) (o : Bool) (f : y ≡ z) (p : o ≡ plan-proposes up size taken stretch y xs) where
@@ -177,7 +155,7 @@ module _ (up : Bool) (n a b : ℕ) (t : Tables) (k : ℕ) (is : k ≡ max-radios
         true-of = proposal-iff up a b z xs site .0 (sym told-is ∙ j)
 
         listed-here : in-order (changed-part up taken size stretch) ≡ now-changed
-        listed-here = listed-is up n a b t scratch lent q start size taken stretch decided long zero
+        listed-here = listed-is up n a b t scratch before q start size taken stretch decided zero
 
         -- a list as long as a site has radios at most
         pub list-few : length xs ≤ max-radios
@@ -202,10 +180,9 @@ module _ (up : Bool) (n a b : ℕ) (t : Tables) (k : ℕ) (is : k ≡ max-radios
               order = d .order;
             }
 
-        pub commit-accepted : (v : Tables) → Write-contract up a b start size taken stretch (take (length xs) xs) y t v
+        pub commit-accepted : (v : Tables) → Plan-put up a b start size stretch (take (length xs) xs) y t v
             → Commit-contract up n a b z xs t (record { number = 0; step = y; count = length xs }) v
         unfolding Commit-contract commit-outcome
         commit-accepted v d =
-            let put = d .fitting (fits-decided up n a b t scratch lent q start size taken stretch decided long zero) in
-            let l = link-applied up n a b t scratch lent q start size taken stretch decided long zero _ v _ (applied v put) in
-            by-accepted C _ (asked ∙ ask-yes 16 _ 0 (sym told-is ∙ j)) (ap (λ (o : Linked). committed-with (o .reply) (o .tables)) l)
+            let l = link-applied up n a b t scratch before q start size taken stretch decided zero _ v _ (applied v d) in
+            by-accepted C _ (asked ∙ ask-yes 16 _ 0 (sym told-is ∙ j)) (ap (λ (o : Linked Reply). tabled (o .reply) (o .tables)) l)

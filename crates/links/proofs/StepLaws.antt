@@ -1,52 +1,26 @@
 -- A link taken up or down on tables that are known to be sound, on plain values.
 -- In order: what is known of prepared tables, the plan, what it is applied to, the counts that stay, the tables after.
-use mathlib.Core.Path.{_≡_, refl, sym, ap, subst, _∙_}
-use mathlib.Core.Logic.{_⊎_, inl, inr}
-use mathlib.Core.Bool.{Bool, true, false, _&&_, cond}
-use mathlib.Core.List.{List}
-use Prim.Native.Nat.{ℕ, _+_, _*_, _≤_, _<_}
-use native.Mathlib.Omega.{arith}
-use lib.Dec.{ltb, leb}
-use lib.ListN.{length, getD, take}
-use borrow.Author.Tests.{ltb-true, ltb-false}
-use Rattle.mesh.specs.Limits.{max-radios, max-neighbours, row-bytes}
-use Rattle.lists.specs.Lists.{range, count, member, In}
-use Rattle.lists.specs.Facts.{Each-once}
-use Rattle.lists.proofs.Tests.{bool-cases, never, and-left, and-right}
-use Rattle.lists.proofs.Member.{in-getD, in-member, not-member, member-in}
-use Rattle.lists.proofs.Count.{count-ext}
-use Rattle.lists.proofs.Range.{once-below, once-distinct}
-use Rattle.lists.proofs.Overwrite.{take-overwrite}
-use Rattle.mesh.specs.Graph.{Graph, relinked, Allowed}
-use Rattle.mesh.specs.Cores.{number, numbers}
-use Rattle.mesh.specs.Levels.{changed}
-use Rattle.mesh.specs.Tables.{Tables, tables, marked, graph-in}
-use Rattle.mesh.specs.Sound.{number-in, rows-proper, sound}
-use Rattle.mesh.proofs.Cores.Peeling.{getD-numbers}
-use Rattle.mesh.proofs.Cores.KOrders.{k-order-certificate}
-use Rattle.mesh.proofs.Links.Call.{changed-below, unchanged-number}
-use Rattle.mesh.proofs.Tables.Rows.{symmetric-of, within-of, few-of}
-use Rattle.calls.specs.Questions.{lengths-of, size-good, site-lengths, ends-refusal}
-use Rattle.calls.specs.Switches.{switch, switched}
-use Rattle.calls.specs.declared.Reply.{Reply}
-use Rattle.calls.proofs.QuestionLaws.{size-good-true, site-lengths-true}
-use Rattle.calls.proofs.ChainLaws.{ends-zero}
-use Rattle.calls.specs.Outcomes.{Linked}
-use Rattle.calls.proofs.SoundSwitches.{Good, good-valid, switched-good}
-use Rattle.rows.specs.Rows.{neighbours-of}
-use Rattle.rows.proofs.RowListLaws.{in-neighbours-of, member-neighbours-of, length-neighbours-of}
-use Rattle.conditions.specs.Conditions.{Placed, Highs, high-count}
-use Rattle.soundness.specs.Checks.{fits-sound}
-use Rattle.soundness.proofs.HighCounts.{high-count-neighbours-in}
-use Rattle.soundness.proofs.SoundSite.{Sound-site, fits-sound-site, site-good-fits, site-good-sound, number-entry}
-use Rattle.links.specs.Changes.{Apply-contract}
-use Rattle.plan.specs.Plans.{Ready, Planned, Applicable}
-use Rattle.links.specs.Steps.{Prepared, Step-ready, Changed-by, Carried, Stepped, places-put, around, touched, recounted, Rows-known}
-use Rattle.plan.proofs.Asking.{right-of, high-numbers}
-use Rattle.plan.proofs.NearLaws.{neighbours-of-other}
-use Rattle.links.proofs.Applied.{planned-fits, applied-accepted}
-use Rattle.links.proofs.PlacesLaws.{getD-paste-outside, length-places-put, placed-again}
-use Rattle.links.proofs.CountLaws.{touched-ends, touched-around, getD-recounted, length-recounted}
+use Rattle.lists.{specs.Kit.{_≡_, refl, sym, ap, subst, _∙_, _⊎_, inl, inr, Bool, true, false, _&&_, cond, List, ℕ, _+_, _*_, _≤_, _<_, arith, ltb, leb}}
+use Rattle.lists.{specs.Kit.{length, getD, take, ltb-true, ltb-false}, specs.Lists.{range, count, member, In}, specs.Facts.{Each-once}}
+use Rattle.lists.{proofs.Tests.{bool-cases, never, and-left, and-right}, proofs.Member.{in-getD, in-member, not-member, member-in}, proofs.Count.{count-ext}}
+use Rattle.lists.{proofs.Range.{once-below, once-distinct}, proofs.Overwrite.{take-overwrite}}
+use Rattle.mesh.{specs.Limits.{max-radios, max-neighbours, row-bytes}, specs.Graph.{Graph, relinked, Allowed}, specs.Cores.{number, numbers}}
+use Rattle.mesh.{specs.Levels.{changed}, specs.Tables.{Tables, tables, marked, graph-in}, specs.Sound.{number-in, rows-proper, sound}}
+use Rattle.mesh.{proofs.Cores.Peeling.{getD-numbers}, proofs.Cores.KOrders.{k-order-certificate}, proofs.Links.Call.{changed-below, unchanged-number}}
+use Rattle.mesh.{proofs.Tables.Rows.{symmetric-of, within-of, few-of}}
+use Rattle.calls.{specs.Questions.{lengths-of, size-good, site-lengths, ends-refusal}, specs.Switches.{switch, switched}, specs.declared.Reply.{Reply}}
+use Rattle.calls.{proofs.QuestionLaws.{size-good-true, site-lengths-true}, proofs.ChainLaws.{site-zero, ends-zero}, specs.Outcomes.{Linked}}
+use Rattle.calls.{proofs.SoundSwitches.{Good}}
+use Rattle.calls.{proofs.SoundSwitches.{good-valid, switched-good}}
+use Rattle.rows.{specs.Rows.{neighbours-of}, proofs.RowListLaws.{in-neighbours-of, member-neighbours-of, length-neighbours-of}}
+use Rattle.conditions.specs.Conditions.{Placed, Not-lower, high-count}
+use Rattle.soundness.{specs.Checks.{fits-sound, Asked}, proofs.SoundSite.{Sound-site, fits-sound-site, site-good-fits}}
+use Rattle.soundness.{proofs.SoundSite.{site-good-sound, number-entry}}
+use Rattle.links.specs.{Changes.{Plan-fits, Applied}, Steps.{Prepared, Step-ready, Changed-by, Carried, Stepped, places-put, around, touched, recounted}}
+use Rattle.links.specs.{Steps.{Rows-known}}
+use Rattle.plan.{specs.Plans.{Ready, Planned, Applicable, plan-of}, proofs.Asking.{right-of, ready-of}, proofs.NearLaws.{neighbours-of-other}}
+use Rattle.links.proofs.{Applied.{applied-accepted}, PlacesLaws.{getD-paste-outside, length-places-put, placed-again}}
+use Rattle.links.proofs.{CountLaws.{touched-ends, touched-around, getD-recounted, length-recounted}}
 
 -- ---- what is known of prepared tables
 
@@ -65,6 +39,17 @@ fits-good n t h =
       is-sound = and-right (site-lengths n (lengths-of t)) (sound n t) rest;
     }
 
+-- questions 1 to 3 got yes, and what they found is at hand
+pub prepared-asked : (n : ℕ) (t : Tables) (others : Bool) (ps hs : List ℕ) (q : ℕ) → Asked n t others ps hs q → q ≡ 0 → length ps ≡ max-radios
+    → length hs ≡ max-radios → Prepared n t ps hs
+prepared-asked n t others ps hs q asked zero lp lh = record {
+  good = site-good-fits n t others (site-zero n (lengths-of t) others (sound n t) 0 (sym (asked .number) ∙ zero) .0);
+  places-length = lp;
+  not-lower-length = lh;
+  placed = asked .placed zero;
+  counted = asked .counts zero;
+}
+
 -- rows that can be counted
 pub rows-known : (n : ℕ) (t : Tables) → Sound-site n t → Rows-known n (t .links) (t .numbers)
 rows-known n t s = record {
@@ -79,7 +64,7 @@ rows-known n t s = record {
     below v w l lw m (inl e) = ltb-true w n e
     below v w l lw m (inr e) = never (marked (t .links) v w) m (within-of n (t .links) (s .within) v w l (ltb-false w n e) lw)
 
-module _ {up : Bool} {n a b : ℕ} {t : Tables} {places highs : List ℕ} (k : Step-ready up n a b t places highs) where
+module _ {up : Bool} {n a b : ℕ} {t : Tables} {places not-lower : List ℕ} (k : Step-ready up n a b t places not-lower) where
   abbrev g : Graph
   g = graph-in n (t .links)
 
@@ -95,22 +80,12 @@ module _ {up : Bool} {n a b : ℕ} {t : Tables} {places highs : List ℕ} (k : S
 
   -- ---- the plan
 
-  pub step-plan : Ready up n a b t places highs
-  unfolding lengths-of graph-in
-  step-plan = record {
-    small = good .lent .most;
-    links-length = good .lent .lengths .links;
-    numbers-length = good .lent .lengths .numbers;
-    order-length = good .lent .lengths .order;
-    is-sound = good .is-sound;
-    allowed = allowed;
-    places-length = omega (arith, good .lent .most, k .prepared .places-length);
-    highs-length = omega (arith, good .lent .most, k .prepared .highs-length);
-    placed = λ i l low high. k .prepared .placed .at i l;
-    counted = λ v l level. k .prepared .counted .at v l
-        ∙ high-count-neighbours-in n t (good .is-sound) (good .lent .most) v l
-        ∙ high-numbers g (t .numbers) (site .numbers) v l;
-  }
+  pub step-plan : Ready up n a b t places not-lower
+  step-plan =
+      let p = k .prepared in
+      let lp : max-radios ≤ length places = omega (arith, p .places-length) in
+      let lh : max-radios ≤ length not-lower = omega (arith, p .not-lower-length) in
+      ready-of up n a b t true good places not-lower (p .placed) (p .counted) lp lh (k .asked)
 
   -- ---- what it is applied to
 
@@ -123,19 +98,26 @@ module _ {up : Bool} {n a b : ℕ} {t : Tables} {places highs : List ℕ} (k : S
     room = omega (arith, good .lent .most);
   }
 
-  pub step-changed : (start size taken : ℕ) (stretch : List ℕ) → Planned up a b g (t .order) start size taken stretch → (answer : List ℕ) → length answer ≡ max-radios
-      → (r : Reply) (v : Tables) (x : List ℕ) → Apply-contract up a b start size taken stretch t answer r v x → Changed-by up n a b t v (r .count) x start size
+  -- what applying the plan wants
+  pub step-fits : (start size taken : ℕ) (stretch : List ℕ) → Planned up a b g (t .order) (plan-of start size taken) stretch
+      → Plan-fits start size taken (length stretch) (length (t .order))
+  unfolding lengths-of graph-in
+  step-fits start size taken stretch plan =
+      record { taken-fits = plan .taken-fits; long = plan .long; fits = omega (arith, plan .fits, good .lent .lengths .order) }
+
+  pub step-changed : (start size taken : ℕ) (stretch : List ℕ) → Planned up a b g (t .order) (plan-of start size taken) stretch → (answer : List ℕ) → length
+      answer ≡ max-radios
+      → (r : Reply) (v : Tables) (x : List ℕ) → Applied up a b start size taken stretch t answer r v x → Changed-by up n a b t v (r .count) x start size
   unfolding switched lengths-of graph-in
   step-changed start size taken stretch plan answer room r v x d =
       let ok = applicable answer room in
-      let fit = planned-fits up n a b t answer ok start size taken stretch plan (omega (arith, good .lent .lengths .order)) in
-      let l = applied-accepted up n a b t answer ok start size taken stretch plan r v x (d .fitting fit) in
+      let l = applied-accepted up n a b t answer ok start size taken stretch plan r v x d in
       record {
-        tables = ap (λ (o : Linked). o .tables) l;
-        counted = ap (λ (o : Linked). o .reply .count) l;
-        listed = ap (λ (o : Linked). take (o .reply .count) (o .answer)) l ∙ take-overwrite (changed up a b g) answer;
+        tables = ap (λ (o : Linked Reply). o .tables) l;
+        counted = ap (λ (o : Linked Reply). o .reply .count) l;
+        listed = ap (λ (o : Linked Reply). take (o .reply .count) (o .lent)) l ∙ take-overwrite (changed up a b g) answer;
         part-fits = plan .fits;
-        unmoved = λ p o. ap (λ (xs : List ℕ). getD xs p 0) (ap (λ (o : Linked). o .tables .order) l ∙ sym (plan .laid))
+        unmoved = λ p o. ap (λ (xs : List ℕ). getD xs p 0) (ap (λ (o : Linked Reply). o .tables .order) l ∙ sym (plan .laid))
             ∙ getD-paste-outside (t .order) start stretch size p (omega (arith, plan .fits, good .lent .lengths .order)) (plan .long) o;
       }
 
@@ -158,7 +140,8 @@ module _ {up : Bool} {n a b : ℕ} {t : Tables} {places highs : List ℕ} (k : S
       → high-count (t .numbers) v (neighbours-of (t .links) v) ≡ high-count (after .numbers) v (neighbours-of (after .links) v)
   unfolding high-count switched graph-in relinked
   kept-count v l na nb far =
-      count-ext (λ w. leb (number-in (t .numbers) v) (number-in (t .numbers) w)) (λ w. leb (number-in (after .numbers) v) (number-in (after .numbers) w)) (neighbours-of (t .links) v)
+      count-ext (λ w. leb (number-in (t .numbers) v) (number-in (t .numbers) w)) (λ w. leb (number-in (after .numbers) v) (number-in (after .numbers) w))
+      (neighbours-of (t .links) v)
       (λ w i. rw (same v l (λ m. far v m (inl refl)), same w (near w i) (λ m. far w m (inr (mirrored w i)))))
       ∙ ap (count (λ w. leb (number-in (after .numbers) v) (number-in (after .numbers) w))) rows
     where
@@ -183,8 +166,8 @@ module _ {up : Bool} {n a b : ℕ} {t : Tables} {places highs : List ℕ} (k : S
           ∙ unchanged-number up a b g w lw (not-member w cs not)
           ∙ sym (getD-numbers (relinked up a b g) w lw)
 
-  counts-after : (new : List ℕ) → new ≡ recounted (after .links) (after .numbers) (touched a b cs (after .links)) highs
-      → Highs n (after .links) (after .numbers) new
+  counts-after : (new : List ℕ) → new ≡ recounted (after .links) (after .numbers) (touched a b cs (after .links)) not-lower
+      → Not-lower n (after .links) (after .numbers) new
   unfolding graph-in
   counts-after new e = record { at = λ v l. ap (λ (hs : List ℕ). getD hs v 0) e ∙ count-of v l }
     where
@@ -200,16 +183,16 @@ module _ {up : Bool} {n a b : ℕ} {t : Tables} {places highs : List ℕ} (k : S
       )
 
       either : (v : ℕ) → v < n → (m : Bool) → member v (touched a b cs ts) ≡ m
-          → cond m (high-count (after .numbers) v (neighbours-of ts v)) (getD highs v 0) ≡ high-count (after .numbers) v (neighbours-of ts v)
+          → cond m (high-count (after .numbers) v (neighbours-of ts v)) (getD not-lower v 0) ≡ high-count (after .numbers) v (neighbours-of ts v)
       either v l true f = refl
       either v l false f =
           let u = untouched v (omega (arith, site .small)) f in
           k .prepared .counted .at v l ∙ kept-count v l (u .0) (u .1) (u .2)
 
       count-of : (v : ℕ) → v < n
-          → getD (recounted ts (after .numbers) (touched a b cs ts) highs) v 0 ≡ high-count (after .numbers) v (neighbours-of ts v)
+          → getD (recounted ts (after .numbers) (touched a b cs ts) not-lower) v 0 ≡ high-count (after .numbers) v (neighbours-of ts v)
       count-of v l =
-          getD-recounted ts (after .numbers) v (touched a b cs ts) highs (omega (arith, k .prepared .highs-length, site .small))
+          getD-recounted ts (after .numbers) v (touched a b cs ts) not-lower (omega (arith, k .prepared .not-lower-length, site .small))
           ∙ either v l (member v (touched a b cs ts)) refl
 
   -- as the code names its values: v are the tables after the change, k the count of changed radios, which stand in front of `list`
@@ -228,13 +211,15 @@ module _ {up : Bool} {n a b : ℕ} {t : Tables} {places highs : List ℕ} (k : S
     numbers-length = ap (λ (o : Tables). length (o .numbers)) (d .tables) ∙ site-after .numbers-long
 
     -- what counting anew wants
-    pub renew-ready : Rows-known (length (v .numbers)) (v .links) (v .numbers) × (length (v .numbers) ≤ length highs) × (a < length (v .numbers)) × (b < length (v .numbers))
+    pub renew-ready : Rows-known (length (v .numbers)) (v .links) (v .numbers) × (length (v .numbers) ≤ length not-lower) × (a < length (v .numbers)) ×
+        (b < length (v .numbers))
         × (length (take many list) ≡ many) × ((i : ℕ) → i < length (take many list) → getD (take many list) i 0 < length (v .numbers))
     unfolding graph-in
     renew-ready =
-        let rows : Rows-known n (v .links) (v .numbers) = subst (λ (o : Tables). Rows-known n (o .links) (o .numbers)) (sym (d .tables)) (rows-known n after site-after) in (
+        let rows : Rows-known n (v .links) (v .numbers) = subst (λ (o : Tables). Rows-known n (o .links) (o .numbers)) (sym (d .tables))
+        (rows-known n after site-after) in (
           subst (λ (m : ℕ). Rows-known m (v .links) (v .numbers)) (sym numbers-length) rows,
-          omega (arith, numbers-length, k .prepared .highs-length, site .small),
+          omega (arith, numbers-length, k .prepared .not-lower-length, site .small),
           omega (arith, numbers-length, allowed .a-radio),
           omega (arith, numbers-length, allowed .b-radio),
           changed-long,
@@ -244,7 +229,8 @@ module _ {up : Bool} {n a b : ℕ} {t : Tables} {places highs : List ℕ} (k : S
     order-once : Each-once n (v .order)
     unfolding graph-in
     order-once =
-        rw (ap (λ (o : Tables). o .order) (d .tables)) (k-order-certificate (graph-in n (after .links)) (after .order) (good-valid n after good-after .k-order) .once)
+        rw (ap (λ (o : Tables). o .order) (d .tables))
+        (k-order-certificate (graph-in n (after .links)) (after .order) (good-valid n after good-after .k-order) .once)
 
     order-length : length (v .order) ≡ n
     unfolding lengths-of
@@ -260,18 +246,19 @@ module _ {up : Bool} {n a b : ℕ} {t : Tables} {places highs : List ℕ} (k : S
 
     -- the tables after, prepared again
     pub step-carried : (p : List ℕ) → p ≡ places-put (v .order) (range start size) places
-        → (h : List ℕ) → h ≡ recounted (v .links) (v .numbers) (touched a b (take many list) (v .links)) highs → Carried up n a b t v p h
+        → (h : List ℕ) → h ≡ recounted (v .links) (v .numbers) (touched a b (take many list) (v .links)) not-lower → Carried up n a b t v p h
     step-carried p f h e =
         let again : Placed n (v .order) p =
-        rw f (placed-again n (t .order) (v .order) places start size (once-distinct n (v .order) order-once) order-length (d .part-fits) (λ q l. omega (arith, order-known q l, k .prepared .places-length)) (d .unmoved) (k .prepared .placed)) in
-        let is : h ≡ recounted (after .links) (after .numbers) (touched a b cs (after .links)) highs =
+        rw f (placed-again n (t .order) (v .order) places start size (once-distinct n (v .order) order-once) order-length (d .part-fits)
+        (λ q l. omega (arith, order-known q l, k .prepared .places-length)) (d .unmoved) (k .prepared .placed)) in
+        let is : h ≡ recounted (after .links) (after .numbers) (touched a b cs (after .links)) not-lower =
         e ∙ rw (list-is, d .tables) in
         record {
           tables = d .tables;
           prepared = subst (λ (o : Tables). Prepared n o p h) (sym (d .tables)) (record {
             good = site-good-fits n after true good-after;
             places-length = ap length f ∙ length-places-put (v .order) (range start size) places ∙ k .prepared .places-length;
-            highs-length = ap length is ∙ length-recounted (after .links) (after .numbers) _ highs ∙ k .prepared .highs-length;
+            not-lower-length = ap length is ∙ length-recounted (after .links) (after .numbers) _ not-lower ∙ k .prepared .not-lower-length;
             placed = subst (λ (o : Tables). Placed n (o .order) p) (d .tables) again;
             counted = counts-after h is;
           });
@@ -279,17 +266,17 @@ module _ {up : Bool} {n a b : ℕ} {t : Tables} {places highs : List ℕ} (k : S
 
 -- ---- a step
 
-module _ (up : Bool) (n a b : ℕ) (t : Tables) (places highs : List ℕ) (k : Prepared n t places highs) (r : ℕ)
+module _ (up : Bool) (n a b : ℕ) (t : Tables) (places not-lower : List ℕ) (k : Prepared n t places not-lower) (r : ℕ)
     (asked : r ≡ ends-refusal max-neighbours up n a b (graph-in n (t .links))) where
   order-long : length (t .order) ≡ n
   unfolding lengths-of
   order-long = fits-good n t (k .good) .lent .lengths .order
 
-  pub step-refused : (r ≡ 0 → ⊥) → Stepped up n a b t r t places highs
+  pub step-refused : (r ≡ 0 → ⊥) → Stepped up n a b t r t places not-lower
   step-refused h = record { number = asked; done = λ z. absurd (h z); refused = λ z. refl; prepared = k }
 
-  pub step-ready : r ≡ 0 → Step-ready up (length (t .order)) a b t places highs
-  step-ready z = subst (λ (m : ℕ). Step-ready up m a b t places highs) (sym order-long) (record { prepared = k; asked = sym asked ∙ z })
+  pub step-ready : r ≡ 0 → Step-ready up (length (t .order)) a b t places not-lower
+  step-ready z = subst (λ (m : ℕ). Step-ready up m a b t places not-lower) (sym order-long) (record { prepared = k; asked = sym asked ∙ z })
 
   pub step-done : r ≡ 0 → (v : Tables) (p h : List ℕ) → Carried up (length (t .order)) a b t v p h → Stepped up n a b t 0 v p h
   step-done z v p h d =
@@ -297,7 +284,7 @@ module _ (up : Bool) (n a b : ℕ) (t : Tables) (places highs : List ℕ) (k : P
       record { number = sym z ∙ asked; done = λ y. c .tables; refused = λ y. absurd (y refl); prepared = c .prepared }
 
 -- questions 4 to 7 are put to rows that are proper
-pub step-asked : {n : ℕ} {t : Tables} {places highs : List ℕ} → Prepared n t places highs
+pub step-asked : {n : ℕ} {t : Tables} {places not-lower : List ℕ} → Prepared n t places not-lower
     → (n ≤ max-radios) × (length (t .links) ≡ row-bytes * n) × (rows-proper max-neighbours n (t .links) ≡ true)
 unfolding lengths-of
 step-asked {n} {t} k =

@@ -2,26 +2,14 @@
 --   all-marked xs ts     the row 0 of ts with the bit of each radio of xs set: a set of radios is kept as one row
 --   in-order xs          the radios of the list xs, ascending, each once
 --   counted-step up k    document 01's step, by the count of changed radios
---   plan-fits            a plan that the stretch and the order are long enough for
+--   Plan-fits            the stretch and the order are long enough for a plan
 --   Reported             what a plan would change, listed
---   Plan-put             what is written into the tables of a plan that fits, with a list of the changed radios
---   Write-contract       that, where the plan fits; else nothing
---   Applied              what is written of a plan that fits
---   Unapplied            what is written of any other: nothing
---   Apply-contract       one or the other
+--   Plan-put             what is written into the tables, with a list of the changed radios
+--   Applied              the same, and what is listed and told
 -- Laws are in proofs/ChangeLaws.antt and proofs/Marking.antt. Definitions only.
-use mathlib.Core.Path.{_≡_}
-use mathlib.Core.Bool.{Bool, true, false, _&&_, cond}
-use mathlib.Core.List.{List}
-use Prim.Native.Nat.{ℕ, zero, suc, _+_}
-use lib.Dec.{leb}
-use lib.IntN.{ℤ, pos, negsuc}
-use lib.ListN.{length, take, drop}
-use lib.Seq.{paste}
-use Rattle.mesh.specs.Limits.{max-radios}
-use Rattle.lists.specs.Facts.{folded}
-use Rattle.lists.specs.Lists.{range, filter, member, overwrite}
-use Rattle.mesh.specs.Tables.{Tables, put-bit, put-link}
+use Rattle.lists.specs.{Kit.{_≡_, Bool, true, cond, List, ℕ, zero, suc, _+_, _≤_, ℤ, pos, negsuc, length, take, paste}, Facts.{folded}}
+use Rattle.lists.specs.{Lists.{range, filter, member, overwrite}}
+use Rattle.mesh.specs.{Limits.{max-radios}, Tables.{Tables, put-bit, put-link}}
 use Rattle.calls.specs.declared.Reply.{Reply}
 use Rattle.tables.specs.Steps.{all-stepped}
 use Rattle.plan.specs.Planned.{changed-part}
@@ -37,8 +25,10 @@ counted-step up zero = pos 0
 counted-step up (suc k) = cond up (pos 1) (negsuc 0)
 
 -- `stretch` and `order` are lengths
-unfoldable pub plan-fits : (start size taken stretch order : ℕ) → Bool
-plan-fits start size taken stretch order = leb taken size && (leb size stretch && leb (start + size) order)
+pub record Plan-fits (start size taken stretch order : ℕ) : Type 0 where
+  pub taken-fits : taken ≤ size
+  pub long : size ≤ stretch
+  pub fits : start + size ≤ order
 
 pub record Reported (up : Bool) (size taken : ℕ) (stretch answer : List ℕ) (r : Reply) (x : List ℕ) : Type 0 where
   pub number : r .number ≡ 0
@@ -52,10 +42,6 @@ pub record Plan-put (up : Bool) (a b start size : ℕ) (stretch listed : List �
   pub numbers : v .numbers ≡ all-stepped listed step (t .numbers)
   pub order : v .order ≡ paste (t .order) start stretch size
 
-pub record Write-contract (up : Bool) (a b start size taken : ℕ) (stretch listed : List ℕ) (step : ℤ) (t v : Tables) : Type 0 where
-  pub fitting : plan-fits start size taken (length stretch) (length (t .order)) ≡ true → Plan-put up a b start size stretch listed step t v
-  pub unfit : plan-fits start size taken (length stretch) (length (t .order)) ≡ false → v ≡ t
-
 -- the two link bits, the numbers of the changed radios, the stretch of the order, the answer table's front
 pub record Applied (up : Bool) (a b start size taken : ℕ) (stretch : List ℕ) (t : Tables) (answer : List ℕ) (r : Reply) (v : Tables) (x : List ℕ) : Type 0 where
   pub number : r .number ≡ 0
@@ -65,16 +51,3 @@ pub record Applied (up : Bool) (a b start size taken : ℕ) (stretch : List ℕ)
   pub answer-is : x ≡ overwrite (take (length answer) (in-order (changed-part up taken size stretch))) answer
   pub numbers : v .numbers ≡ all-stepped (take (r .count) x) (r .step) (t .numbers)
   pub order : v .order ≡ paste (t .order) start stretch size
-
-pub record Unapplied (t : Tables) (answer : List ℕ) (r : Reply) (v : Tables) (x : List ℕ) : Type 0 where
-  pub number : r .number ≡ 0
-  pub count : r .count ≡ 0
-  pub step : r .step ≡ pos 0
-  pub links : v .links ≡ t .links
-  pub numbers : v .numbers ≡ t .numbers
-  pub order : v .order ≡ t .order
-  pub answer-is : x ≡ answer
-
-pub record Apply-contract (up : Bool) (a b start size taken : ℕ) (stretch : List ℕ) (t : Tables) (answer : List ℕ) (r : Reply) (v : Tables) (x : List ℕ) : Type 0 where
-  pub fitting : plan-fits start size taken (length stretch) (length (t .order)) ≡ true → Applied up a b start size taken stretch t answer r v x
-  pub unfit : plan-fits start size taken (length stretch) (length (t .order)) ≡ false → Unapplied t answer r v x

@@ -1,7 +1,5 @@
 -- a link on tables known to be sound
 pub mod Steps
--- the questions of a batch
-pub mod Batched
 -- What applying a plan writes.
 pub mod Changes
 -- What committing holds a proposal against.

@@ -1,12 +1,7 @@
 -- A proposal held against a plan.
 --   plan-proposes   step and list are what the plan would change
 -- Definitions only.
-use mathlib.Core.Bool.{Bool, _&&_}
-use mathlib.Core.List.{List}
-use Prim.Native.Nat.{ℕ}
-use lib.IntN.{ℤ}
-use lib.ListN.{length}
-use Rattle.lists.specs.Lists.{same}
+use Rattle.lists.specs.{Kit.{Bool, _&&_, List, ℕ, ℤ, length}, Lists.{same}}
 use Rattle.calls.specs.Questions.{same-step}
 use Rattle.plan.specs.Planned.{changed-part}
 use Rattle.links.specs.Changes.{in-order, counted-step}

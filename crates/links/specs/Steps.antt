@@ -13,37 +13,26 @@
 --   recounted        the not-lower counts, some radios counted anew
 --   Rows-known       rows that can be counted
 -- Laws are in proofs/CountLaws.antt and proofs/StepLaws.antt. Definitions only.
-use mathlib.Core.Path.{_≡_}
-use mathlib.Core.Logic.{_⊎_}
-use mathlib.Core.Bool.{Bool, true, _||_}
-use mathlib.Core.List.{List, [], _∷_, _++_}
-use Prim.Native.Nat.{ℕ, _+_, _*_, _≤_, _<_}
-use lib.Dec.{eqb}
-use lib.ListN.{length, getD, set, take}
-use Rattle.mesh.specs.Limits.{max-radios, max-neighbours, row-bytes}
-use Rattle.lists.specs.Facts.{folded}
-use Rattle.lists.specs.Lists.{range, filter, member, In}
-use Rattle.mesh.specs.Levels.{changed}
-use Rattle.mesh.specs.Tables.{Tables, graph-in}
-use Rattle.calls.specs.Questions.{ends-refusal}
-use Rattle.calls.specs.Switches.{switch, switched}
-use Rattle.rows.specs.Rows.{neighbours-of}
-use Rattle.conditions.specs.Conditions.{Placed, Highs, high-count}
+use Rattle.lists.specs.{Kit.{_≡_, _⊎_, Bool, true, _||_, List, [], _∷_, _++_, ℕ, _+_, _*_, _≤_, _<_, eqb, length, getD, set, take}, Facts.{folded}}
+use Rattle.lists.specs.{Lists.{range, filter, member, In}}
+use Rattle.mesh.specs.{Limits.{max-radios, max-neighbours, row-bytes}, Levels.{changed}, Tables.{Tables, graph-in}}
+use Rattle.calls.specs.{Questions.{ends-refusal}, Switches.{switch, switched}}
+use Rattle.rows.specs.{Rows.{neighbours-of}, Sets.{in-set}}
+use Rattle.conditions.specs.Conditions.{Placed, Not-lower, high-count}
 use Rattle.soundness.specs.Checks.{fits-sound}
-use Rattle.rows.specs.Sets.{in-set}
 
 -- ---- one link
 
--- places and highs have room for as many radios as a site may have
-pub record Prepared (n : ℕ) (t : Tables) (places highs : List ℕ) : Type 0 where
+-- places and not-lower have room for as many radios as a site may have
+pub record Prepared (n : ℕ) (t : Tables) (places not-lower : List ℕ) : Type 0 where
   pub good : fits-sound n t ≡ true
   pub places-length : length places ≡ max-radios
-  pub highs-length : length highs ≡ max-radios
+  pub not-lower-length : length not-lower ≡ max-radios
   pub placed : Placed n (t .order) places
-  pub counted : Highs n (t .links) (t .numbers) highs
+  pub counted : Not-lower n (t .links) (t .numbers) not-lower
 
-pub record Step-ready (up : Bool) (n a b : ℕ) (t : Tables) (places highs : List ℕ) : Type 0 where
-  pub prepared : Prepared n t places highs
+pub record Step-ready (up : Bool) (n a b : ℕ) (t : Tables) (places not-lower : List ℕ) : Type 0 where
+  pub prepared : Prepared n t places not-lower
   pub asked : ends-refusal max-neighbours up n a b (graph-in n (t .links)) ≡ 0
 
 -- t and v are the tables before and after; the first `count` entries of `list` are the changed radios, and the order is another at most at
@@ -58,16 +47,16 @@ pub record Changed-by (up : Bool) (n a b : ℕ) (t v : Tables) (count : ℕ) (li
 unfoldable pub places-put : (order spots places : List ℕ) → List ℕ
 places-put os is ps = folded (λ p now. set now (getD os p 0) p) is ps
 
-pub record Carried (up : Bool) (n a b : ℕ) (t v : Tables) (places highs : List ℕ) : Type 0 where
+pub record Carried (up : Bool) (n a b : ℕ) (t v : Tables) (places not-lower : List ℕ) : Type 0 where
   pub tables : v ≡ switched n (switch up a b) t
-  pub prepared : Prepared n v places highs
+  pub prepared : Prepared n v places not-lower
 
 -- refused, every table keeps its content
-pub record Stepped (up : Bool) (n a b : ℕ) (t : Tables) (r : ℕ) (v : Tables) (places highs : List ℕ) : Type 0 where
+pub record Stepped (up : Bool) (n a b : ℕ) (t : Tables) (r : ℕ) (v : Tables) (places not-lower : List ℕ) : Type 0 where
   pub number : r ≡ ends-refusal max-neighbours up n a b (graph-in n (t .links))
   pub done : r ≡ 0 → v ≡ switched n (switch up a b) t
   pub refused : (r ≡ 0 → ⊥) → v ≡ t
-  pub prepared : Prepared n v places highs
+  pub prepared : Prepared n v places not-lower
 
 -- ---- not-lower counts
 
@@ -89,7 +78,7 @@ set-radios ws = filter (in-set ws) (range 0 max-radios)
 unfoldable pub touched : (a b : ℕ) → (changed links : List ℕ) → List ℕ
 touched a b cs ts = filter (λ w. eqb b w || (eqb a w || member w (all-around ts cs))) (range 0 max-radios)
 
-unfoldable pub recounted : (links numbers radios highs : List ℕ) → List ℕ
+unfoldable pub recounted : (links numbers radios not-lower : List ℕ) → List ℕ
 recounted ts ns vs hs = folded (λ v now. set now v (high-count ns v (neighbours-of ts v))) vs hs
 
 -- rows of n radios, each with as many neighbours as a radio may have, and all of them radios

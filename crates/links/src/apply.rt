@@ -1,35 +1,14 @@
-// A planned link call, written into the tables. A plan that the tables are too short for is not applied at all.
-ghost use mathlib.Core.Bool.{true};
-ghost use mathlib.Core.Path.{_≡_};
-ghost use Prim.Native.Nat.{_+_, _-_, _≤_};
-ghost use lib.ListN.{length, take, drop};
-ghost use lib.Seq.{paste};
+// A planned link call, written into the tables.
+ghost use Rattle.lists.specs.Kit.{_≡_, _+_, _-_, _≤_, length, take, paste};
 ghost use Rattle.lists.specs.Lists.{overwrite};
 ghost use Rattle.mesh.specs.Lent.{lent};
 ghost use Rattle.plan.specs.Planned.{changed-part};
-ghost use Rattle.links.specs.Changes.{all-marked, in-order, counted-step, plan-fits};
-ghost use Rattle.links.specs.Changes.{Reported, Plan-put, Write-contract, Apply-contract};
+ghost use Rattle.links.specs.Changes.{all-marked, in-order, counted-step, Plan-fits, Reported, Plan-put, Applied};
 use calls::Reply;
 use mesh::Site;
 use plan::planned::Plan;
 use tables::fill;
 use tables::steps;
-
-// Whether the taken are no more than the stretch has, and the lent stretch and the order, of these lengths, have room for it.
-fn fits(plan: Plan, stretch: usize, order: usize) -> bool
-    ensures { λ r. ⌜ r ≡ plan-fits (plan .start) (plan .size) (plan .taken) stretch order ⌝ }
-{
-    if plan.size < plan.taken {
-        return false;
-    }
-    if stretch < plan.size {
-        return false;
-    }
-    if order < plan.size {
-        return false;
-    }
-    plan.start <= order - plan.size
-}
 
 // Sets the bit of each listed radio in the set, which is one row.
 pub fn mark_all(set: &mut [u8], list: &[u16])
@@ -87,36 +66,25 @@ fn put_stretch(order: &mut [u16], start: usize, size: usize, taken: usize, stret
     put_before(order, end, &stretch[taken..size]);
 }
 
-// Writes the entries of the stretch from place `start` to before place `end` into the answer table, ascending, and comes back with their
-// count; later entries keep their content. A shorter stretch has what it has.
-fn list_part(start: usize, end: usize, stretch: &[u16], answer: &mut [u16]) -> u32
-    ensures counted { λ r. ⌜ r ≡ length (in-order (drop start (take end (now (stretch .entry))))) ⌝ }
-    ensures listed { λ _. ⌜ now (answer .exit)
-        ≡ overwrite (take (length (now (answer .entry))) (in-order (drop start (take end (now (stretch .entry))))))
-        (now (answer .entry)) ⌝ }
-{
-    let last = fill::least(end, stretch.len());
-    let first = fill::least(start, last);
-    list_ascending(&stretch[first..last], answer)
-}
-
 // Writes the changed radios of a plan into the answer table, ascending, and comes back with their count; later entries keep
 // their content. Going up the stuck radios rise, going down the taken ones fall.
 fn list_changed(up: bool, taken: usize, size: usize, stretch: &[u16], answer: &mut [u16]) -> u32
+    requires { ⌜ (taken ≤ size) × (size ≤ length (now stretch)) ⌝ }
     ensures counted { λ r. ⌜ r ≡ length (in-order (changed-part up taken size (now (stretch .entry)))) ⌝ }
     ensures listed { λ _. ⌜ now (answer .exit)
         ≡ overwrite (take (length (now (answer .entry))) (in-order (changed-part up taken size (now (stretch .entry)))))
         (now (answer .entry)) ⌝ }
 {
     if up {
-        return list_part(taken, size, stretch, answer);
+        return list_ascending(&stretch[taken..size], answer);
     }
-    list_part(0, taken, stretch, answer)
+    list_ascending(&stretch[..taken], answer)
 }
 
 // What a plan would change: the changed radios stand in front of the answer table, ascending, and the reply tells their count and
 // step; later entries keep their content.
 pub fn report(up: bool, plan: Plan, stretch: &[u16], answer: &mut [u16]) -> Reply
+    requires { ⌜ (plan .taken ≤ plan .size) × (plan .size ≤ length (now stretch)) ⌝ }
     ensures { λ r. ⌜ Reported up (plan .size) (plan .taken) (now (stretch .entry)) (now (answer .entry)) r (now (answer .exit)) ⌝ }
 {
     let count = list_changed(up, plan.taken, plan.size, stretch, answer);
@@ -127,31 +95,7 @@ pub fn report(up: bool, plan: Plan, stretch: &[u16], answer: &mut [u16]) -> Repl
     }
 }
 
-// Writes a plan that fits: the link, the numbers of the first k listed radios, the stretch.
-fn put_plan(
-    up: bool,
-    a: u32,
-    b: u32,
-    plan: Plan,
-    stretch: &[u16],
-    links: &mut [u8],
-    numbers: &mut [u8],
-    order: &mut [u16],
-    list: &[u16],
-    k: u32,
-    step: i8,
-)
-    requires { ⌜ plan-fits (plan .start) (plan .size) (plan .taken) (length (now stretch)) (length (now order)) ≡ true ⌝ }
-    ensures { λ _. ⌜ Plan-put up a b (plan .start) (plan .size) (now (stretch .entry)) (take k (now (list .entry))) step
-        (lent (links .entry) (numbers .entry) (order .entry)) (lent (links .exit) (numbers .exit) (order .exit)) ⌝ }
-{
-    rows::put_link(links, up, a, b);
-    steps::step_numbers(numbers, list, k, step);
-    put_stretch(order, plan.start, plan.size, plan.taken, stretch);
-}
-
-// Writes a plan into the tables, its changed radios being the first k of the list. Where the plan does not fit, every table keeps
-// its content.
+// Writes a plan into the tables: the link, the numbers of the changed radios, which are the first k of the list, the stretch.
 pub fn write(
     up: bool,
     a: u32,
@@ -165,30 +109,17 @@ pub fn write(
     k: u32,
     step: i8,
 )
-    ensures { λ _. ⌜ Write-contract up a b (plan .start) (plan .size) (plan .taken) (now (stretch .entry)) (take k (now (list .entry))) step
+    requires { ⌜ Plan-fits (plan .start) (plan .size) (plan .taken) (length (now stretch)) (length (now order)) ⌝ }
+    ensures { λ _. ⌜ Plan-put up a b (plan .start) (plan .size) (now (stretch .entry)) (take k (now (list .entry))) step
         (lent (links .entry) (numbers .entry) (order .entry)) (lent (links .exit) (numbers .exit) (order .exit)) ⌝ }
 {
-    if !fits(plan, stretch.len(), order.len()) {
-        return;
-    }
-    put_plan(
-        up,
-        a,
-        b,
-        plan,
-        stretch,
-        links,
-        numbers,
-        order,
-        list,
-        k,
-        step,
-    );
+    rows::put_link(links, up, a, b);
+    steps::step_numbers(numbers, list, k, step);
+    put_stretch(order, plan.start, plan.size, plan.taken, stretch);
 }
 
 // Writes a plan into the tables: the link, the changed numbers, the stretch. The answer table gets the changed radios,
-// ascending, and the reply tells their count and step. Where the plan does not fit, the reply has zeros and every table keeps its
-// content.
+// ascending, and the reply tells their count and step.
 pub fn apply(
     up: bool,
     a: u32,
@@ -200,19 +131,13 @@ pub fn apply(
     order: &mut [u16],
     answer: &mut [u16],
 ) -> Reply
-    ensures { λ r. ⌜ Apply-contract up a b (plan .start) (plan .size) (plan .taken) (now (stretch .entry))
+    requires { ⌜ Plan-fits (plan .start) (plan .size) (plan .taken) (length (now stretch)) (length (now order)) ⌝ }
+    ensures { λ r. ⌜ Applied up a b (plan .start) (plan .size) (plan .taken) (now (stretch .entry))
         (lent (links .entry) (numbers .entry) (order .entry)) (now (answer .entry)) r
         (lent (links .exit) (numbers .exit) (order .exit)) (now (answer .exit)) ⌝ }
 {
-    if !fits(plan, stretch.len(), order.len()) {
-        return Reply {
-            number: 0,
-            step: 0,
-            count: 0,
-        };
-    }
     let reply = report(up, plan, stretch, answer);
-    put_plan(
+    write(
         up,
         a,
         b,

@@ -1,6 +1,5 @@
 // Committing: a link call that is carried out where a proposal is true.
-ghost use mathlib.Core.Path.{_≡_};
-ghost use lib.IntN.{pos};
+ghost use Rattle.lists.specs.Kit.{_≡_, _≤_, pos, length};
 ghost use Rattle.mesh.specs.Lent.{lent};
 ghost use Rattle.calls.specs.Contracts.{Commit-contract};
 ghost use Rattle.links.specs.Proposed.{plan-proposes};
@@ -14,6 +13,7 @@ use tables::fill;
 
 // Whether step and list are exactly what the plan would change.
 fn is_proposal(up: bool, plan: Plan, stretch: &[u16], step: i8, list: &[u16]) -> bool
+    requires { ⌜ (plan .taken ≤ plan .size) × (plan .size ≤ length (now stretch)) ⌝ }
     ensures { λ r. ⌜ r ≡ plan-proposes up (plan .size) (plan .taken) (now (stretch .entry)) step (now (list .entry)) ⌝ }
 {
     let mut listed = [0u16; Site::RADIOS as usize];

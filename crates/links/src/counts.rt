@@ -1,9 +1,6 @@
 // The not-lower counts brought up to date after a link: only radios whose own number, neighbours or neighbours' numbers changed are
 // counted anew.
-ghost use mathlib.Core.Path.{_≡_};
-ghost use Prim.Native.Nat.{ℕ, _+_, _*_, _≤_, _<_};
-ghost use lib.Dec.{leb};
-ghost use lib.ListN.{length, getD, take};
+ghost use Rattle.lists.specs.Kit.{_≡_, ℕ, _+_, _*_, _≤_, _<_, leb, length, getD, take};
 ghost use Rattle.lists.specs.Lists.{count, In};
 ghost use Rattle.mesh.specs.Limits.{max-radios, max-neighbours, row-bytes};
 ghost use Rattle.rows.specs.Rows.{neighbours-of, set-bits};
@@ -43,17 +40,17 @@ fn recount_word(
     first: u32,
     links: &[u8],
     numbers: &[u8],
-    highs: &mut [u8; Site::RADIOS as usize],
+    not_lower: &mut [u8; Site::RADIOS as usize],
 )
-    requires { ⌜ Rows-known (length (now numbers)) (now links) (now numbers) × (length (now numbers) ≤ length (now highs)) ×
+    requires { ⌜ Rows-known (length (now numbers)) (now links) (now numbers) × (length (now numbers) ≤ length (now «not_lower»)) ×
         (first ≤ max-radios) × ((v : ℕ) → In v (set-bits 64 first word) → v < length (now numbers)) ⌝ }
-    ensures { λ _. ⌜ now (highs .exit)
-        ≡ recounted (now (links .entry)) (now (numbers .entry)) (set-bits 64 first word) (now (highs .entry)) ⌝ }
+    ensures { λ _. ⌜ now («not_lower» .exit)
+        ≡ recounted (now (links .entry)) (now (numbers .entry)) (set-bits 64 first word) (now («not_lower» .entry)) ⌝ }
 {
     let mut rest = word;
     while rest != 0 {
         let v = first + u64::trailing_zeros(rest);
-        highs[v as usize] = high_of(v, links, numbers);
+        not_lower[v as usize] = high_of(v, links, numbers);
         rest = rest & (rest - 1);
     }
 }
@@ -63,16 +60,22 @@ fn recount(
     set: &[u64; rows::ROW_WORDS as usize],
     links: &[u8],
     numbers: &[u8],
-    highs: &mut [u8; Site::RADIOS as usize],
+    not_lower: &mut [u8; Site::RADIOS as usize],
 )
-    requires { ⌜ Rows-known (length (now numbers)) (now links) (now numbers) × (length (now numbers) ≤ length (now highs)) ×
+    requires { ⌜ Rows-known (length (now numbers)) (now links) (now numbers) × (length (now numbers) ≤ length (now «not_lower»)) ×
         ((v : ℕ) → In v (set-radios (now set)) → v < length (now numbers)) ⌝ }
-    ensures { λ _. ⌜ now (highs .exit)
-        ≡ recounted (now (links .entry)) (now (numbers .entry)) (set-radios (now (set .entry))) (now (highs .entry)) ⌝ }
+    ensures { λ _. ⌜ now («not_lower» .exit)
+        ≡ recounted (now (links .entry)) (now (numbers .entry)) (set-radios (now (set .entry))) (now («not_lower» .entry)) ⌝ }
 {
     let mut k: u32 = 0;
     while k < rows::ROW_WORDS {
-        recount_word(set[k as usize], rows::WORD_BITS * k, links, numbers, highs);
+        recount_word(
+            set[k as usize],
+            rows::WORD_BITS * k,
+            links,
+            numbers,
+            not_lower,
+        );
         k += 1;
     }
 }
@@ -107,17 +110,17 @@ pub(crate) fn renew(
     list: &[u16; Site::RADIOS as usize],
     links: &[u8],
     numbers: &[u8],
-    highs: &mut [u8; Site::RADIOS as usize],
+    not_lower: &mut [u8; Site::RADIOS as usize],
 )
-    requires { ⌜ Rows-known (length (now numbers)) (now links) (now numbers) × (length (now numbers) ≤ length (now highs)) ×
+    requires { ⌜ Rows-known (length (now numbers)) (now links) (now numbers) × (length (now numbers) ≤ length (now «not_lower»)) ×
         (a < length (now numbers)) × (b < length (now numbers)) × (length (take k (now list)) ≡ k) ×
         ((i : ℕ) → i < length (take k (now list)) → getD (take k (now list)) i 0 < length (now numbers)) ⌝ }
-    ensures { λ _. ⌜ now (highs .exit) ≡ recounted (now (links .entry)) (now (numbers .entry))
-        (touched a b (take k (now (list .entry))) (now (links .entry))) (now (highs .entry)) ⌝ }
+    ensures { λ _. ⌜ now («not_lower» .exit) ≡ recounted (now (links .entry)) (now (numbers .entry))
+        (touched a b (take k (now (list .entry))) (now (links .entry))) (now («not_lower» .entry)) ⌝ }
 {
     let mut set = [0u64; rows::ROW_WORDS as usize];
     join_all(list, k, links, &mut set);
     sets::put_in(&mut set, a);
     sets::put_in(&mut set, b);
-    recount(&set, links, numbers, highs);
+    recount(&set, links, numbers, not_lower);
 }

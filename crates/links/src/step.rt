@@ -1,8 +1,6 @@
 // One link of a list taken up or down on tables that are known to be sound. What the check finds of them, the place and the not-lower
 // count of each radio, is kept up to date from link to link, so that the next one needs no check.
-ghost use mathlib.Core.Path.{_≡_};
-ghost use Prim.Native.Nat.{ℕ, _≤_, _<_, _+_};
-ghost use lib.ListN.{length, getD};
+ghost use Rattle.lists.specs.Kit.{_≡_, ℕ, _≤_, _<_, _+_, length, getD};
 ghost use Rattle.lists.specs.Lists.{range};
 ghost use Rattle.mesh.specs.Limits.{max-radios};
 ghost use Rattle.mesh.specs.Lent.{lent};
@@ -30,15 +28,15 @@ fn change(
     numbers: &mut [u8],
     order: &mut [u16],
     places: &[u16; Site::RADIOS as usize],
-    highs: &[u8; Site::RADIOS as usize],
+    not_lower: &[u8; Site::RADIOS as usize],
     changed: &mut [u16; Site::RADIOS as usize],
 ) -> Outcome
-    requires ready { ⌜ Step-ready up (length (now order)) a b (lent links numbers order) (now places) (now highs) ⌝ }
+    requires ready { ⌜ Step-ready up (length (now order)) a b (lent links numbers order) (now places) (now «not_lower») ⌝ }
     requires room { ⌜ length (now changed) ≡ max-radios ⌝ }
     ensures { λ r. ⌜ Changed-by up (length (now (order .entry))) a b (lent (links .entry) (numbers .entry) (order .entry))
         (lent (links .exit) (numbers .exit) (order .exit)) (r .count) (now (changed .exit)) (r .start) (r .size) ⌝ }
 {
-    let mut counters = *highs;
+    let mut counters = *not_lower;
     let mut stretch = [0u16; Site::RADIOS as usize];
     let plan = decision::plan_link(
         up,
@@ -84,19 +82,37 @@ pub fn step(
     numbers: &mut [u8],
     order: &mut [u16],
     places: &mut [u16; Site::RADIOS as usize],
-    highs: &mut [u8; Site::RADIOS as usize],
+    not_lower: &mut [u8; Site::RADIOS as usize],
 ) -> u32
-    requires { ⌜ Prepared n (lent links numbers order) (now places) (now highs) ⌝ }
+    requires { ⌜ Prepared n (lent links numbers order) (now places) (now «not_lower») ⌝ }
     ensures { λ r. ⌜ Stepped up n a b (lent (links .entry) (numbers .entry) (order .entry)) r
-        (lent (links .exit) (numbers .exit) (order .exit)) (now (places .exit)) (now (highs .exit)) ⌝ }
+        (lent (links .exit) (numbers .exit) (order .exit)) (now (places .exit)) (now («not_lower» .exit)) ⌝ }
 {
     let number = end_questions::ends_refusal(up, n, a, b, links);
     if number != 0 {
         return number;
     }
     let mut changed = [0u16; Site::RADIOS as usize];
-    let made = change(up, a, b, links, numbers, order, places, highs, &mut changed);
+    let made = change(
+        up,
+        a,
+        b,
+        links,
+        numbers,
+        order,
+        places,
+        not_lower,
+        &mut changed,
+    );
     put_places(order, made.start, made.size, places);
-    counts::renew(a, b, made.count as usize, &changed, links, numbers, highs);
+    counts::renew(
+        a,
+        b,
+        made.count as usize,
+        &changed,
+        links,
+        numbers,
+        not_lower,
+    );
     0
 }

@@ -1,16 +1,8 @@
 -- Laws of `all` and `same`: tests of every entry, and equality of two lists.
-use mathlib.Core.Path.{_≡_, refl, ap₂, ap, sym, _∙_}
-use mathlib.Core.Logic.{inl, inr, _⊎_}
-use mathlib.Core.Bool.{Bool, _&&_, true, false}
-use mathlib.Core.List.{List, _∷_, [], _++_}
-use Prim.Native.Nat.{ℕ, _<_}
-use native.Mathlib.Omega.{arith}
-use lib.ListN.{length}
-use lib.Dec.{eqb}
-use borrow.Author.Tests.{eq-eqb, eqb-true}
+use Rattle.lists.specs.Kit.{_≡_, refl, ap₂, ap, sym, _∙_, inl, inr, Bool, _&&_, true, false, List, _∷_, [], _++_, ℕ, _<_, arith, length, eqb, eq-eqb}
+use Rattle.lists.specs.Kit.{eqb-true, ⊎-elim}
 use Rattle.lists.specs.Lists.{all, In, range, same}
-use Rattle.lists.proofs.Tests.{and-left, and-right, and-both, never, bool-cases, iff-eq}
-use Rattle.lists.proofs.Range.{in-range, range-in}
+use Rattle.lists.proofs.{Tests.{and-left, and-right, and-both, never, bool-cases, iff-eq}, Range.{in-range, range-in}}
 
 pub all-in : (f : ℕ → Bool) (xs : List ℕ) → all f xs ≡ true → (v : ℕ) → In v xs → f v ≡ true
 unfolding all
@@ -43,11 +35,7 @@ same-eq (x ∷ xs) (y ∷ ys) h =
     ap₂ {C = List ℕ} (λ z zs. z ∷ zs) (eqb-true x y (and-left (eqb x y) (same xs ys) h)) (same-eq xs ys (and-right (eqb x y) (same xs ys) h))
 
 pub same-lengths : (xs ys : List ℕ) → (length xs ≡ length ys → ⊥) → same xs ys ≡ false
-same-lengths xs ys h = go (bool-cases (same xs ys))
-  where
-    go : (same xs ys ≡ true) ⊎ (same xs ys ≡ false) → same xs ys ≡ false
-    go (inl e) = absurd (h (ap length (same-eq xs ys e)))
-    go (inr e) = e
+same-lengths xs ys h = ⊎-elim (λ e. absurd (h (ap length (same-eq xs ys e)))) (λ e. e) (bool-cases (same xs ys))
 
 pub all-range-ext : (f h : ℕ → Bool) (n : ℕ) → ((v : ℕ) → v < n → f v ≡ h v) → all f (range 0 n) ≡ all h (range 0 n)
 all-range-ext f h n e = iff-eq (all f (range 0 n)) (all h (range 0 n))

@@ -1,16 +1,9 @@
 -- Laws of lists in order: `Ascending` (each entry below the later ones), `Rising` (numbers never fall), `Ascending-below`.
-use mathlib.Core.Path.{refl, _≡_, sym, ap, _∙_}
-use mathlib.Core.Logic.{_⊎_, inl, inr}
-use mathlib.Core.Bool.{Bool, true, false, cond}
-use mathlib.Core.List.{List, [], _∷_, _++_}
-use Prim.Native.Nat.{ℕ, _≤_, _<_, zero, suc, _+_}
-use native.Mathlib.Omega.{arith}
-use lib.ListN.{length, getD}
-use Rattle.lists.specs.Lists.{In, head-or, Ascending, range, filter, member}
-use Rattle.lists.specs.Facts.{Rising, Ascending-below, Distinct}
-use Rattle.lists.proofs.Member.{in-cases, in-left, member-in, in-member, getD-of-in}
-use Rattle.lists.proofs.Filter.{member-filter, filter-ext, filter-one, distinct-filter, in-filter}
-use Rattle.lists.proofs.Range.{in-range, distinct-range, range-in}
+use Rattle.lists.specs.Kit.{refl, _≡_, sym, ap, _∙_, _⊎_, inl, inr, Bool, true, false, cond, List, [], _∷_, _++_, ℕ, _≤_, _<_, zero, suc, _+_, arith}
+use Rattle.lists.specs.Kit.{length, getD}
+use Rattle.lists.specs.{Lists.{In, head-or, Ascending, range, filter, member}, Facts.{Rising, Ascending-below, Distinct}}
+use Rattle.lists.proofs.{Member.{in-cases, in-left, member-in, in-member, getD-of-in}, Filter.{member-filter, filter-ext, filter-one, distinct-filter}}
+use Rattle.lists.proofs.{Filter.{in-filter}, Range.{in-range, distinct-range, range-in}}
 
 pub rising-append : (num : ℕ → ℕ) (xs ys : List ℕ) → Rising num xs → Rising num ys
     → ((x y : ℕ) → In x xs → In y ys → num x ≤ num y) → Rising num (xs ++ ys)

@@ -1,12 +1,6 @@
 -- Laws of `count`: parts, other tests, tests that pass nowhere or somewhere.
-use mathlib.Core.Path.{_≡_, sym, _∙_, refl, ap}
-use mathlib.Core.Logic.{inl, inr, _⊎_}
-use mathlib.Core.Bool.{Bool, true, false, _||_, cond, not, _&&_, and-comm}
-use mathlib.Core.List.{List, [], _∷_, _++_, map}
-use Prim.Native.Nat.{ℕ, suc, _+_, _<_, _≤_, zero}
-use native.Mathlib.Nat.{le-antisymm}
-use native.Mathlib.Omega.{arith}
-use lib.ListN.{length}
+use Rattle.lists.specs.Kit.{_≡_, sym, _∙_, refl, ap, inl, inr, _⊎_, Bool, true, false, _||_, cond, not, _&&_, and-comm, List, [], _∷_, _++_, map, ℕ, suc}
+use Rattle.lists.specs.Kit.{_+_, _<_, _≤_, zero, le-antisymm, arith, length, ⊎-elim}
 use Rattle.lists.specs.Lists.{count, In}
 use Rattle.lists.proofs.Tests.{never, bit-one, bit-le, bit-true, bool-cases, bit-false}
 
@@ -84,11 +78,8 @@ count-pos f v (x ∷ xs) (inr m) h = omega (arith, count-pos f v xs m h)
 pub count-some : (f : ℕ → Bool) (xs : List ℕ) → 1 ≤ count f xs → (v : ℕ) × In v xs × (f v ≡ true)
 unfolding count
 count-some f [] h = absurd (omega arith)
-count-some f (x ∷ xs) h = go (count-some f xs) (bool-cases (f x))
-  where
-    go : (1 ≤ count f xs → (v : ℕ) × In v xs × (f v ≡ true)) → (f x ≡ true) ⊎ (f x ≡ false) → (v : ℕ) × In v (x ∷ xs) × (f v ≡ true)
-    go rec (inl e) = (x, inl refl, e)
-    go rec (inr e) = let r = rec (omega (arith, bit-false (f x) e)) in (r .0, inr (r .1), r .2)
+count-some f (x ∷ xs) h = let rec = count-some f xs in
+    ⊎-elim (λ e. (x, inl refl, e)) (λ e. let r = rec (omega (arith, bit-false (f x) e)) in (r .0, inr (r .1), r .2)) (bool-cases (f x))
 
 pub count-none : (f : ℕ → Bool) (xs : List ℕ) → ((x : ℕ) → In x xs → f x ≡ false) → count f xs ≡ 0
 unfolding count

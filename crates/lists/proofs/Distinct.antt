@@ -1,18 +1,8 @@
 -- Laws of lists without repeats, and of permutations.
-use mathlib.Core.Path.{sym, _≡_, ap, refl}
-use mathlib.Core.Logic.{_⊎_, inl, inr}
-use mathlib.Core.Bool.{Bool, true, false, cond}
-use mathlib.Core.List.{List, [], _∷_, _++_}
-use Prim.Native.Nat.{ℕ, suc, _+_, _<_, zero, _≤_}
-use native.Mathlib.Omega.{arith}
-use native.Mathlib.Nat.{le-trans}
-use lib.ListN.{length, getD}
-use lib.Dec.{eqb}
-use borrow.Author.Tests.{eq-eqb, eqb-true}
-use Rattle.lists.specs.Lists.{In, count}
-use Rattle.lists.specs.Facts.{Distinct, Permutation}
-use Rattle.lists.proofs.Member.{in-cases, getD-of-in, in-getD, in-left, in-right, split-in, in-drop}
-use Rattle.lists.proofs.Tests.{never, bool-cases, bit-true, bit-false}
+use Rattle.lists.specs.Kit.{sym, _≡_, ap, refl, _⊎_, inl, inr, Bool, true, false, cond, List, [], _∷_, _++_, ℕ, suc, _+_, _<_, zero, _≤_, arith, le-trans}
+use Rattle.lists.specs.Kit.{length, getD, eqb, eq-eqb, eqb-true, ⊎-elim}
+use Rattle.lists.specs.{Lists.{In, count}, Facts.{Distinct, Permutation}}
+use Rattle.lists.proofs.{Member.{in-cases, getD-of-in, in-getD, in-left, in-right, split-in, in-drop}, Tests.{never, bool-cases, bit-true, bit-false}}
 use Rattle.lists.proofs.Count.{count-all, count-mid, count-le-length, count-pos, count-some, count-ext}
 
 pub distinct-end : (xs : List ℕ) (b : ℕ) → Distinct xs → (In b xs → ⊥) → Distinct (xs ++ b ∷ [])
@@ -70,11 +60,7 @@ count-one-more f g o zs h d = le-trans (split zs) (omega (arith, distinct-one o 
     bit false y z k = omega arith
     bit true true z k = omega arith
     bit true false true k = omega arith
-    bit true false false k = go (k refl)
-      where
-        go : (false ≡ true) ⊎ (false ≡ true) → cond {A = ℕ} true 1 0 ≤ cond false 1 0 + cond false 1 0
-        go (inl e) = never false e refl
-        go (inr e) = never false e refl
+    bit true false false k = ⊎-elim (λ e. never false e refl) (λ e. never false e refl) (k refl)
 
     test : (w : ℕ) → (g w ≡ true) ⊎ (w ≡ o) → (g w ≡ true) ⊎ (eqb w o ≡ true)
     test w (inl e) = inl e

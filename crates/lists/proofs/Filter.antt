@@ -1,17 +1,8 @@
 -- Laws of `filter`: membership, counts, parts, tests one after the other.
-use mathlib.Core.Path.{_≡_, sym, ap, _∙_, refl}
-use mathlib.Core.Logic.{_⊎_, inl, inr}
-use mathlib.Core.Bool.{Bool, true, false, cond, _&&_, not}
-use mathlib.Core.List.{List, [], _∷_, _++_, append-nil}
-use Prim.Native.Nat.{ℕ, _+_, _-_, _≤_}
-use native.Mathlib.Omega.{arith}
-use lib.ListN.{length}
-use Rattle.lists.specs.Lists.{filter, In, member, count, range}
-use Rattle.lists.specs.Facts.{Distinct}
-use Rattle.lists.proofs.Tests.{bool-cases, never}
-use Rattle.lists.proofs.Member.{in-member, not-member}
-use Rattle.lists.proofs.Range.{range-in, range-append}
-use Rattle.lists.proofs.Count.{count-le-length}
+use Rattle.lists.specs.Kit.{_≡_, sym, ap, _∙_, refl, _⊎_, inl, inr, Bool, true, false, cond, _&&_, not, List, [], _∷_, _++_, append-nil, ℕ, _+_, _-_, _≤_}
+use Rattle.lists.specs.Kit.{arith, length, ⊎-elim}
+use Rattle.lists.specs.{Lists.{filter, In, member, count, range}, Facts.{Distinct}}
+use Rattle.lists.proofs.{Tests.{bool-cases, never}, Member.{in-member, not-member}, Range.{range-in, range-append}, Count.{count-le-length}}
 
 pub filter-none : (f : ℕ → Bool) (xs : List ℕ) → ((v : ℕ) → In v xs → f v ≡ false) → filter f xs ≡ []
 unfolding filter
@@ -27,11 +18,8 @@ filter-one f v (x ∷ xs) d (inl e) h u =
     other : (w : ℕ) → In w xs → (f w ≡ true) ⊎ (f w ≡ false) → f w ≡ false
     other w m (inl p) = absurd (d .0 (rw (u w p ∙ sym e) at m))
     other w m (inr p) = p
-filter-one f v (x ∷ xs) d (inr m) h u = go (filter-one f v xs (d .1) m h u) (bool-cases (f x))
-  where
-    go : filter f xs ≡ v ∷ [] → (f x ≡ true) ⊎ (f x ≡ false) → filter f (x ∷ xs) ≡ v ∷ []
-    go rec (inl p) = absurd (d .0 (rw (sym (u x p)) at m))
-    go rec (inr p) = rw p rec
+filter-one f v (x ∷ xs) d (inr m) h u = let rec = filter-one f v xs (d .1) m h u in
+    ⊎-elim (λ p. absurd (d .0 (rw (sym (u x p)) at m))) (λ p. rw p rec) (bool-cases (f x))
 
 pub in-filter : (f : ℕ → Bool) (xs : List ℕ) (v : ℕ) → In v (filter f xs) → In v xs × (f v ≡ true)
 unfolding filter
@@ -55,11 +43,9 @@ filter-in f (x ∷ xs) v m h = go (λ p. filter-in f xs v p h) (f x) refl m
     go rec false e (inr p) = rec p
 
 pub member-filter : (f : ℕ → Bool) (xs : List ℕ) (v : ℕ) → In v xs → member v (filter f xs) ≡ f v
-member-filter f xs v m = go (bool-cases (f v))
-  where
-    go : (f v ≡ true) ⊎ (f v ≡ false) → member v (filter f xs) ≡ f v
-    go (inl e) = in-member v (filter f xs) (filter-in f xs v m e) ∙ sym e
-    go (inr e) = not-member v (filter f xs) (λ p. never (f v) (in-filter f xs v p .1) e) ∙ sym e
+member-filter f xs v m =
+    ⊎-elim (λ e. in-member v (filter f xs) (filter-in f xs v m e) ∙ sym e)
+    (λ e. not-member v (filter f xs) (λ p. never (f v) (in-filter f xs v p .1) e) ∙ sym e) (bool-cases (f v))
 
 pub count-filter : (g f : ℕ → Bool) (xs : List ℕ) → count g (filter f xs) ≡ count (λ x. f x && g x) xs
 unfolding filter count

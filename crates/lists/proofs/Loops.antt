@@ -1,18 +1,10 @@
 -- Invariants of loops over a list, after i entries: one for each kind of loop.
 --   Folding        each entry changes a state: what is left gives what the whole gives
 --   Counted-from   entries that pass a test are counted
-use mathlib.Core.Path.{_≡_, refl, sym, ap, _∙_}
-use mathlib.Core.Bool.{Bool}
-use mathlib.Core.List.{List, [], _∷_, _++_}
-use Prim.Native.Nat.{ℕ, _+_, _^_, _≤_, _<_}
-use native.Mathlib.Omega.{arith}
-use native.Mathlib.Numerals.{add-one}
-use mir.Syntax.{w64}
-use mir.Val.{boolByte, Fits}
-use lib.ListN.{length, getD, take, drop, drop-of-length-le}
-use lib.Seq.{length-take-le, getD-take, drop-cons, drop-length}
-use Rattle.lists.specs.Facts.{folded}
-use Rattle.lists.specs.Lists.{count}
+use Rattle.lists.specs.Kit.{_≡_, refl, sym, ap, _∙_, Bool, List, [], _∷_, _++_, ℕ, _+_, _^_, _≤_, _<_, arith, add-one, length, getD, take, drop}
+use Rattle.lists.specs.Kit.{drop-of-length-le, length-take-le, getD-take, drop-cons, drop-length}
+use mir.{Syntax.{w64}, Val.{boolByte, Fits}}
+use Rattle.lists.specs.{Facts.{folded}, Lists.{count}}
 use Rattle.lists.proofs.Tests.{bit-one, byte-bit}
 
 -- ---- a state

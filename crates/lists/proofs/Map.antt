@@ -1,12 +1,7 @@
 -- Laws of `map` and `flatMap`, and of tables given by a rule: map f over a range.
-use mathlib.Core.Path.{_≡_, ap, _∙_, refl, ap₂, sym}
-use mathlib.Core.Logic.{_⊎_, inl, inr}
-use mathlib.Core.List.{map, List, [], _∷_, List·Memᴰ, List·Memᴰ·cases-cons, List·Memᴰ·not-nil, List·Memᴰ·head, List·Memᴰ·tail, flatMap, List·Memᴰ·append-cases}
-use mathlib.Core.List.{Memᴰ·append-left, Memᴰ·append-right, _++_, append-assoc}
-use Prim.Native.Nat.{ℕ, zero, suc, _+_, _<_, _≤_}
-use native.Mathlib.Omega.{arith}
-use lib.ListN.{getD, length, drop, take, replicate}
-use lib.Seq.{drop-cons}
+use Rattle.lists.specs.Kit.{_≡_, ap, _∙_, refl, ap₂, sym, inl, inr, map, List, [], _∷_, List·Memᴰ, List·Memᴰ·cases-cons, List·Memᴰ·not-nil, ⊎-elim}
+use Rattle.lists.specs.Kit.{List·Memᴰ·head, List·Memᴰ·tail, flatMap, List·Memᴰ·append-cases, Memᴰ·append-left, Memᴰ·append-right, _++_, append-assoc, ℕ}
+use Rattle.lists.specs.Kit.{zero, suc, _+_, _<_, _≤_, arith, getD, length, drop, take, replicate, drop-cons}
 use Rattle.lists.specs.Lists.{range, In, head-or}
 
 pub getD-map-range : {A : Type 0} (d : A) (f : ℕ → A) (i k v : ℕ) → v < k → getD (map f (range i k)) v d ≡ f (i + v)
@@ -26,11 +21,7 @@ map-range-of-getD {A} d f i (x ∷ xs) h =
 
 pub mem-map : {A : Type 0} (f : ℕ → A) (x : A) (xs : List ℕ) → List·Memᴰ x (map f xs) → (v : ℕ) × In v xs × (x ≡ f v)
 mem-map f x [] m = absurd (List·Memᴰ·not-nil m)
-mem-map f x (y ∷ ys) m = go (mem-map f x ys) (List·Memᴰ·cases-cons m)
-  where
-    go : (List·Memᴰ x (map f ys) → (v : ℕ) × In v ys × (x ≡ f v)) → (x ≡ f y) ⊎ List·Memᴰ x (map f ys) → (v : ℕ) × In v (y ∷ ys) × (x ≡ f v)
-    go rec (inl e) = (y, inl refl, e)
-    go rec (inr n) = let r = rec n in (r .0, inr (r .1), r .2)
+mem-map f x (y ∷ ys) m = let rec = mem-map f x ys in ⊎-elim (λ e. (y, inl refl, e)) (λ n. let r = rec n in (r .0, inr (r .1), r .2)) (List·Memᴰ·cases-cons m)
 
 pub map-mem : {A : Type 0} (f : ℕ → A) (x : A) (v : ℕ) (xs : List ℕ) → In v xs → x ≡ f v → List·Memᴰ x (map f xs)
 map-mem f x v (y ∷ ys) (inl q) e = List·Memᴰ·head (e ∙ ap f (sym q))
@@ -39,12 +30,8 @@ map-mem f x v (y ∷ ys) (inr m) e = List·Memᴰ·tail (map-mem f x v ys m e)
 pub mem-flatMap : {A : Type 0} (f : ℕ → List A) (x : A) (ks : List ℕ) → List·Memᴰ x (flatMap f ks) → (k : ℕ) × In k ks × List·Memᴰ x (f k)
 unfolding flatMap
 mem-flatMap f x [] m = absurd (List·Memᴰ·not-nil m)
-mem-flatMap f x (k ∷ ks) m = go (mem-flatMap f x ks) (List·Memᴰ·append-cases (f k) m)
-  where
-    go : (List·Memᴰ x (flatMap f ks) → (j : ℕ) × In j ks × List·Memᴰ x (f j)) → List·Memᴰ x (f k) ⊎ List·Memᴰ x (flatMap f ks)
-        → (j : ℕ) × In j (k ∷ ks) × List·Memᴰ x (f j)
-    go rec (inl n) = (k, inl refl, n)
-    go rec (inr n) = let r = rec n in (r .0, inr (r .1), r .2)
+mem-flatMap f x (k ∷ ks) m = let rec = mem-flatMap f x ks in
+    ⊎-elim (λ n. (k, inl refl, n)) (λ n. let r = rec n in (r .0, inr (r .1), r .2)) (List·Memᴰ·append-cases (f k) m)
 
 pub flatMap-mem : {A : Type 0} (f : ℕ → List A) (x : A) (k : ℕ) (ks : List ℕ) → In k ks → List·Memᴰ x (f k) → List·Memᴰ x (flatMap f ks)
 unfolding flatMap

@@ -1,13 +1,6 @@
 -- Laws of membership, as a type (`In`) and as a test (`member`), and of the first entry.
-use mathlib.Core.Path.{_≡_, refl, ap}
-use mathlib.Core.Logic.{inl, inr, _⊎_}
-use mathlib.Core.Bool.{Bool, true, false, _||_, or-true}
-use mathlib.Core.List.{List, [], _∷_, _++_}
-use Prim.Native.Nat.{ℕ, zero, suc, _<_}
-use native.Mathlib.Omega.{arith}
-use lib.Dec.{eqb}
-use lib.ListN.{length, getD}
-use borrow.Author.Tests.{eqb-true, eq-eqb}
+use Rattle.lists.specs.Kit.{_≡_, refl, ap, inl, inr, _⊎_, Bool, true, false, _||_, or-true, List, [], _∷_, _++_, ℕ, zero, suc, _<_, arith, eqb, length}
+use Rattle.lists.specs.Kit.{getD, eqb-true, eq-eqb, ⊎-elim}
 use Rattle.lists.specs.Lists.{member, In, head-or}
 use Rattle.lists.proofs.Tests.{never, bool-cases}
 
@@ -51,11 +44,7 @@ in-right v (x ∷ xs) ys m = inr (in-right v xs ys m)
 pub in-cases : (v : ℕ) (xs ys : List ℕ) → In v (xs ++ ys) → In v xs ⊎ In v ys
 in-cases v [] ys m = inr m
 in-cases v (x ∷ xs) ys (inl e) = inl (inl e)
-in-cases v (x ∷ xs) ys (inr m) = go (in-cases v xs ys m)
-  where
-    go : In v xs ⊎ In v ys → In v (x ∷ xs) ⊎ In v ys
-    go (inl a) = inl (inr a)
-    go (inr b) = inr b
+in-cases v (x ∷ xs) ys (inr m) = ⊎-elim (λ a. inl (inr a)) (λ b. inr b) (in-cases v xs ys m)
 
 pub member-in : (v : ℕ) (xs : List ℕ) → member v xs ≡ true → In v xs
 unfolding member
@@ -72,11 +61,7 @@ in-member v (x ∷ xs) (inl e) = rw (eq-eqb x v e)
 in-member v (x ∷ xs) (inr m) = rw (in-member v xs m) (or-true (eqb x v))
 
 pub not-member : (v : ℕ) (xs : List ℕ) → (In v xs → ⊥) → member v xs ≡ false
-not-member v xs h = go (bool-cases (member v xs))
-  where
-    go : (member v xs ≡ true) ⊎ (member v xs ≡ false) → member v xs ≡ false
-    go (inl e) = absurd (h (member-in v xs e))
-    go (inr e) = e
+not-member v xs h = ⊎-elim (λ e. absurd (h (member-in v xs e))) (λ e. e) (bool-cases (member v xs))
 
 -- an entry, with what stands before and after it
 pub split-in : (v : ℕ) (xs : List ℕ) → In v xs → (ps : List ℕ) × (qs : List ℕ) × (xs ≡ ps ++ v ∷ qs)

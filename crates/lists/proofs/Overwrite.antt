@@ -1,20 +1,10 @@
 -- Laws of stores: entries in front (`overwrite`), one after the other (`sets`), inside a table given by a rule.
-use mathlib.Core.Path.{_≡_, refl, ap, _∙_, sym, ap₂}
-use mathlib.Core.Logic.{_⊎_, inl, inr}
-use mathlib.Core.Bool.{cond, true, false}
-use mathlib.Core.List.{List, [], _∷_, _++_, map, append-nil, append-assoc}
-use Prim.Native.Nat.{ℕ, zero, suc, _+_, _-_, _<_, _≤_, min}
-use native.Mathlib.Omega.{arith}
-use native.Mathlib.Nat.{zero-add}
-use lib.ListN.{length, take, drop, set, drop-of-length-le, getD, length-append, take-append-drop}
-use lib.Seq.{take-at, take-all, drop-cons, set-at, set-append-left, getD-take, sets, set-out, drop-nil, drop-at, drop-drop}
-use lib.Dec.{eqb, ltb}
-use borrow.Author.Tests.{eq-eqb, ne-eqb, ltb-true, ltb-false}
+use Rattle.lists.specs.Kit.{_≡_, refl, ap, _∙_, sym, ap₂, cond, List, [], _∷_, _++_, map, append-nil, append-assoc, ℕ, zero}
+use Rattle.lists.specs.Kit.{suc, _+_, _-_, _<_, _≤_, min, arith, zero-add, length, take, drop, set, drop-of-length-le, getD, length-append, ⊎-elim}
+use Rattle.lists.specs.Kit.{take-append-drop, take-at, take-all, drop-cons, set-at, set-append-left, getD-take, sets, set-out, drop-nil, drop-at}
+use Rattle.lists.specs.Kit.{drop-drop, eqb, ltb, eq-eqb, ne-eqb, ltb-true, ltb-false}
 use Rattle.lists.specs.Lists.{overwrite, range}
-use Rattle.lists.proofs.Map.{map-range-ext, length-map, getD-map-range}
-use Rattle.lists.proofs.Range.{length-range}
-use Rattle.lists.proofs.Parts.{drop-take}
-use Rattle.lists.proofs.Tests.{bool-cases}
+use Rattle.lists.proofs.{Map.{map-range-ext, length-map, getD-map-range}, Range.{length-range}, Parts.{drop-take}, Tests.{bool-cases}}
 
 pub take-overwrite : {A : Type 0} (new old : List A) → take (length new) (overwrite new old) ≡ new
 unfolding overwrite
@@ -68,7 +58,8 @@ set-front f k w x d l =
     let new : ℕ → ℕ = λ u. cond (eqb w u) x (f u) in
     set-append-left (map f (range 0 k)) (drop (length (map f (range 0 k))) d) w x (omega (arith, long f))
     ∙ ap₂ {C = List ℕ} (λ ys j. ys ++ drop j d)
-    (set-map-range f 0 k w x l ∙ map-range-ext (λ u. cond (eqb (0 + w) u) x (f u)) new 0 k (λ u a b. ap (λ (i : ℕ). cond {A = ℕ} (eqb i u) x (f u)) (zero-add w)))
+    (set-map-range f 0 k w x l ∙ map-range-ext (λ u. cond (eqb (0 + w) u) x (f u)) new 0 k
+    (λ u a b. ap (λ (i : ℕ). cond {A = ℕ} (eqb i u) x (f u)) (zero-add w)))
     (long f ∙ sym (long new))
 
 pub getD-front : (f : ℕ → ℕ) (k v : ℕ) (d : List ℕ) → v < k → getD (overwrite (map f (range 0 k)) d) v 0 ≡ f v
@@ -104,13 +95,10 @@ sets-full old i (x ∷ xs) h =
     let same = set-out old i x h in rw same (sets-full old (suc i) xs (omega arith))
 
 pub sets-min : (old : List ℕ) (i : ℕ) (xs : List ℕ) → sets old (min (length old) i) xs ≡ sets old i xs
-sets-min old i xs = go (bool-cases (ltb i (length old)))
-  where
-    go : (ltb i (length old) ≡ true) ⊎ (ltb i (length old) ≡ false) → sets old (min (length old) i) xs ≡ sets old i xs
-    go (inl e) = let p : min (length old) i ≡ i = omega (arith, ltb-true i (length old) e) in ap (λ (k : ℕ). sets old k xs) p
-    go (inr e) =
-        let l = ltb-false i (length old) e in
-        sets-full old (min (length old) i) xs (omega arith) ∙ sym (sets-full old i xs l)
+sets-min old i xs =
+    ⊎-elim (λ e. let p : min (length old) i ≡ i = omega (arith, ltb-true i (length old) e) in ap (λ (k : ℕ). sets old k xs) p)
+    (λ e. let l = ltb-false i (length old) e in sets-full old (min (length old) i) xs (omega arith) ∙ sym (sets-full old i xs l))
+    (bool-cases (ltb i (length old)))
 
 -- stores from a place on leave what stands before it
 pub sets-drop : (old : List ℕ) (i : ℕ) (xs : List ℕ) → i ≤ length old → take i old ++ sets (drop i old) 0 xs ≡ sets old i xs

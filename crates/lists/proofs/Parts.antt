@@ -1,19 +1,10 @@
 -- Laws of parts: parts of equal length joined, a part of a part, lists of bytes, zeros.
-use mathlib.Core.Path.{_≡_, sym, ap, _∙_, refl, ap₂}
-use mathlib.Core.Logic.{_⊎_, inl, inr}
-use mathlib.Core.Bool.{Bool, true, false, cond}
-use mathlib.Core.List.{List, [], _∷_, _++_, flatMap}
-use Prim.Native.Nat.{ℕ, zero, suc, _+_, _*_, _<_, _≤_, min, _-_}
-use native.Mathlib.Omega.{arith}
-use native.Mathlib.Nat.{mul-suc, zero-min, suc-min-suc, sub-zero, zero-sub, suc-sub-suc}
-use native.Mathlib.Numerals.{add-one}
-use lib.ListN.{replicate, length-replicate, getD-replicate, length, getD, take, drop, length-append, List·getD-append, length-drop, take-append-drop}
-use lib.ListN.{List·getD-eq-default}
-use lib.Seq.{getD-append-add, drop-append-add, take-at, drop-drop, take-take, getD-drop, take-nil, drop-cons}
-use lib.Dec.{ltb}
-use borrow.Author.Tests.{ltb-true, ltb-false}
-use Rattle.lists.specs.Facts.{Bytes}
-use Rattle.lists.specs.Lists.{range}
+use Rattle.lists.specs.Kit.{_≡_, sym, ap, _∙_, refl, ap₂, Bool, true, false, cond, List, [], _∷_, _++_, flatMap, ℕ, zero, suc, _+_, _*_}
+use Rattle.lists.specs.Kit.{_<_, _≤_, min, _-_, arith, mul-suc, zero-min, suc-min-suc, sub-zero, zero-sub, suc-sub-suc, add-one, replicate, ⊎-elim}
+use Rattle.lists.specs.Kit.{length-replicate, getD-replicate, length, getD, take, drop, length-append, List·getD-append, length-drop, take-append-drop}
+use Rattle.lists.specs.Kit.{List·getD-eq-default, getD-append-add, drop-append-add, take-at, drop-drop, take-take, getD-drop, take-nil, drop-cons, ltb}
+use Rattle.lists.specs.Kit.{ltb-true, ltb-false}
+use Rattle.lists.specs.{Facts.{Bytes}, Lists.{range}}
 use Rattle.lists.proofs.Tests.{bool-cases}
 
 -- an entry that is there is the same whatever stands for none
@@ -94,7 +85,8 @@ flatMap-take-drop f size i zero (b ∷ bs) len h = absurd (omega arith)
 flatMap-take-drop f size i (suc k) bs len h =
     let none : size * 0 ≡ 0 = omega arith in
     let first : take size bs ≡ f i = sym (ap (λ (x : ℕ). take size (drop x bs)) none) ∙ h 0 (omega arith) ∙ ap f (omega arith) in
-    ap₂ {C = List ℕ} (λ xs ys. xs ++ ys) (sym first) (flatMap-take-drop f size (suc i) k (drop size bs) (omega (arith, length-drop size bs, mul-suc size k)) rest)
+    ap₂ {C = List ℕ} (λ xs ys. xs ++ ys) (sym first)
+    (flatMap-take-drop f size (suc i) k (drop size bs) (omega (arith, length-drop size bs, mul-suc size k)) rest)
     ∙ take-append-drop size bs
   where
     rest : (v : ℕ) → v < k → take size (drop (size * v) (drop size bs)) ≡ f (suc i + v)
@@ -111,11 +103,9 @@ take-drop-take (suc k) m (suc s) (x ∷ xs) h = take-drop-take k m s xs (omega a
 
 -- a place past the end reads as zero
 pub getD-bytes : (bs : List ℕ) → Bytes bs → (i : ℕ) → getD bs i 0 < 256
-getD-bytes bs b i = go (bool-cases (ltb i (length bs)))
-  where
-    go : (ltb i (length bs) ≡ true) ⊎ (ltb i (length bs) ≡ false) → getD bs i 0 < 256
-    go (inl e) = b i (ltb-true i (length bs) e)
-    go (inr e) = rw (List·getD-eq-default bs 0 {n = i} (ltb-false i (length bs) e)) (omega arith)
+getD-bytes bs b i =
+    ⊎-elim (λ e. b i (ltb-true i (length bs) e)) (λ e. rw (List·getD-eq-default bs 0 {n = i} (ltb-false i (length bs) e)) (omega arith))
+    (bool-cases (ltb i (length bs)))
 
 pub bytes-cons : (x : ℕ) (bs : List ℕ) → x < 256 → Bytes bs → Bytes (x ∷ bs)
 bytes-cons x bs h b zero l = h

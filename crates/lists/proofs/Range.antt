@@ -1,19 +1,9 @@
 -- Laws of `range`, and of lists that hold each number below n once.
-use mathlib.Core.Path.{_≡_, ap, _∙_, refl, sym}
-use mathlib.Core.Logic.{_⊎_, inl, inr}
-use mathlib.Core.Bool.{Bool, false, not, true}
-use mathlib.Core.List.{List, [], _∷_, _++_}
-use Prim.Native.Nat.{ℕ, _+_, _-_, _≤_, _<_, zero, suc}
-use native.Mathlib.Omega.{arith}
-use native.Mathlib.Nat.{eq-or-lt-of-le}
-use native.Mathlib.Numerals.{add-one}
-use lib.Dec.{eqb}
-use lib.ListN.{getD, length}
-use borrow.Author.Tests.{eq-eqb}
-use Rattle.lists.specs.Lists.{range, count, In}
-use Rattle.lists.specs.Facts.{Each-once, Distinct}
-use Rattle.lists.proofs.Count.{count-append, count-none, count-pos, count-not, count-all}
-use Rattle.lists.proofs.Distinct.{distinct-one, count-sub, permutation-in, permutation-distinct}
+use Rattle.lists.specs.Kit.{_≡_, ap, _∙_, refl, sym, inl, inr, Bool, false, not, true, List, [], _∷_, _++_, ℕ, _+_, _-_, _≤_, _<_, zero, suc, arith}
+use Rattle.lists.specs.Kit.{eq-or-lt-of-le, add-one, eqb, getD, length, eq-eqb, ⊎-elim}
+use Rattle.lists.specs.{Lists.{range, count, In}, Facts.{Each-once, Distinct}}
+use Rattle.lists.proofs.{Count.{count-append, count-none, count-pos, count-not, count-all}, Distinct.{distinct-one, count-sub, permutation-in}}
+use Rattle.lists.proofs.Distinct.{permutation-distinct}
 
 pub range-in : (i k v : ℕ) → In v (range i k) → (i ≤ v) × (v < i + k)
 unfolding range
@@ -42,11 +32,7 @@ count-below f n m h out =
 pub in-range : (i k v : ℕ) → i ≤ v → v < i + k → In v (range i k)
 unfolding range
 in-range i zero v h l = absurd (omega arith)
-in-range i (suc k) v h l = go (in-range (suc i) k v) (eq-or-lt-of-le h)
-  where
-    go : (suc i ≤ v → v < suc i + k → In v (range (suc i) k)) → (i ≡ v) ⊎ (i < v) → In v (range i (suc k))
-    go rec (inl e) = inl e
-    go rec (inr q) = inr (rec q (omega arith))
+in-range i (suc k) v h l = let rec = in-range (suc i) k v in ⊎-elim (λ e. inl e) (λ q. inr (rec q (omega arith))) (eq-or-lt-of-le h)
 
 pub distinct-range : (i k : ℕ) → Distinct (range i k)
 unfolding range

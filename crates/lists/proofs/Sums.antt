@@ -1,12 +1,5 @@
 -- Laws of `total`: the sum of a function over a list.
-use mathlib.Core.Path.{refl, _≡_}
-use mathlib.Core.Logic.{inl, inr}
-use mathlib.Core.Bool.{Bool, cond}
-use mathlib.Core.List.{List, [], _∷_, flatMap}
-use Prim.Native.Nat.{ℕ, _*_, _≤_, _+_}
-use native.Mathlib.Omega.{arith}
-use native.Mathlib.Nat.{mul-suc}
-use lib.ListN.{length, length-append}
+use Rattle.lists.specs.Kit.{refl, _≡_, inl, inr, Bool, cond, List, [], _∷_, ℕ, _*_, _≤_, _+_, arith, mul-suc, length}
 use Rattle.lists.specs.Lists.{In, total, count}
 
 pub total-le : (f : ℕ → ℕ) (most : ℕ) (xs : List ℕ) → ((x : ℕ) → In x xs → f x ≤ most) → total f xs ≤ most * length xs
@@ -16,11 +9,6 @@ total-le f most (x ∷ xs) h = omega (arith, h x (inl refl), total-le f most xs 
 pub total-cong : (f h : ℕ → ℕ) (xs : List ℕ) → ((x : ℕ) → In x xs → f x ≡ h x) → total f xs ≡ total h xs
 total-cong f h [] e = refl
 total-cong f h (x ∷ xs) e = omega (arith, e x (inl refl), total-cong f h xs (λ y m. e y (inr m)))
-
-pub length-flatMap-total : {A : Type 0} (f : ℕ → List A) (xs : List ℕ) → length (flatMap f xs) ≡ total (λ x. length (f x)) xs
-unfolding flatMap
-length-flatMap-total f [] = refl
-length-flatMap-total f (x ∷ xs) = omega (arith, length-append (f x) (flatMap f xs), length-flatMap-total f xs)
 
 pub total-none : (xs : List ℕ) → total (λ v. 0) xs ≡ 0
 total-none [] = refl

@@ -1,12 +1,7 @@
 -- Laws of tests: cases, && and ||, a test as 0 or 1, `cond`.
-use mathlib.Core.Path.{_≡_, refl, sym}
-use mathlib.Core.Logic.{_⊎_, inl, inr}
-use mathlib.Core.Bool.{Bool, true, false, cond, _&&_, _||_, or-true, Bool·beq}
-use Prim.Native.Nat.{ℕ, _≤_, _<_, _+_}
-use native.Mathlib.Omega.{arith}
+use Rattle.lists.specs.Kit.{_≡_, refl, sym, _⊎_, inl, inr, Bool, true, false, cond, _&&_, _||_, or-true, Bool·beq, ℕ, _≤_, _<_, _+_, arith, ltb, eqb, leb}
+use Rattle.lists.specs.Kit.{ltb-true, ltb-false, lt-ltb, leb-true, le-leb}
 use mir.Val.{boolByte}
-use lib.Dec.{ltb, eqb, leb}
-use borrow.Author.Tests.{ltb-true, ltb-false, lt-ltb, leb-true, le-leb}
 
 -- a test as a number
 pub byte-bit : (t : Bool) → boolByte t ≡ cond {A = ℕ} t 1 0

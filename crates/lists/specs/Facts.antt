@@ -7,10 +7,7 @@
 --   Rising num xs          no later entry has a smaller number
 --   Bytes xs               every entry is below 256
 -- Laws are in proofs/. Definitions only.
-use mathlib.Core.Path.{_≡_}
-use mathlib.Core.Bool.{Bool}
-use mathlib.Core.List.{List, [], _∷_}
-use Prim.Native.Nat.{ℕ, _≤_}
+use Rattle.lists.specs.Kit.{_≡_, Bool, List, [], _∷_, ℕ, _≤_}
 use Rattle.lists.specs.Lists.{range, count, filter, member, In, Entries-below}
 
 unfoldable pub folded : {S : Type 0} → (ℕ → S → S) → List ℕ → S → S

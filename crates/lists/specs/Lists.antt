@@ -12,13 +12,7 @@
 --   Ascending xs        each entry is below all later ones
 --   Entries-below k xs  every entry is below k: 256 for a table of bytes, 65,536 for one of 16-bit entries
 -- What only proofs and contracts say of lists is in Facts.antt; laws are in proofs/. Definitions only.
-use mathlib.Core.Path.{_≡_}
-use mathlib.Core.Logic.{_⊎_}
-use mathlib.Core.Bool.{Bool, true, false, _&&_, _||_, cond}
-use mathlib.Core.List.{List, [], _∷_, _++_}
-use Prim.Native.Nat.{ℕ, zero, suc, _+_, _<_}
-use lib.Dec.{eqb}
-use lib.ListN.{length, drop, getD}
+use Rattle.lists.specs.Kit.{_≡_, _⊎_, Bool, true, false, _&&_, _||_, cond, List, [], _∷_, _++_, ℕ, zero, suc, _+_, _<_, eqb, length, drop, getD}
 
 -- ---- lists worked out
 

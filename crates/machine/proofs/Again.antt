@@ -1,6 +1,5 @@
 -- What a call did not write stands as it stood.
-use mathlib.Core.Path.{refl}
-use mathlib.Core.List.{List, [], _∷_}
+use mathlib.Core.{Path.{refl}, List.{List, [], _∷_}}
 use Prim.Native.Nat.{ℕ, suc}
 use native.Mathlib.Omega.{arith}
 use mir.Mem.{Cell}

@@ -1,8 +1,6 @@
 -- How cells look: a byte is one cell, a 16-bit entry two, the lower byte first; a list that has no entry has no cell.
-use mathlib.Core.Path.{_≡_, refl}
-use mathlib.Core.List.{List, [], _∷_}
-use mir.Mem.{byte}
-use mir.Syntax.{w8, w16}
+use mathlib.Core.{Path.{_≡_, refl}, List.{[], _∷_}}
+use mir.{Mem.{byte}, Syntax.{w8, w16}}
 use Rattle.machine.specs.Cells.{unsigned, cells-of}
 
 pub bytes : cells-of (unsigned w8) (7 ∷ 0 ∷ 255 ∷ []) ≡ byte 7 ∷ byte 0 ∷ byte 255 ∷ []

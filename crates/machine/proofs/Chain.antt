@@ -1,20 +1,13 @@
 -- What calls made one after the other need to know of cells: cells that stand at one place are one list; a list of unsigned integers is
 -- the only one of its length that its cells stand for; what stands is carried to another memory that has the same cells there.
-use mathlib.Core.Path.{_≡_, refl, sym, _∙_, ap, subst}
-use mathlib.Core.Logic.{inl, inr}
-use mathlib.Core.Option.{Option, none, some}
-use mathlib.Core.List.{List, [], _∷_, _++_}
+use mathlib.Core.{Path.{_≡_, refl, sym, _∙_, ap, subst}, Logic.{inl, inr}, Option.{Option, none, some}, List.{List, [], _∷_, _++_}}
 use Prim.Native.Nat.{ℕ, zero, suc, _+_, _*_, _<_, _≤_}
-use native.Mathlib.Nat.{mul-zero, mul-suc, suc-ne-zero, add-comm, eq-or-lt-of-le}
-use native.Mathlib.Omega.{arith}
-use lib.ListN.{length, take, drop, getElem?, length-append}
-use lib.Dec.{T}
-use mir.Mem.{Cell}
-use mir.Syntax.{Width}
-use mir.Val.{bytes}
+use native.Mathlib.{Nat.{mul-zero, mul-suc, suc-ne-zero, add-comm, eq-or-lt-of-le}, Omega.{arith}}
+use lib.{ListN.{length, take, drop, getElem?, length-append}, Dec.{T}}
+use mir.{Mem.{Cell}, Syntax.{Width}, Val.{bytes}}
 use prog.Memory.{Memory, Block, entryAt, bind, aligned, le, unLe}
 use store.Enc.{length-le, unLe-le, two-256}
-use Rattle.machine.specs.Cells.{Place, Span, unsigned, cell-at, cells-of, Run-at, Stands, Apart, All, All-held}
+use Rattle.machine.specs.Cells.{Place, Span, unsigned, cell-at, cells-of, Run-at, Stands, Apart, All}
 use Rattle.machine.proofs.Made.{From, shift, from-all, Above}
 
 -- ---- parts of what stands
@@ -72,7 +65,7 @@ run-one σ b o (c ∷ cs) (d ∷ ds) l h k =
     let es : cs ≡ ds = run-one σ b (suc o) cs ds (omega (arith, l)) (h .1) (k .1) in
     λ j. e j ∷ es j
 
-pub list-one : (w : Width) (σ : Memory) (b o : ℕ) (xs ys : List ℕ) → length xs ≡ length ys → All-held (unsigned w) xs → All-held (unsigned w) ys
+pub list-one : (w : Width) (σ : Memory) (b o : ℕ) (xs ys : List ℕ) → length xs ≡ length ys → All (unsigned w .Holds) xs → All (unsigned w .Holds) ys
     → Run-at σ b o (cells-of (unsigned w) xs) → Run-at σ b o (cells-of (unsigned w) ys) → xs ≡ ys
 list-one w σ b o [] [] l p q h k = refl
 list-one w σ b o [] (y ∷ ys) l p q h k = absurd (suc-ne-zero (length ys) (sym l))

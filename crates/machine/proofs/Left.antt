@@ -2,18 +2,14 @@
 -- again and by what is good after it (`passed`, `All-good`); here it is said list by list.
 --   Same-lengths, Left-held    list by list
 --   lengths-left, good-left    from there to what a run says;   left-lengths, left-held: and back
-use mathlib.Core.Path.{_≡_, refl, sym, ap, subst}
-use mathlib.Core.List.{List, [], _∷_}
+use mathlib.Core.{Path.{_≡_, refl, sym, ap, subst}, List.{List, [], _∷_}}
 use Prim.Native.Nat.{ℕ}
 use native.Mathlib.Nat.{suc-ne-zero}
-use lib.ListN.{length}
-use lib.Dec.{T}
-use mir.Syntax.{Ty}
-use mir.Val.{Val, Vals, vunit, vbool, vint, vfloat, vptr, vstruct, vnil, vcons}
-use prog.Memory.{Memory, align, aligned}
-use prog.Routine.{Routine}
-use Rattle.machine.specs.Cells.{Form, Param, by-value, lent, lent-with, to-read, to-write, Place, Inputs, Outputs, left, pointer, passes, passed}
-use Rattle.machine.specs.Cells.{All-held, Aligned, Sized, All-good, Block-kept, Call, Ran, outcome-of}
+use lib.{ListN.{length}, Dec.{T}}
+use mir.{Syntax.{Ty}, Val.{Val, Vals, vunit, vbool, vint, vfloat, vptr, vstruct, vnil, vcons}}
+use prog.{Memory.{Memory, align, aligned}, Routine.{Routine}}
+use Rattle.machine.specs.Cells.{Param, by-value, lent, lent-with, to-read, to-write, Place, Inputs, Outputs, left, pointer, passes, passed, All}
+use Rattle.machine.specs.Cells.{Aligned, Sized, All-good, Block-kept, Call, Ran, outcome-of}
 
 -- as many entries as were lent
 abbrev pub Same-lengths : (ps : List Param) → Inputs ps → Outputs ps → Type 0
@@ -27,7 +23,7 @@ abbrev pub Left-held : (ps : List Param) → Outputs ps → Type 0
 Left-held [] o = Unit {0}
 Left-held (by-value F ∷ ps) o = Left-held ps o
 Left-held (lent to-read F ∷ ps) o = Left-held ps o
-Left-held (lent to-write F ∷ ps) o = All-held F (o .0) × Left-held ps (o .1)
+Left-held (lent to-write F ∷ ps) o = All (F .Holds) (o .0) × Left-held ps (o .1)
 Left-held (lent-with F G ∷ ps) o = Left-held ps o
 
 -- ---- lengths

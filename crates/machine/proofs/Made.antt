@@ -1,22 +1,13 @@
 -- A memory that is made for a call is ready for it: so the premise of `Runs` can be had, for every call and all lists that fit.
-use mathlib.Core.Path.{_≡_, refl, sym, _∙_, ap, subst}
-use mathlib.Core.Option.{Option, some}
-use mathlib.Core.Bool.{Bool, true, false, _&&_}
-use mathlib.Core.List.{List, [], _∷_}
-use Prim.Native.Nat.{ℕ, zero, suc, _+_, _<_, _≤_}
+use mathlib.Core.{Path.{_≡_, refl, sym, _∙_, ap}, Option.{Option, some}, Bool.{Bool, true, false, _&&_}, List.{List, [], _∷_}}
+use Prim.Native.Nat.{ℕ, suc, _≤_}
 use native.Mathlib.Omega.{arith}
-use lib.ListN.{length, getElem?}
-use lib.Dec.{T}
-use mir.Mem.{Cell}
-use prog.Memory.{Memory, Block, entryAt, bind, align, aligned, divides}
-use prog.Align.{dv-self, dv-zero}
-use prog.Machine.{done}
-use prog.Routine.{Routine, ends-one}
-use mir.Val.{Val}
-use store.Seg.{seg, seg-nth}
-use Rattle.machine.specs.Cells.{Form, Param, by-value, lent, lent-with, to-read, to-write, Inputs, Span, Stands, Apart, All, All-apart, All-good, Aligned}
-use Rattle.machine.specs.Cells.{reads, writes, cells-of, span, Ready, Call, Ran, Runs, passed, outcome-of}
-use Rattle.machine.specs.Made.{Fitting, blocks, placed}
+use lib.{ListN.{getElem?}, Dec.{T}}
+use mir.{Mem.{Cell}, Val.{Val}}
+use prog.{Memory.{Memory, Block, entryAt, bind, align, divides}, Align.{dv-self, dv-zero}, Machine.{done}, Routine.{Routine, ends-one}}
+use store.Seg.{seg-nth}
+use Rattle.machine.specs.{Cells.{Form, Param, by-value, lent, lent-with, to-read, to-write, Inputs, Span, Stands, Apart, All, All-apart, All-good}}
+use Rattle.machine.specs.{Cells.{Aligned, reads, writes, cells-of, span, Ready, Call, Ran, Runs, passed, outcome-of}, Made.{Fitting, blocks, placed}}
 use Rattle.machine.proofs.Heap.{run-out}
 
 -- from block k on the memory has these

@@ -1,25 +1,13 @@
 -- The integers as rows, and as results.
-use mathlib.Core.Path.{_≡_, refl, _∙_, ap}
-use mathlib.Core.List.{List, [], _∷_}
+use mathlib.Core.{Path.{_≡_, refl, _∙_, ap}, List.{[], _∷_}}
 use Prim.Native.Nat.{ℕ, _<_, _^_}
-use lib.IntN.{ℤ}
-use lib.Signed.{mag}
-use lib.Dec.{eqb-refl}
-use mir.Syntax.{Width, tyInt}
-use mir.Val.{Val, vint, bits, hbits, bytes, ofZ}
-use mir.ValLaws.{ofZ-fits}
+use lib.{Signed.{mag}, Dec.{eqb-refl}}
+use mir.{Syntax.{Width, tyInt}, Val.{Val, vint, bits, hbits, bytes, ofZ}, ValLaws.{ofZ-fits}}
 use base.Logic.{via}
-use contract.Monad.{fact, fact-mono}
-use contract.Lifetimes.{Lfts}
-use denote.Plain.{UInt, uint-makes}
-use denote.Signed.{SInt, sint-makes}
-use denote.RattleType.{RattleType}
-use denote.Lowered.{Lowered}
-use denote.Laws.{Is, shows}
+use contract.{Monad.{fact, fact-mono}, Lifetimes.{Lfts}}
+use denote.{Plain.{UInt, uint-makes}, Signed.{SInt, sint-makes}, RattleType.{RattleType}, Lowered.{Lowered}, Laws.{Is, shows}}
+use Rattle.machine.proofs.{Whole.{𝓥}, Rows.{Row, A₀, W₀}, Law.{Answer, Told}}
 use ghost.Model as Closed
-use Rattle.machine.proofs.Whole.{𝓥}
-use Rattle.machine.proofs.Rows.{Row, A₀, W₀}
-use Rattle.machine.proofs.Law.{Answer, Told}
 
 abbrev pub number-row : Width → Row
 number-row w = record {

@@ -20,20 +20,11 @@
 --                     cell of the memory, and each block's length and alignment, is as it was
 --   Runs              from every memory that is ready the routine runs so
 -- Definitions only.
-use mathlib.Core.Path.{_≡_}
-use mathlib.Core.Option.{Option, some}
-use mathlib.Core.List.{List, [], _∷_, map}
+use mathlib.Core.{Path.{_≡_}, Option.{Option, some}, List.{List, [], _∷_, map}}
 use Prim.Native.Nat.{ℕ, suc, _+_, _*_, _<_, _≤_, _^_}
-use lib.ListN.{length, getElem?}
-use lib.IntN.{ℤ}
-use lib.Signed.{mag}
-use lib.Dec.{T}
-use mir.Mem.{Cell}
-use mir.Syntax.{Width, w64, Ty, tyInt, tyArray}
-use mir.Val.{Val, vint, vptr, vstruct, vnil, vcons, ofList, bits, hbits, ofZ}
-use prog.Memory.{Memory, Block, entryAt, align, aligned, size, enc, bind}
-use prog.Machine.{done}
-use prog.Routine.{Routine}
+use lib.{ListN.{length, getElem?}, IntN.{ℤ}, Signed.{mag}, Dec.{T}}
+use mir.{Mem.{Cell}, Syntax.{Width, w64, Ty, tyInt, tyArray}, Val.{Val, vint, vptr, vstruct, vnil, vcons, ofList, bits, hbits, ofZ}}
+use prog.{Memory.{Memory, Block, entryAt, align, aligned, size, enc, bind}, Machine.{done}, Routine.{Routine}}
 
 -- ---- types, as the machine holds their values
 
@@ -174,11 +165,6 @@ writes (lent to-read F ∷ ps) i = writes ps (i .1)
 writes (lent to-write F ∷ ps) i = span F (i .0 .0) (i .0 .1) ∷ writes ps (i .1)
 writes (lent-with F G ∷ ps) i = writes ps (i .1)
 
--- each entry is one that its type holds
-abbrev pub All-held : (F : Form) → List (F .Value) → Type 0
-All-held F [] = Unit {0}
-All-held F (x ∷ xs) = F .Holds x × All-held F xs
-
 -- ---- before the call
 
 -- a list that has an entry begins in a live block, aligned as its entries are
@@ -191,7 +177,7 @@ abbrev pub Sized : Ty → ℕ → Type 0
 Sized τ n = (n < 2 ^ 64) × (n * size τ < 2 ^ 63)
 
 abbrev pub Good-list : Memory → (F : Form) → Place → List (F .Value) → Type 0
-Good-list σ F p xs = All-held F xs × Aligned σ (F .ty) p xs × Sized (F .ty) (length xs)
+Good-list σ F p xs = All (F .Holds) xs × Aligned σ (F .ty) p xs × Sized (F .ty) (length xs)
 
 abbrev pub Good : Memory → (p : Param) → Input p → Type 0
 Good σ (by-value F) x = F .Holds x

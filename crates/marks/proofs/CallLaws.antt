@@ -4,50 +4,32 @@
 --   set-again, set-full, set-new   setting: the name is there; it is new and there are 8 marks; it is new
 --   removed, remove-absent      removing; 18
 --   returned, return-absent     coming back; 18
-use mathlib.Core.Path.{_≡_, refl, sym, ap, ap₂, subst, _∙_}
-use mathlib.Core.Logic.{_⊎_, inl, inr}
-use mathlib.Core.Bool.{Bool, true, false, _&&_, _||_}
-use mathlib.Core.List.{List, [], _∷_, _++_}
-use Prim.Native.Nat.{ℕ, suc, _+_, _*_, _-_, _≤_, _<_}
-use native.Mathlib.Omega.{arith}
-use lib.Dec.{ltb, leb, eqb}
-use lib.ListN.{length, take, drop, replicate, length-drop}
-use lib.Seq.{drop-drop, take-all, length-take-le}
-use borrow.Author.Tests.{eqb-true, leb-true, leb-false, lt-ltb, le-ltb}
-use Rattle.lists.proofs.Parts.{take-drop-take}
-use Rattle.lists.proofs.Tests.{never, bool-cases, trichotomy}
-use Rattle.mesh.specs.Limits.{size-good}
-use Rattle.mesh.specs.Tables.{Tables, graph-in}
-use Rattle.mesh.specs.Sound.{sound}
-use Rattle.mesh.specs.Image.{image-of, is-image}
-use Rattle.mesh.specs.Marks.{name-bytes, place-bytes, places, store-bytes, image-size, image-in, place-of, marks-in, store-of, has-mark, found}
-use Rattle.mesh.specs.Marks.{with-mark, place-at}
-use Rattle.mesh.specs.MarkPlaces.{rank, heads, moved-up, moved-down}
-use Rattle.mesh.proofs.Images.Of.{length-image-of}
-use Rattle.mesh.proofs.Images.Tables.{is-image-sound}
-use Rattle.mesh.proofs.Marks.Laws.{Sized, rising-sized, Place-mark, place-mark, image-fits, length-is-image}
-use Rattle.mesh.proofs.Marks.Ranks.{rank-most, ranked, found-at, with-at, with-new, without-at}
-use Rattle.mesh.proofs.Marks.Rules.{mark-at}
-use Rattle.mesh.proofs.Marks.Bytes.{replaced, inserted, taken-out}
-use Rattle.calls.specs.Questions.{ask, Lengths, lengths-of, site-lengths, site-refusal, lent-refusal, image-length}
-use Rattle.calls.specs.Outcomes.{read-outcome}
-use Rattle.calls.specs.MarkOutcomes.{stored, store-outcome, set-outcome, remove-outcome, return-outcome}
-use Rattle.calls.specs.Marks.{store-length, marks-good, is-marked, has-place, mark-refusal, set-refusal, named-refusal, set-store, removed-store, mark-image}
-use Rattle.calls.specs.Contracts.{Read-contract, Set-contract, Remove-contract, Return-contract}
-use Rattle.calls.proofs.QuestionLaws.{ask-yes, ask-no, ask-zero}
-use Rattle.calls.proofs.ChainLaws.{site-zero, site-yes, write-yes}
-use Rattle.calls.proofs.ContractLaws.{by-accepted, by-refused, by-zero}
-use Rattle.calls.proofs.MarkCalls.{Mark-asked, mark-zero, mark-is-image, mark-read}
-use Rattle.marks.specs.Store.{Located}
-use Rattle.marks.specs.Placing.{Markable, mark-place, put-place}
+use Rattle.lists.{specs.Kit.{_≡_, refl, sym, ap, ap₂, subst, _∙_, _⊎_, inl, inr, Bool, true, false, _&&_, _||_, List, [], _∷_, _++_, ℕ, suc, _+_, _*_, _-_}}
+use Rattle.lists.{specs.Kit.{_≤_, _<_, arith, ltb, leb, eqb, length, take, drop, replicate, length-drop, drop-drop, take-all, length-take-le, eqb-true}}
+use Rattle.lists.{specs.Kit.{leb-true, leb-false, lt-ltb, le-ltb}, proofs.Parts.{take-drop-take}, proofs.Tests.{never, bool-cases, trichotomy}}
+use Rattle.mesh.{specs.Limits.{size-good}, specs.Tables.{Tables, graph-in}, specs.Sound.{sound}, specs.Image.{image-of, is-image}, specs.Marks.{name-bytes}}
+use Rattle.mesh.{specs.Marks.{place-bytes, places, store-bytes, image-size, image-in, place-of, marks-in, store-of, has-mark, found, with-mark, place-at}}
+use Rattle.mesh.{specs.MarkPlaces.{rank, heads, moved-up, moved-down}, proofs.Images.Of.{length-image-of}, proofs.Images.Tables.{is-image-sound}}
+use Rattle.mesh.{proofs.Marks.Laws.{Sized, rising-sized, Place-mark, place-mark, image-fits, length-is-image}, proofs.Marks.Ranks.{rank-most, ranked, found-at}}
+use Rattle.mesh.{proofs.Marks.Ranks.{with-at, with-new, without-at}, proofs.Marks.Rules.{mark-at}, proofs.Marks.Bytes.{replaced, inserted, taken-out}}
+use Rattle.calls.{specs.Questions.{ask, Lengths, lengths-of, site-lengths, site-refusal, lent-refusal, image-length}, specs.Outcomes.{read-outcome}}
+use Rattle.calls.{specs.MarkOutcomes.{store-outcome, set-outcome, remove-outcome, return-outcome}, specs.Marks.{store-length, marks-good, is-marked}}
+use Rattle.calls.{specs.Marks.{has-place, mark-refusal, set-refusal, named-refusal, mark-image}, specs.Contracts.{Read-contract}}
+use Rattle.calls.{specs.Contracts.{Set-contract, Remove-contract, Return-contract}, proofs.QuestionLaws.{ask-yes, ask-no, ask-zero}}
+use Rattle.calls.{proofs.ChainLaws.{site-zero, site-yes, write-yes}, proofs.ContractLaws.{by-accepted, by-refused, by-zero}, proofs.MarkCalls.{Mark-asked}}
+use Rattle.calls.{proofs.MarkCalls.{mark-zero, mark-is-image, mark-read}}
+use Rattle.marks.specs.{Store.{Located}, Placing.{Markable, mark-place, put-place}}
+use Rattle.calls.specs.{Outcomes.{listing}, Chains.{set-store, removed-store}}
 
 -- ---- 1, 2, 3 or 17 got no
 
-stopped : (n : ℕ) (l : Lengths) (sound : Bool) (x bs : List ℕ) (later : ℕ) → (mark-refusal n l sound x bs 0 ≡ 0 → ⊥) → mark-refusal n l sound x bs later ≡ mark-refusal n l sound x bs 0
+stopped : (n : ℕ) (l : Lengths) (sound : Bool) (x bs : List ℕ) (later : ℕ) → (mark-refusal n l sound x bs 0 ≡ 0 → ⊥) → mark-refusal n l sound x bs later ≡
+    mark-refusal n l sound x bs 0
 unfolding mark-refusal site-refusal lent-refusal ask
 stopped n l sound x bs later h = go (size-good n) (site-lengths n l && store-length bs) sound (marks-good n x bs) h
   where
-    go : (a b c d : Bool) → (ask 1 a (ask 2 b (ask 3 c (ask 17 d 0))) ≡ 0 → ⊥) → ask 1 a (ask 2 b (ask 3 c (ask 17 d later))) ≡ ask 1 a (ask 2 b (ask 3 c (ask 17 d 0)))
+    go : (a b c d : Bool) → (ask 1 a (ask 2 b (ask 3 c (ask 17 d 0))) ≡ 0 → ⊥) → ask 1 a (ask 2 b (ask 3 c (ask 17 d later))) ≡ ask 1 a
+        (ask 2 b (ask 3 c (ask 17 d 0)))
     go true true true true k = absurd (k refl)
     go true true true false k = refl
     go true true false d k = refl
@@ -172,7 +154,7 @@ module _ (n : ℕ) (x : List ℕ) (t : Tables) (bs : List ℕ) (q : ℕ) (e : q 
     set-by h cs f = by-accepted _ _ (further (ask 19 (has-place x bs) 0) ∙ ask-yes 19 (has-place x bs) 0 h) (rw f)
 
     pub set-again : there ≡ true → (cs : List ℕ) → cs ≡ put-place bs first (mark-place n t x) → Set-contract n x t bs 0 cs
-    unfolding put-place mark-place set-store has-place is-marked
+    unfolding put-place mark-place has-place is-marked
     set-again h cs f =
         let p = place-of x image in
         let there′ : has-mark x marks ≡ true = sym there-is ∙ h in
@@ -183,9 +165,11 @@ module _ (n : ℕ) (x : List ℕ) (t : Tables) (bs : List ℕ) (q : ℕ) (e : q 
         ∙ replaced marks are-sized (asked .store .marks .few) (rank x marks) p l
         ∙ ap store-of (sym (at-name p there′)))
       where
-        at-name : (p : List ℕ) → has-mark x marks ≡ true → with-mark (place-of x image) marks ≡ take (rank x marks) marks ++ (place-of x image ∷ drop (suc (rank x marks)) marks)
+        at-name : (p : List ℕ) → has-mark x marks ≡ true → with-mark (place-of x image) marks ≡ take (rank x marks) marks ++
+            (place-of x image ∷ drop (suc (rank x marks)) marks)
         at-name p h =
-            subst (λ (y : List ℕ). has-mark y marks ≡ true → with-mark (place-of x image) marks ≡ take (rank y marks) marks ++ (place-of x image ∷ drop (suc (rank y marks)) marks))
+            subst (λ (y : List ℕ). has-mark y marks ≡ true → with-mark (place-of x image) marks ≡ take (rank y marks) marks ++
+            (place-of x image ∷ drop (suc (rank y marks)) marks))
             (mark-kept .name) (with-at n (place-of x image) [] marks (asked .store .marks .rising)) h
 
     pub set-full : there ≡ false → used ≡ places → Set-contract n x t bs 19 bs
@@ -198,13 +182,14 @@ module _ (n : ℕ) (x : List ℕ) (t : Tables) (bs : List ℕ) (q : ℕ) (e : q 
 
     pub set-new : there ≡ false → (used ≡ places → ⊥) → (cs : List ℕ) →
         cs ≡ put-place (moved-up bs (place-bytes * first) (place-bytes * used)) first (mark-place n t x) → Set-contract n x t bs 0 cs
-    unfolding put-place mark-place set-store has-place is-marked
+    unfolding put-place mark-place has-place is-marked
     set-new h m cs f =
         let p = place-of x image in
         let none : has-mark x marks ≡ false = sym there-is ∙ h in
         let less : length marks < places = omega (arith, room m, spot .counted) in
         set-by (ap₂ {C = Bool} (λ a b. a || b) none (lt-ltb (length marks) places less)) cs
-        (f ∙ ap₂ {C = List ℕ} (λ j k. take (place-bytes * j) (moved-up bs (place-bytes * j) (place-bytes * k)) ++ (p ++ drop (place-bytes * j + place-bytes) (moved-up bs (place-bytes * j) (place-bytes * k)))) (spot .ranked) (spot .counted)
+        (f ∙ ap₂ {C = List ℕ} (λ j k. take (place-bytes * j) (moved-up bs (place-bytes * j) (place-bytes * k)) ++
+        (p ++ drop (place-bytes * j + place-bytes) (moved-up bs (place-bytes * j) (place-bytes * k)))) (spot .ranked) (spot .counted)
         ∙ ap (λ (os : List ℕ). take (place-bytes * rank x marks) (moved-up os (place-bytes * rank x marks) (place-bytes * length marks))
         ++ (p ++ drop (place-bytes * rank x marks + place-bytes) (moved-up os (place-bytes * rank x marks) (place-bytes * length marks)))) (asked .store .whole)
         ∙ inserted marks are-sized (asked .store .marks .few) (rank x marks) p (rank-most n x marks) less
@@ -212,7 +197,8 @@ module _ (n : ℕ) (x : List ℕ) (t : Tables) (bs : List ℕ) (q : ℕ) (e : q 
       where
         at-name : has-mark x marks ≡ false → with-mark (place-of x image) marks ≡ take (rank x marks) marks ++ (place-of x image ∷ drop (rank x marks) marks)
         at-name h =
-            subst (λ (y : List ℕ). has-mark y marks ≡ false → with-mark (place-of x image) marks ≡ take (rank y marks) marks ++ (place-of x image ∷ drop (rank y marks) marks))
+            subst (λ (y : List ℕ). has-mark y marks ≡ false → with-mark (place-of x image) marks ≡ take (rank y marks) marks ++
+            (place-of x image ∷ drop (rank y marks) marks))
             (mark-kept .name) (with-new n (place-of x image) [] marks (asked .store .marks .rising)) h
 
     -- ---- 18
@@ -237,12 +223,12 @@ module _ (n : ℕ) (x : List ℕ) (t : Tables) (bs : List ℕ) (q : ℕ) (e : q 
 
     pub removed : there ≡ true → (w : ℕ) (cs : List ℕ) → w ≡ place-bytes →
         cs ≡ put-place (moved-down bs (place-bytes * (first + 1)) (place-bytes * used)) (used - 1) (replicate w 0) → Remove-contract n x t bs 0 cs
-    unfolding Remove-contract remove-outcome store-outcome removed-store put-place
+    unfolding Remove-contract remove-outcome store-outcome put-place
     removed h w cs g f =
         let l : rank x marks < length marks = omega (arith, below h, spot .counted, spot .ranked) in
         let k : length marks ≡ suc (used - 1) = omega (arith, below h, spot .counted) in
         let i : first + 1 ≡ suc (rank x marks) = omega (arith, spot .ranked) in
-        by-accepted _ _ (a-mark h) (ap (stored 0)
+        by-accepted _ _ (a-mark h) (ap (listing 0)
         (f
         ∙ ap₂ {C = List ℕ} (λ j u. take (place-bytes * (used - 1)) (moved-down bs (place-bytes * j) (place-bytes * u))
         ++ (replicate w 0 ++ drop (place-bytes * (used - 1) + place-bytes) (moved-down bs (place-bytes * j) (place-bytes * u)))) i (spot .counted)
@@ -259,7 +245,8 @@ module _ (n : ℕ) (x : List ℕ) (t : Tables) (bs : List ℕ) (q : ℕ) (e : q 
         found-at n x [] marks (asked .store .marks .rising) (sym there-is ∙ h)
         ∙ mark-at bs (rank x marks) (omega (arith, below h, spot .counted, spot .ranked)) ∙ ap (place-at bs) (sym (spot .ranked))
 
-    module _ (h : there ≡ true) (s : ℕ) (size : s ≡ image-size n (drop name-bytes (take (place-bytes * first + place-bytes - place-bytes * first) (drop (place-bytes * first) bs)))) where
+    module _ (h : there ≡ true) (s : ℕ) (size : s ≡ image-size n
+        (drop name-bytes (take (place-bytes * first + place-bytes - place-bytes * first) (drop (place-bytes * first) bs)))) where
       whole-place : take (place-bytes * first + place-bytes - place-bytes * first) (drop (place-bytes * first) bs) ≡ place-at bs first
       unfolding place-at
       whole-place =
@@ -298,7 +285,8 @@ module _ (n : ℕ) (x : List ℕ) (t : Tables) (bs : List ℕ) (q : ℕ) (e : q 
               absurd (omega (arith, own, size-is, length-drop name-bytes (place-at bs first), place-long))
 
       -- the part that is read
-      part-is : take (place-bytes * first + name-bytes + s - (place-bytes * first + name-bytes)) (drop (place-bytes * first + name-bytes) bs) ≡ mark-image n x bs
+      part-is : take (place-bytes * first + name-bytes + s - (place-bytes * first + name-bytes)) (drop (place-bytes * first + name-bytes) bs) ≡ mark-image n x
+          bs
       unfolding place-at
       part-is =
           let e : place-bytes * first + name-bytes + s - (place-bytes * first + name-bytes) ≡ s = omega arith in
@@ -306,7 +294,8 @@ module _ (n : ℕ) (x : List ℕ) (t : Tables) (bs : List ℕ) (q : ℕ) (e : q 
           ∙ sym (take-drop-take name-bytes s place-bytes (drop (place-bytes * first) bs) fits) ∙ sym image-is
 
       pub returned : (r : ℕ) (v : Tables) →
-          Read-contract n (take (place-bytes * first + name-bytes + s - (place-bytes * first + name-bytes)) (drop (place-bytes * first + name-bytes) bs)) t r v →
+          Read-contract n (take (place-bytes * first + name-bytes + s - (place-bytes * first + name-bytes)) (drop (place-bytes * first + name-bytes) bs)) t r v
+          →
           Return-contract n x bs t r v
       unfolding Return-contract return-outcome Read-contract read-outcome is-marked
       returned r v d =

@@ -1,17 +1,8 @@
 -- What is left of a list decides as the whole does: laws of one step for each loop that passes over a list.
-use mathlib.Core.Path.{_≡_, refl, sym, ap, ap₂, _∙_}
-use mathlib.Core.Logic.{_⊎_, inl, inr}
-use mathlib.Core.Bool.{Bool, true, false, _&&_, _||_, or-false, and-true, and-assoc}
-use mathlib.Core.List.{List, [], _∷_}
-use Prim.Native.Nat.{ℕ, zero, suc, _+_, _-_, _≤_, _<_}
-use native.Mathlib.Omega.{arith}
-use lib.Dec.{ltb, leb, eqb}
-use lib.ListN.{length, getD, take, drop, length-drop, drop-of-length-le}
-use lib.Seq.{drop-cons, take-all}
-use lib.Bits.{bitOr, or-zero-l, or-add-and, and-le-r}
-use borrow.Author.Tests.{eqb-true, eqb-false, ltb-true, lt-ltb, le-ltb, eq-eqb, ne-eqb, le-leb, lt-leb}
-use Rattle.lists.specs.Lists.{all}
-use Rattle.lists.proofs.Tests.{iff-eq, or-right, bool-cases, and-both}
+use Rattle.lists.{specs.Kit.{_≡_, refl, sym, ap, ap₂, _∙_, _⊎_, inl, inr, Bool, true, false, _&&_, _||_, or-false, and-true, and-assoc, List, [], _∷_, ℕ, zero}}
+use Rattle.lists.{specs.Kit.{suc, _+_, _-_, _≤_, _<_, arith, ltb, leb, eqb, length, getD, take, drop, length-drop, drop-of-length-le, drop-cons, take-all}}
+use Rattle.lists.{specs.Kit.{bitOr, or-zero-l, or-add-and, and-le-r, eqb-true, eqb-false, ltb-true, lt-ltb, le-ltb, eq-eqb, ne-eqb, le-leb, lt-leb}}
+use Rattle.lists.{specs.Lists.{all}, proofs.Tests.{iff-eq, or-right, bool-cases, and-both}}
 use Rattle.mesh.specs.Marks.{is-alphanumeric, alphanumerics-then-spaces, is-zeros, before}
 
 next : (i : ℕ) → suc i ≡ i + 1
@@ -42,19 +33,22 @@ padded-other : (c : ℕ) (cs : List ℕ) → is-alphanumeric c ≡ false → alp
 unfolding alphanumerics-then-spaces
 padded-other c cs h = rw h
 
-pub padded-pass : (bs : List ℕ) (i : ℕ) → alphanumerics-then-spaces bs ≡ alphanumerics-then-spaces (drop i bs) → i < length bs → is-alphanumeric (getD bs i 0) ≡ true
+pub padded-pass : (bs : List ℕ) (i : ℕ) → alphanumerics-then-spaces bs ≡ alphanumerics-then-spaces (drop i bs) → i < length bs → is-alphanumeric (getD bs i 0) ≡
+    true
     → alphanumerics-then-spaces bs ≡ alphanumerics-then-spaces (drop (i + 1) bs)
 padded-pass bs i e l h =
     e ∙ ap alphanumerics-then-spaces (drop-cons bs i 0 l) ∙ padded-more (getD bs i 0) (drop (suc i) bs) h
     ∙ ap (λ (k : ℕ). alphanumerics-then-spaces (drop k bs)) (next i)
 
-pub padded-stop : (bs : List ℕ) (i : ℕ) → alphanumerics-then-spaces bs ≡ alphanumerics-then-spaces (drop i bs) → i < length bs → is-alphanumeric (getD bs i 0) ≡ false
+pub padded-stop : (bs : List ℕ) (i : ℕ) → alphanumerics-then-spaces bs ≡ alphanumerics-then-spaces (drop i bs) → i < length bs → is-alphanumeric (getD bs i 0) ≡
+    false
     → alphanumerics-then-spaces bs ≡ all (λ (d : ℕ). eqb d 32) (drop i bs)
 padded-stop bs i e l h =
     e ∙ ap alphanumerics-then-spaces (drop-cons bs i 0 l) ∙ padded-other (getD bs i 0) (drop (suc i) bs) h
     ∙ ap (all (λ (d : ℕ). eqb d 32)) (sym (drop-cons bs i 0 l))
 
-pub padded-end : (bs : List ℕ) (i : ℕ) → alphanumerics-then-spaces bs ≡ alphanumerics-then-spaces (drop i bs) → length bs ≤ i → alphanumerics-then-spaces bs ≡ true
+pub padded-end : (bs : List ℕ) (i : ℕ) → alphanumerics-then-spaces bs ≡ alphanumerics-then-spaces (drop i bs) → length bs ≤ i → alphanumerics-then-spaces bs ≡
+    true
 unfolding alphanumerics-then-spaces
 padded-end bs i e l = e ∙ ap alphanumerics-then-spaces (drop-of-length-le bs l)
 
@@ -71,7 +65,8 @@ before-short x y i e m = e ∙ ap (before (drop i x)) (drop-of-length-le y m)
 
 ltb-suc : (a b : ℕ) → ltb a b ≡ ltb (suc a) (suc b)
 ltb-suc a b =
-    iff-eq (ltb a b) (ltb (suc a) (suc b)) (λ h. lt-ltb (suc a) (suc b) (omega (arith, ltb-true a b h))) (λ h. lt-ltb a b (omega (arith, ltb-true (suc a) (suc b) h)))
+    iff-eq (ltb a b) (ltb (suc a) (suc b)) (λ h. lt-ltb (suc a) (suc b) (omega (arith, ltb-true a b h)))
+    (λ h. lt-ltb a b (omega (arith, ltb-true (suc a) (suc b) h)))
 
 before-nothing : (j : ℕ) (z : List ℕ) → before [] (drop j z) ≡ ltb j (length z)
 unfolding before
@@ -84,14 +79,17 @@ pub before-end : (x y : List ℕ) (i : ℕ) → before x y ≡ before (drop i x)
 before-end x y i e l = e ∙ ap (λ (z : List ℕ). before z (drop i y)) (drop-of-length-le x l) ∙ before-nothing i y
 
 pub before-less : (x y : List ℕ) (i : ℕ) → before x y ≡ before (drop i x) (drop i y) → i < length x → i < length y → getD x i 0 < getD y i 0 → before x y ≡ true
-before-less x y i e l m h = before-step x y i e l m ∙ ap (λ (t : Bool). t || (eqb (getD x i 0) (getD y i 0) && before (drop (suc i) x) (drop (suc i) y))) (lt-ltb (getD x i 0) (getD y i 0) h)
+before-less x y i e l m h = before-step x y i e l m ∙ ap (λ (t : Bool). t || (eqb (getD x i 0) (getD y i 0) && before (drop (suc i) x) (drop (suc i) y)))
+    (lt-ltb (getD x i 0) (getD y i 0) h)
 
-pub before-more : (x y : List ℕ) (i : ℕ) → before x y ≡ before (drop i x) (drop i y) → i < length x → i < length y → getD y i 0 ≤ getD x i 0 → (getD x i 0 ≡ getD y i 0 → ⊥) → before x y ≡ false
+pub before-more : (x y : List ℕ) (i : ℕ) → before x y ≡ before (drop i x) (drop i y) → i < length x → i < length y → getD y i 0 ≤ getD x i 0 →
+    (getD x i 0 ≡ getD y i 0 → ⊥) → before x y ≡ false
 before-more x y i e l m h d =
     before-step x y i e l m
     ∙ ap₂ {C = Bool} (λ s t. s || (t && before (drop (suc i) x) (drop (suc i) y))) (le-ltb (getD x i 0) (getD y i 0) h) (ne-eqb (getD x i 0) (getD y i 0) d)
 
-pub before-pass : (x y : List ℕ) (i : ℕ) → before x y ≡ before (drop i x) (drop i y) → i < length x → i < length y → getD y i 0 ≤ getD x i 0 → getD x i 0 ≡ getD y i 0 → before x y ≡ before (drop (i + 1) x) (drop (i + 1) y)
+pub before-pass : (x y : List ℕ) (i : ℕ) → before x y ≡ before (drop i x) (drop i y) → i < length x → i < length y → getD y i 0 ≤ getD x i 0 → getD x i 0 ≡ getD
+    y i 0 → before x y ≡ before (drop (i + 1) x) (drop (i + 1) y)
 before-pass x y i e l m h d =
     before-step x y i e l m
     ∙ ap₂ {C = Bool} (λ s t. s || (t && before (drop (suc i) x) (drop (suc i) y))) (le-ltb (getD x i 0) (getD y i 0) h) (eq-eqb (getD x i 0) (getD y i 0) d)

@@ -1,14 +1,10 @@
 -- Bytes being moved by one place: laws of one step of both loops.
 --   up-none, up-turn       from the last byte on: the bytes from i on are moved
 --   down-none, down-turn   from the first byte on: the bytes before i are moved
-use mathlib.Core.Path.{_≡_, refl, sym, ap, ap₂, subst, _∙_}
-use mathlib.Core.List.{List, [], _∷_, _++_, append-assoc}
-use Prim.Native.Nat.{ℕ, zero, suc, _+_, _-_, _≤_, _<_}
-use native.Mathlib.Omega.{arith}
-use lib.ListN.{length, getD, take, drop, set, length-append, length-take, length-drop, length-set, take-append-drop}
-use lib.Seq.{take-suc, drop-cons, length-take-le, getD-take, getD-drop, set-at, paste, paste-zero, paste-suc, length-paste-head, getD-append-add}
-use Rattle.mesh.specs.Marks.{place-bytes}
-use Rattle.mesh.specs.MarkPlaces.{moved-up, moved-down}
+use Rattle.lists.specs.Kit.{_≡_, refl, sym, ap, ap₂, subst, _∙_, List, [], _∷_, _++_, append-assoc, ℕ, zero, suc, _+_, _-_, _≤_, _<_, arith, length, getD, take}
+use Rattle.lists.specs.Kit.{drop, set, length-append, length-drop, length-set, take-append-drop, take-suc, drop-cons, length-take-le, getD-drop, set-at, paste}
+use Rattle.lists.specs.Kit.{paste-suc, getD-append-add}
+use Rattle.mesh.specs.{Marks.{place-bytes}, MarkPlaces.{moved-up, moved-down}}
 
 -- ---- up
 
@@ -32,7 +28,8 @@ up-none bs to =
     let e : 0 ≡ to - to = omega arith in
     sym (take-append-drop (to + place-bytes) bs) ∙ ap (λ (k : ℕ). take (to + place-bytes) bs ++ (take k (drop to bs) ++ drop (to + place-bytes) bs)) e
 
-pub up-turn : (bs now : List ℕ) (i to : ℕ) → suc i ≤ to → to + place-bytes ≤ length bs → now ≡ moved-up bs (suc i) to → set now (i + place-bytes) (getD now i 0) ≡ moved-up bs i to
+pub up-turn : (bs now : List ℕ) (i to : ℕ) → suc i ≤ to → to + place-bytes ≤ length bs → now ≡ moved-up bs (suc i) to → set now (i + place-bytes) (getD now i 0)
+    ≡ moved-up bs i to
 unfolding moved-up
 up-turn bs now i to l h e =
     let rest = take (to - suc i) (drop (suc i) bs) ++ drop (to + place-bytes) bs in
@@ -40,7 +37,8 @@ up-turn bs now i to l h e =
     let x = getD bs (i + place-bytes) 0 in
     let s : suc i + place-bytes ≡ suc (i + place-bytes) = omega arith in
     let f : now ≡ front ++ (x ∷ rest) =
-    e ∙ ap (λ (k : ℕ). take k bs ++ rest) s ∙ ap (λ (ys : List ℕ). ys ++ rest) (take-suc bs (i + place-bytes) 0 (omega arith)) ∙ append-assoc front (x ∷ []) rest in
+    e ∙ ap (λ (k : ℕ). take k bs ++ rest) s ∙ ap (λ (ys : List ℕ). ys ++ rest) (take-suc bs (i + place-bytes) 0 (omega arith)) ∙ append-assoc front (x ∷ [])
+    rest in
     let v : getD now i 0 ≡ getD bs i 0 =
     ap (λ (ys : List ℕ). getD ys i 0) (e ∙ ap (λ (k : ℕ). take k bs ++ rest) s)
     ∙ getD-front i (suc (i + place-bytes)) bs rest (omega arith) (omega arith) in

@@ -1,26 +1,16 @@
 -- A mark put into its place: zeros, the name in front, then the image in front of the rest.
 --   placed       so the place is the mark of the name and the tables
 --   placed-at    put into place i of a store
-use mathlib.Core.Path.{_≡_, ap, ap₂, _∙_}
-use mathlib.Core.List.{List, [], _++_, append-nil}
-use Prim.Native.Nat.{ℕ, _+_, _*_, _-_, _≤_}
-use native.Mathlib.Omega.{arith}
-use lib.ListN.{length, take, drop, replicate, length-append, length-drop, length-replicate, drop-of-length-le}
-use lib.Seq.{take-at, drop-at, drop-drop, take-all}
+use Rattle.lists.{specs.Kit.{_≡_, ap, ap₂, _∙_, List, [], _++_, append-nil, ℕ, _+_, _*_, _-_, _≤_, arith, length, take, drop, replicate}}
+use Rattle.lists.{specs.Kit.{length-drop, length-replicate, drop-of-length-le, take-at, drop-at, drop-drop, take-all}, specs.Lists.{overwrite}}
+use Rattle.lists.{proofs.Parts.{drop-replicate}}
 use borrow.Rule.Slice.PartMut.{putMid}
-use Rattle.lists.specs.Lists.{overwrite}
-use Rattle.lists.proofs.Parts.{drop-replicate}
-use Rattle.mesh.specs.Tables.{Tables, graph-in}
-use Rattle.mesh.specs.Sound.{sound}
-use Rattle.mesh.specs.Image.{image-of}
-use Rattle.mesh.specs.Marks.{name-bytes, place-bytes, place-of}
-use Rattle.mesh.proofs.Marks.Laws.{length-name}
-use Rattle.calls.specs.Questions.{lengths-of, write-refusal}
-use Rattle.calls.specs.Outcomes.{Listing, listing-outcome, write-outcome}
-use Rattle.calls.specs.Contracts.{Write-contract}
-use Rattle.calls.specs.declared.Value.{Value}
-use Rattle.calls.proofs.ContractLaws.{by-zero}
+use Rattle.mesh.{specs.Tables.{Tables, graph-in}, specs.Sound.{sound}, specs.Image.{image-of}, specs.Marks.{name-bytes, place-bytes, place-of}}
+use Rattle.mesh.{proofs.Marks.Laws.{length-name}}
+use Rattle.calls.{specs.Questions.{lengths-of}, specs.Outcomes.{Listing, listing-outcome, write-outcome}, specs.Contracts.{Write-contract}}
+use Rattle.calls.{specs.declared.Value.{Value}, proofs.ContractLaws.{by-zero}}
 use Rattle.marks.specs.Placing.{Markable, mark-place, put-place}
+use Rattle.calls.specs.Chains.{write-refusal}
 
 module _ (n : ℕ) (t : Tables) (x : List ℕ) (k : Markable n t x) (len : ℕ) (long : len ≡ place-bytes) (z y : List ℕ) (zeros : z ≡ replicate len 0)
     (named : y ≡ overwrite (take (length z) x) z) where
@@ -33,10 +23,6 @@ module _ (n : ℕ) (t : Tables) (x : List ℕ) (k : Markable n t x) (len : ℕ) 
       let e : take (length z) x ≡ x = take-all (length z) x (omega arith) in
       named ∙ ap (λ (xs : List ℕ). xs ++ drop (length xs) z) e
       ∙ ap₂ {C = List ℕ} (λ j zs. x ++ drop j zs) m zeros ∙ ap (λ (zs : List ℕ). x ++ zs) (drop-replicate name-bytes len 0)
-
-  length-named : length y ≡ len
-  length-named =
-      omega (arith, ap length name-then, length-append x (replicate (len - name-bytes) 0), length-name x (k .name), length-replicate {A = ℕ} (len - name-bytes) 0)
 
   rest-zeros : take (length y - name-bytes) (drop name-bytes y) ≡ replicate (len - name-bytes) 0
   rest-zeros =
@@ -56,7 +42,7 @@ module _ (n : ℕ) (t : Tables) (x : List ℕ) (k : Markable n t x) (len : ℕ) 
         ap (λ (j : ℕ). write-refusal n (lengths-of t) j (sound n t) (graph-in n (t .links))) e ∙ k .writable in
         let a = by-zero _ _ _ z written in
         let f : len - name-bytes - length image ≡ place-bytes - (name-bytes + length image) = omega arith in
-        ap (λ (o : Listing). o .lent) a ∙ ap (λ (zs : List ℕ). image ++ drop (length image) zs) rest-zeros
+        ap (λ (o : Listing Value (List ℕ)). o .lent) a ∙ ap (λ (zs : List ℕ). image ++ drop (length image) zs) rest-zeros
         ∙ ap (λ (zs : List ℕ). image ++ zs) (drop-replicate (length image) (len - name-bytes) 0 ∙ ap (λ (j : ℕ). replicate j 0) f)
 
     pub placed : putMid name-bytes (length y - name-bytes) y w ≡ mark-place n t x
@@ -64,11 +50,13 @@ module _ (n : ℕ) (t : Tables) (x : List ℕ) (k : Markable n t x) (len : ℕ) 
     placed =
         let none : drop (length y - name-bytes) (drop name-bytes y) ≡ [] =
         let l : length (drop name-bytes y) ≤ length y - name-bytes = omega (arith, length-drop name-bytes y) in drop-of-length-le (drop name-bytes y) l in
-        ap₂ {C = List ℕ} (λ xs ys. xs ++ (w ++ ys)) (ap (take name-bytes) name-then ∙ take-at x (replicate (len - name-bytes) 0) name-bytes (length-name x (k .name))) none
+        ap₂ {C = List ℕ} (λ xs ys. xs ++ (w ++ ys))
+        (ap (take name-bytes) name-then ∙ take-at x (replicate (len - name-bytes) 0) name-bytes (length-name x (k .name))) none
         ∙ ap (λ (ys : List ℕ). x ++ ys) (append-nil w ∙ accepted)
 
 -- a place of the store
-pub placed-at : (bs : List ℕ) (i : ℕ) (w p : List ℕ) → w ≡ p → putMid (place-bytes * i) (place-bytes * i + place-bytes - place-bytes * i) bs w ≡ put-place bs i p
+pub placed-at : (bs : List ℕ) (i : ℕ) (w p : List ℕ) → w ≡ p → putMid (place-bytes * i) (place-bytes * i + place-bytes - place-bytes * i) bs w ≡ put-place bs i
+    p
 unfolding put-place
 placed-at bs i w p e =
     let f : place-bytes * i + (place-bytes * i + place-bytes - place-bytes * i) ≡ place-bytes * i + place-bytes = omega arith in

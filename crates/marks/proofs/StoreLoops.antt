@@ -1,22 +1,11 @@
 -- Laws of one step of each loop over the store.
-use mathlib.Core.Path.{_≡_, refl, sym, ap, ap₂, _∙_}
-use mathlib.Core.Bool.{Bool, true, false, _&&_, cond}
-use mathlib.Core.List.{List, [], _∷_}
-use Prim.Native.Nat.{ℕ, zero, suc, _+_, _*_, _-_, _≤_, _<_}
-use native.Mathlib.Omega.{arith}
-use lib.ListN.{length, take, drop, drop-of-length-le}
-use lib.Seq.{drop-cons, drop-drop}
-use borrow.Author.Tests.{eqb-true}
-use Rattle.lists.specs.Lists.{same}
-use Rattle.mesh.specs.Limits.{size-good}
-use Rattle.mesh.specs.Marks.{name-bytes, place-bytes, places, store-bytes, before, is-name, is-zeros, name-in, is-mark, places-of, used, marks-in, are-marks, is-store}
-use Rattle.mesh.specs.MarkPlaces.{rank, heads}
-use Rattle.mesh.specs.Marks.{place-at, name-at}
-use Rattle.mesh.proofs.Marks.Rules.{mark-at, name-of-place}
-use Rattle.calls.specs.Questions.{ask, Lengths, site-refusal}
-use Rattle.calls.specs.Marks.{store-length, marks-good, mark-refusal}
-use Rattle.calls.proofs.QuestionLaws.{true-size-good}
-use Rattle.calls.proofs.ChainLaws.{Site-good, site-zero, site-yes, site-stops}
+use Rattle.lists.specs.{Kit.{_≡_, refl, sym, ap, ap₂, _∙_, Bool, true, false, _&&_, cond, List, [], _∷_, ℕ, zero, suc, _+_, _*_, _-_, _≤_, _<_, arith, length}}
+use Rattle.lists.specs.{Kit.{take, drop, drop-of-length-le, drop-cons, drop-drop, eqb-true}, Lists.{same}}
+use Rattle.mesh.{specs.Limits.{size-good}, specs.Marks.{name-bytes, place-bytes, places, store-bytes, before, is-name, is-zeros, name-in, is-mark, places-of}}
+use Rattle.mesh.{specs.Marks.{used, marks-in, are-marks, is-store, place-at, name-at}, specs.MarkPlaces.{rank, heads}, proofs.Marks.Rules.{mark-at}}
+use Rattle.mesh.{proofs.Marks.Rules.{name-of-place}}
+use Rattle.calls.{specs.Questions.{ask, Lengths, site-refusal}, specs.Marks.{store-length, marks-good, mark-refusal}, proofs.QuestionLaws.{true-size-good}}
+use Rattle.calls.{proofs.ChainLaws.{Site-good, site-zero, site-yes, site-stops}}
 use Rattle.marks.specs.Store.{last-name, Counted, Located}
 use Rattle.marks.proofs.Left.{rest-part}
 
@@ -40,13 +29,15 @@ part-is bs i =
     ap (λ (k : ℕ). take k (drop (place-bytes * i) bs)) e
 
 -- the places from i on
-from-place : (bs : List ℕ) (i : ℕ) → i < places → places-of (places - i) (drop (place-bytes * i) bs) ≡ place-at bs i ∷ places-of (places - (i + 1)) (drop (place-bytes * (i + 1)) bs)
+from-place : (bs : List ℕ) (i : ℕ) → i < places → places-of (places - i) (drop (place-bytes * i) bs) ≡ place-at bs i ∷ places-of (places - (i + 1))
+    (drop (place-bytes * (i + 1)) bs)
 unfolding places-of place-at
 from-place bs i l =
     let e : places - i ≡ suc (places - (i + 1)) = omega arith in
     let f : place-bytes * i + place-bytes ≡ place-bytes * (i + 1) = omega arith in
     ap (λ (k : ℕ). places-of k (drop (place-bytes * i) bs)) e
-    ∙ ap {B = List (List ℕ)} (λ (xs : List ℕ). place-at bs i ∷ places-of (places - (i + 1)) xs) (drop-drop place-bytes (place-bytes * i) bs ∙ ap (λ (k : ℕ). drop k bs) f)
+    ∙ ap {B = List (List ℕ)} (λ (xs : List ℕ). place-at bs i ∷ places-of (places - (i + 1)) xs)
+    (drop-drop place-bytes (place-bytes * i) bs ∙ ap (λ (k : ℕ). drop k bs) f)
 
 used-more : (p : List ℕ) (ps : List (List ℕ)) → is-zeros p ≡ false → used (p ∷ ps) ≡ p ∷ used ps
 unfolding used
@@ -95,12 +86,14 @@ unfolding last-name
 testing-none n bs = record { low = omega arith; left = refl }
 
 marks-step : (n : ℕ) (bs : List ℕ) (i : ℕ) → i < length (marks-in bs)
-    → are-marks n (last-name bs i) (drop i (marks-in bs)) ≡ (is-mark n (place-at bs i) && (before (last-name bs i) (name-at bs i) && are-marks n (last-name bs (i + 1)) (drop (i + 1) (marks-in bs))))
+    → are-marks n (last-name bs i) (drop i (marks-in bs)) ≡
+    (is-mark n (place-at bs i) && (before (last-name bs i) (name-at bs i) && are-marks n (last-name bs (i + 1)) (drop (i + 1) (marks-in bs))))
 unfolding are-marks last-name
 marks-step n bs i l =
     let e : suc i ≡ i + 1 = omega arith in
     ap (are-marks n (last-name bs i)) (drop-cons (marks-in bs) i [] l)
-    ∙ ap₂ {C = Bool} (λ (p x : List ℕ). is-mark n p && (before (last-name bs i) x && are-marks n x (drop (suc i) (marks-in bs)))) (mark-at bs i l) (ap name-in (mark-at bs i l) ∙ name-of-place bs i)
+    ∙ ap₂ {C = Bool} (λ (p x : List ℕ). is-mark n p && (before (last-name bs i) x && are-marks n x (drop (suc i) (marks-in bs)))) (mark-at bs i l)
+    (ap name-in (mark-at bs i l) ∙ name-of-place bs i)
     ∙ ap (λ (k : ℕ). is-mark n (place-at bs i) && (before (last-name bs i) (name-at bs i) && are-marks n (last-name bs k) (drop k (marks-in bs)))) e
 
 -- ---- names in turn
@@ -110,7 +103,8 @@ unfolding name-at
 rising-parts bs i =
     let e : place-bytes * i + name-bytes - place-bytes * i ≡ name-bytes = omega arith in ap (λ (k : ℕ). take k (drop (place-bytes * i) bs)) e
 
-pub rising-first : (bs : List ℕ) (i : ℕ) (r : Bool) → i ≡ 0 → r ≡ before (take (0 - 0) (drop 0 bs)) (take (place-bytes * i + name-bytes - place-bytes * i) (drop (place-bytes * i) bs))
+pub rising-first : (bs : List ℕ) (i : ℕ) (r : Bool) → i ≡ 0 → r ≡ before (take (0 - 0) (drop 0 bs))
+    (take (place-bytes * i + name-bytes - place-bytes * i) (drop (place-bytes * i) bs))
     → r ≡ before (last-name bs i) (name-at bs i)
 unfolding last-name
 rising-first bs i r z e =
@@ -192,7 +186,8 @@ module _ (bs x : List ℕ) (i : ℕ) (f : Ranking bs x i) (l : i < length (marks
 
   pub ranking-turn : r ≡ true → Ranking bs x (i + 1)
   ranking-turn h =
-      let e : rank x (drop i (marks-in bs)) ≡ suc (rank x (drop (i + 1) (marks-in bs))) = rank-from ∙ ap (λ (t : Bool). cond t (suc (rank x (drop (i + 1) (marks-in bs)))) 0) h in
+      let e : rank x (drop i (marks-in bs)) ≡ suc (rank x (drop (i + 1) (marks-in bs))) = rank-from ∙ ap
+      (λ (t : Bool). cond t (suc (rank x (drop (i + 1) (marks-in bs)))) 0) h in
       record { low = omega arith; left = omega (arith, f .left, e) }
 
   pub ranking-stop : r ≡ false → i ≡ rank x (marks-in bs)

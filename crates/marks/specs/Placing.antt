@@ -3,16 +3,9 @@
 --   mark-place n t x   the place of the name x and the image of the tables
 --   put-place bs i p   the store bs with p as place i
 -- Definitions only.
-use mathlib.Core.Path.{_≡_}
-use mathlib.Core.Bool.{true}
-use mathlib.Core.List.{List, _++_}
-use Prim.Native.Nat.{ℕ, _+_, _*_, _-_}
-use lib.ListN.{take, drop}
-use Rattle.mesh.specs.Tables.{Tables, graph-in}
-use Rattle.mesh.specs.Sound.{sound}
-use Rattle.mesh.specs.Image.{image-of}
-use Rattle.mesh.specs.Marks.{name-bytes, place-bytes, is-name, place-of}
-use Rattle.calls.specs.Questions.{lengths-of, write-refusal}
+use Rattle.lists.specs.Kit.{_≡_, true, List, _++_, ℕ, _+_, _*_, _-_, take, drop}
+use Rattle.mesh.specs.{Tables.{Tables, graph-in}, Sound.{sound}, Image.{image-of}, Marks.{name-bytes, place-bytes, is-name, place-of}}
+use Rattle.calls.specs.{Questions.{lengths-of}, Chains.{write-refusal}}
 
 pub record Markable (n : ℕ) (t : Tables) (x : List ℕ) : Type 0 where
   pub writable : write-refusal n (lengths-of t) (place-bytes - name-bytes) (sound n t) (graph-in n (t .links)) ≡ 0

@@ -3,13 +3,8 @@
 --   Counted bs k      how many places are used
 --   Located bs x used rank there   how many places are used, how many names stand before x, and whether the next is x
 -- Definitions only.
-use mathlib.Core.Path.{_≡_}
-use mathlib.Core.Bool.{Bool}
-use mathlib.Core.List.{List, []}
-use Prim.Native.Nat.{ℕ, zero, suc, _≤_}
-use lib.ListN.{length, drop}
-use Rattle.mesh.specs.Marks.{places, store-bytes, name-at, marks-in}
-use Rattle.mesh.specs.MarkPlaces.{rank, heads}
+use Rattle.lists.specs.Kit.{_≡_, Bool, List, [], ℕ, zero, suc, _≤_, length, drop}
+use Rattle.mesh.specs.{Marks.{places, store-bytes, name-at, marks-in}, MarkPlaces.{rank, heads}}
 
 unfoldable pub last-name : (store : List ℕ) → (i : ℕ) → List ℕ
 last-name bs zero = []

@@ -1,8 +1,6 @@
 // Named marks: set, removed, come back to. `store` puts question 17 to the lent store and says where a name stands. Places are moved within
 // the store, and nothing of one is copied to the stack.
-ghost use mathlib.Core.Path.{_≡_};
-ghost use Prim.Native.Nat.{_<_, _+_};
-ghost use lib.ListN.{length};
+ghost use Rattle.lists.specs.Kit.{_≡_, _<_, _+_, length};
 ghost use Rattle.mesh.specs.Lent.{lent};
 ghost use Rattle.mesh.specs.Marks.{place-bytes, places, store-bytes};
 ghost use Rattle.calls.specs.Contracts.{Set-contract, Remove-contract, Return-contract};

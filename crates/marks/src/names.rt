@@ -1,5 +1,5 @@
 // Names: 8 bytes, A to Z and 0 to 9, at least one, then spaces.
-ghost use mathlib.Core.Path.{_≡_};
+ghost use Rattle.lists.specs.Kit.{_≡_};
 ghost use Rattle.mesh.specs.Marks.{is-alphanumeric, alphanumerics-then-spaces, is-name, before};
 use super::zeros;
 

@@ -1,8 +1,5 @@
 // One place of the store: a name, an image and zeros to its end.
-ghost use mathlib.Core.Path.{_≡_};
-ghost use mathlib.Core.Bool.{true};
-ghost use Prim.Native.Nat.{_<_, _^_};
-ghost use lib.ListN.{length, drop};
+ghost use Rattle.lists.specs.Kit.{_≡_, true, _<_, _^_, length, drop};
 ghost use Rattle.mesh.specs.Limits.{size-good};
 ghost use Rattle.mesh.specs.Marks.{name-bytes, place-bytes, image-size, is-mark};
 use super::names;

@@ -1,7 +1,5 @@
 // Bytes of a store moved by one place.
-ghost use mathlib.Core.Path.{_≡_};
-ghost use Prim.Native.Nat.{_≤_, _+_};
-ghost use lib.ListN.{length};
+ghost use Rattle.lists.specs.Kit.{_≡_, _≤_, _+_, length};
 ghost use Rattle.mesh.specs.Marks.{place-bytes};
 ghost use Rattle.mesh.specs.MarkPlaces.{moved-up, moved-down};
 use super::places::PLACE;

@@ -1,8 +1,5 @@
 // The store of marks: 8 places, used ones first, in rising order of name.
-ghost use mathlib.Core.Path.{_≡_};
-ghost use mathlib.Core.Bool.{true};
-ghost use Prim.Native.Nat.{_≤_, _<_};
-ghost use lib.ListN.{length};
+ghost use Rattle.lists.specs.Kit.{_≡_, true, _≤_, _<_, length};
 ghost use Rattle.mesh.specs.Limits.{size-good};
 ghost use Rattle.mesh.specs.Lent.{lent};
 ghost use Rattle.mesh.specs.Sound.{sound};

@@ -1,7 +1,5 @@
 // Bytes in a row.
-ghost use mathlib.Core.Path.{_≡_};
-ghost use Prim.Native.Nat.{ℕ};
-ghost use lib.Dec.{eqb};
+ghost use Rattle.lists.specs.Kit.{_≡_, ℕ, eqb};
 ghost use Rattle.lists.specs.Lists.{all};
 ghost use Rattle.mesh.specs.Marks.{is-zeros};
 

@@ -1,25 +1,13 @@
 -- Laws of links and neighbours.
 -- In order: what a list of links joins, a link put in or taken out, proper links, graphs one link apart, neighbours in a set.
-use mathlib.Core.Path.{_≡_, refl, sym, ap, _∙_}
-use mathlib.Core.Logic.{_⊎_, inl, inr}
-use mathlib.Core.Bool.{Bool, true, false, _&&_, _||_, not, cond, and-true, and-false, or-comm, or-true}
-use mathlib.Core.List.{List, [], _∷_}
-use Prim.Native.Nat.{ℕ, _≤_, _<_}
-use native.Mathlib.Omega.{arith}
-use native.Mathlib.Nat.{le-antisymm}
-use lib.Dec.{ltb, eqb}
-use borrow.Author.Tests.{ltb-true, ltb-false, lt-ltb, eqb-true, eq-eqb}
-use Rattle.lists.specs.Lists.{range, count, filter, member, In}
-use Rattle.lists.specs.Facts.{Distinct, Each-once}
+use Rattle.lists.specs.Kit.{_≡_, refl, sym, ap, _∙_, _⊎_, inl, inr, Bool, true, false, _&&_, _||_, not, cond, and-true, and-false, or-comm, or-true, List, []}
+use Rattle.lists.{specs.Kit.{_∷_, ℕ, _≤_, _<_, arith, le-antisymm, ltb, eqb, ltb-true, ltb-false, lt-ltb, eqb-true, eq-eqb}, specs.Lists.{range, count, filter}}
+use Rattle.lists.specs.Kit.{⊎-elim}
+use Rattle.lists.{specs.Lists.{member, In}, specs.Facts.{Distinct, Each-once}, proofs.Tests.{bool-cases, never, and-left, and-right, and-both, or-cases}}
+use Rattle.lists.{proofs.Tests.{or-left, or-right, iff-eq, swap-or}, proofs.Member.{member-in, in-member}, proofs.Range.{in-range, range-in, distinct-range}}
+use Rattle.lists.{proofs.Count.{count-mono, count-both}, proofs.Distinct.{count-sub}, proofs.Filter.{count-filter}}
 use Rattle.mesh.specs.Graph.{Link, Graph, radios, other-ends, linked, neighbours-in, degree, neighbours-among, link, link-before, same-link, with-link}
-use Rattle.mesh.specs.Graph.{without-link, new-links, relinked, proper}
-use Rattle.lists.proofs.Tests.{bool-cases, never, and-left, and-right, and-both, or-cases, or-left, or-right, iff-eq, swap-or}
-use Rattle.lists.proofs.Member.{member-in, in-member}
-use Rattle.lists.proofs.Range.{in-range, range-in, distinct-range}
-use Rattle.lists.proofs.Count.{count-mono, count-both}
-use Rattle.lists.proofs.Distinct.{count-sub}
-use Rattle.lists.proofs.Filter.{count-filter}
-use Rattle.mesh.specs.Valid.{smaller, larger}
+use Rattle.mesh.specs.{Graph.{without-link, new-links, relinked, proper}, Valid.{smaller, larger}}
 
 -- ---- what links join
 
@@ -38,11 +26,8 @@ both-eq a b v w h = (sym (eqb-true a v (and-left (eqb a v) (eqb b w) h)), sym (e
 
 pub ends-of : (a b v w : ℕ) → ends a b v w ≡ true → Ends a b v w
 unfolding ends
-ends-of a b v w h = go (or-cases (eqb a v && eqb b w) (eqb a w && eqb b v) h)
-  where
-    go : ((eqb a v && eqb b w) ≡ true) ⊎ ((eqb a w && eqb b v) ≡ true) → Ends a b v w
-    go (inl e) = inl (both-eq a b v w e)
-    go (inr e) = let r = both-eq a b w v e in inr (r .1, r .0)
+ends-of a b v w h =
+    ⊎-elim (λ e. inl (both-eq a b v w e)) (λ e. let r = both-eq a b w v e in inr (r .1, r .0)) (or-cases (eqb a v && eqb b w) (eqb a w && eqb b v) h)
 
 pub of-ends : (a b v w : ℕ) → Ends a b v w → ends a b v w ≡ true
 unfolding ends
@@ -198,19 +183,11 @@ linked-by-proper n (l ∷ ls) p v w h = go (linked-by-proper n ls (p .2) v w) (o
 -- no radio is its own neighbour
 pub linked-self : (g : Graph) → proper (g .n) (g .links) ≡ true → (v : ℕ) → linked g v v ≡ false
 unfolding linked
-linked-self g p v = go (bool-cases (linked g v v))
-  where
-    go : (linked g v v ≡ true) ⊎ (linked g v v ≡ false) → linked g v v ≡ false
-    go (inl e) = absurd (linked-by-proper (g .n) (g .links) (proper-of (g .n) (g .links) p) v v e .2 refl)
-    go (inr e) = e
+linked-self g p v = ⊎-elim (λ e. absurd (linked-by-proper (g .n) (g .links) (proper-of (g .n) (g .links) p) v v e .2 refl)) (λ e. e) (bool-cases (linked g v v))
 
 proper-link : (n a b : ℕ) → a < n → b < n → (a ≡ b → ⊥) → (link a b .low < link a b .high) × (link a b .high < n)
 unfolding link
-proper-link n a b la lb ne = go (bool-cases (ltb a b))
-  where
-    go : (ltb a b ≡ true) ⊎ (ltb a b ≡ false) → (link a b .low < link a b .high) × (link a b .high < n)
-    go (inl e) = rw e (ltb-true a b e, lb)
-    go (inr e) = rw e (omega (arith, ltb-false a b e, ne), la)
+proper-link n a b la lb ne = ⊎-elim (λ e. rw e (ltb-true a b e, lb)) (λ e. rw e (omega (arith, ltb-false a b e, ne), la)) (bool-cases (ltb a b))
 
 proper-with : (n : ℕ) (l : Link) (ls : List Link) → l .low < l .high → l .high < n → Proper n ls → Proper n (with-link l ls)
 unfolding with-link
@@ -276,11 +253,7 @@ module _ {p q : Graph} {a b : ℕ} (apart : Adds p q a b) where
   adds-keeps v w h = apart .adds v w ∙ or-right (ends a b v w) (linked p v w) h
 
   pub adds-cases : (v w : ℕ) → linked q v w ≡ true → (linked p v w ≡ true) ⊎ Ends a b v w
-  adds-cases v w h = go (or-cases (ends a b v w) (linked p v w) (sym (apart .adds v w) ∙ h))
-    where
-      go : (ends a b v w ≡ true) ⊎ (linked p v w ≡ true) → (linked p v w ≡ true) ⊎ Ends a b v w
-      go (inl e) = inr (ends-of a b v w e)
-      go (inr e) = inl e
+  adds-cases v w h = ⊎-elim (λ e. inr (ends-of a b v w e)) (λ e. inl e) (or-cases (ends a b v w) (linked p v w) (sym (apart .adds v w) ∙ h))
 
   pub adds-has : linked q a b ≡ true
   adds-has = apart .adds a b ∙ or-left (ends a b a b) (linked p a b) (of-ends a b a b (inl (refl, refl)))

@@ -1,11 +1,6 @@
 -- Question 1 as what it asks, both ways.
-use mathlib.Core.Path.{_≡_}
-use mathlib.Core.Bool.{true}
-use Prim.Native.Nat.{ℕ, _≤_}
-use lib.Dec.{leb}
-use borrow.Author.Tests.{leb-true, le-leb}
+use Rattle.lists.{specs.Kit.{_≡_, true, ℕ, _≤_, leb, leb-true, le-leb}, proofs.Tests.{and-left, and-right, and-both}}
 use Rattle.mesh.specs.Limits.{max-radios, size-good}
-use Rattle.lists.proofs.Tests.{and-left, and-right, and-both}
 
 pub size-good-true : (n : ℕ) → size-good n ≡ true → (1 ≤ n) × (n ≤ max-radios)
 unfolding size-good

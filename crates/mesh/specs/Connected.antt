@@ -9,14 +9,8 @@
 -- The connected part of v is its connected core at level 0. That rounds give what is reachable is `core-of-iff` in
 -- proofs/Trees/Reach.antt; of the backbone it is `backbone-iff` in proofs/Trees/Listed.antt, and there `backbone-one-part` says that
 -- a site in one part has document 01's backbone. Definitions only.
-use mathlib.Core.Path.{_≡_}
-use mathlib.Core.Bool.{Bool, true, _&&_, _||_}
-use mathlib.Core.List.{List, [], _∷_, map}
-use Prim.Native.Nat.{ℕ, zero, suc, _≤_, _<_, max}
-use lib.Dec.{ltb, leb, eqb}
-use Rattle.lists.specs.Lists.{filter, member}
-use Rattle.mesh.specs.Graph.{Graph, radios, linked, neighbours-among}
-use Rattle.mesh.specs.Cores.{number, numbers}
+use Rattle.lists.specs.{Kit.{_≡_, Bool, true, _&&_, _||_, List, [], _∷_, map, ℕ, zero, suc, _≤_, _<_, max, ltb, leb, eqb}, Lists.{filter, member}}
+use Rattle.mesh.specs.{Graph.{Graph, radios, linked, neighbours-among}, Cores.{number, numbers}}
 
 -- ---- connected cores
 

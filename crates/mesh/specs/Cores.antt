@@ -6,13 +6,7 @@
 --   number g v        the core number of v: how many of these have v
 --   numbers g         the core numbers by radio
 -- That `number` is the core number is `number-core` in proofs/Cores/Peeling.antt. Definitions only.
-use mathlib.Core.Path.{_≡_}
-use mathlib.Core.Bool.{Bool, true, cond}
-use mathlib.Core.List.{List, [], _∷_, map}
-use Prim.Native.Nat.{ℕ, zero, suc, _+_, _≤_, _<_}
-use lib.Dec.{leb, eqb}
-use lib.ListN.{length}
-use Rattle.lists.specs.Lists.{filter, member}
+use Rattle.lists.specs.{Kit.{_≡_, Bool, true, cond, List, [], _∷_, map, ℕ, zero, suc, _+_, _≤_, _<_, leb, eqb, length}, Lists.{filter, member}}
 use Rattle.mesh.specs.Graph.{Graph, radios, linked, neighbours-among, neighbours-in}
 
 -- ---- the largest group

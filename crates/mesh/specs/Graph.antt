@@ -10,13 +10,7 @@
 --   Allowed most up a b g    questions 4 to 7 of a link call got yes, where `most` bounds the neighbours of a radio
 --   proper, ascending        links as an image lists them: lower radio first, radios below n, by lower and then higher
 -- Laws are in proofs/GraphLaws.antt. Definitions only.
-use mathlib.Core.Path.{_≡_}
-use mathlib.Core.Logic.{_⊎_}
-use mathlib.Core.Bool.{Bool, true, not, _&&_, _||_, cond}
-use mathlib.Core.List.{List, [], _∷_}
-use Prim.Native.Nat.{ℕ, _<_}
-use lib.Dec.{ltb, eqb}
-use Rattle.lists.specs.Lists.{range, count, member}
+use Rattle.lists.specs.{Kit.{_≡_, _⊎_, Bool, true, not, _&&_, _||_, cond, List, [], _∷_, ℕ, _<_, ltb, eqb}, Lists.{range, count, member}}
 
 -- an unordered pair of radios, the lower one first
 pub record Link : Type 0 where

@@ -16,17 +16,10 @@
 --   payload-at bs i          the payload of block i, as the block reader gives it
 -- That `is-image` is `Tables-image` and `other-size` is `Other-size` is `is-image-tables` (proofs/Images/Tables.antt) and
 -- `other-size-iff` (proofs/Images/OtherSize.antt). Definitions only.
-use mathlib.Core.Path.{_≡_}
-use mathlib.Core.Bool.{Bool, _&&_, not, cond, true}
-use mathlib.Core.List.{List, [], _∷_, _++_, map, flatMap}
-use Prim.Native.Nat.{ℕ, zero, suc, _+_, _*_, _-_, _/_, _%_}
-use lib.Dec.{ltb, eqb}
-use lib.ListN.{length, getD, take, drop, replicate}
-use Rattle.lists.specs.Lists.{range, all, same, Entries-below}
-use Rattle.mesh.specs.Graph.{Link, Graph, graph, proper, ascending}
-use Rattle.mesh.specs.Tables.{Tables, graph-in, tables-of, Tables-of-size}
-use Rattle.mesh.specs.Limits.{max-neighbours, size-good}
-use Rattle.mesh.specs.Sound.{sound, sound-within}
+use Rattle.lists.specs.{Kit.{_≡_, Bool, _&&_, not, cond, true, List, [], _∷_, _++_, map, flatMap, ℕ, zero, suc, _+_, _*_, _-_, _/_, _%_, ltb, eqb, length}}
+use Rattle.lists.specs.{Kit.{getD, take, drop, replicate}, Lists.{range, all, same, Entries-below}}
+use Rattle.mesh.specs.{Graph.{Link, Graph, graph, proper, ascending}, Tables.{Tables, graph-in, tables-of, Tables-of-size}, Limits.{max-neighbours}}
+use Rattle.mesh.specs.{Limits.{size-good}, Sound.{sound, sound-within}}
 
 -- document 01: blocks of 512 bytes
 abbrev pub block-bytes : ℕ

@@ -1,6 +1,5 @@
 -- Links, numbers and order as a call is lent them: what its contract says of the three references. Definitions only.
-use mathlib.Core.List.{List}
-use Prim.Native.Nat.{ℕ}
+use Rattle.lists.specs.Kit.{List, ℕ}
 use denote.Ref.{RefT, now}
 use Rattle.mesh.specs.Tables.{Tables, tables}
 

@@ -9,15 +9,9 @@
 --   stretch-down          document 01: how a link going down lays the stretch out anew
 --   new-order up a b g xs the order after the call: xs with the stretch of level K laid out anew
 -- Laws are in proofs/Links/Call.antt. Definitions only.
-use mathlib.Core.Bool.{Bool, true, false, not, cond}
-use mathlib.Core.List.{List, [], _∷_, _++_}
-use Prim.Native.Nat.{ℕ, zero, suc, _+_, _-_, min}
-use lib.Dec.{ltb, leb, eqb}
-use lib.IntN.{ℤ, pos, negsuc}
-use lib.ListN.{length, take, drop}
-use Rattle.lists.specs.Lists.{count, filter, member}
-use Rattle.mesh.specs.Graph.{Graph, radios, linked, neighbours-among, relinked}
-use Rattle.mesh.specs.Cores.{number}
+use Rattle.lists.specs.{Kit.{Bool, true, false, not, cond, List, [], _∷_, _++_, ℕ, zero, suc, _+_, _-_, min, ltb, leb, eqb, ℤ, pos, negsuc, length, take, drop}}
+use Rattle.lists.specs.{Lists.{count, filter, member}}
+use Rattle.mesh.specs.{Graph.{Graph, radios, linked, neighbours-among, relinked}, Cores.{number}}
 
 -- ---- what changes
 

@@ -5,9 +5,7 @@
 --   row-bytes         how many bytes a row of the links table has
 --   size-good         question 1: is n from 1 to 512?
 -- Definitions only.
-use mathlib.Core.Bool.{Bool, _&&_}
-use Prim.Native.Nat.{ℕ}
-use lib.Dec.{leb}
+use Rattle.lists.specs.Kit.{Bool, _&&_, ℕ, leb}
 
 -- document 01: a site has 1 to 512 radios
 abbrev pub max-radios : ℕ

@@ -3,11 +3,7 @@
 --   heads x ps             the first of the places has the name x
 --   moved-up, moved-down   bytes of a store moved one place up or down
 -- Laws are in proofs/Marks/. Definitions only.
-use mathlib.Core.Bool.{Bool, false, cond}
-use mathlib.Core.List.{List, [], _∷_, _++_}
-use Prim.Native.Nat.{ℕ, suc, _+_, _-_}
-use lib.ListN.{take, drop}
-use Rattle.lists.specs.Lists.{same}
+use Rattle.lists.specs.{Kit.{Bool, false, cond, List, [], _∷_, _++_, ℕ, suc, _+_, _-_, take, drop}, Lists.{same}}
 use Rattle.mesh.specs.Marks.{place-bytes, before, name-in}
 
 -- ---- where a name stands

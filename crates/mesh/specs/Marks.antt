@@ -20,13 +20,8 @@
 --   place-at bs i, name-at bs i   place i of the store bs, and its name
 --   Mark-rules, Store-rules   W-211's rules, place by place, as the request says them; `store-good-iff` has that `is-store` decides them
 -- Laws are in proofs/Marks/. Definitions only.
-use mathlib.Core.Path.{_≡_}
-use mathlib.Core.Bool.{Bool, true, false, _&&_, _||_, cond}
-use mathlib.Core.List.{List, [], _∷_, _++_, flatMap}
-use Prim.Native.Nat.{ℕ, zero, suc, _+_, _*_, _-_, _≤_, _<_}
-use lib.Dec.{ltb, leb, eqb}
-use lib.ListN.{length, getD, take, drop, replicate}
-use Rattle.lists.specs.Lists.{all, same}
+use Rattle.lists.specs.{Kit.{_≡_, Bool, true, false, _&&_, _||_, cond, List, [], _∷_, _++_, flatMap, ℕ, zero, suc, _+_, _*_, _-_, _≤_, _<_, ltb, leb, eqb}}
+use Rattle.lists.specs.{Kit.{length, getD, take, drop, replicate}, Lists.{all, same}}
 use Rattle.mesh.specs.Image.{block-bytes, block-count, word-at, is-image}
 
 -- "A name is 8 bytes"

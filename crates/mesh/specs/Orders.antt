@@ -7,15 +7,8 @@
 --   nobody               no radio
 --   First-later f v w xs   w is the first neighbour of v that stands after v in xs: there is none between
 -- Laws are in proofs/Cores/Orders.antt. Definitions only.
-use mathlib.Core.Path.{_≡_}
-use mathlib.Core.Bool.{Bool, true, false, _&&_, cond}
-use mathlib.Core.List.{List, [], _∷_, _++_}
-use Prim.Native.Nat.{ℕ}
-use lib.Dec.{leb, eqb}
-use lib.ListN.{length}
-use Rattle.lists.specs.Lists.{range, count, filter, all, In}
-use Rattle.mesh.specs.Graph.{Graph, linked, neighbours-among}
-use Rattle.mesh.specs.Cores.{number}
+use Rattle.lists.specs.{Kit.{_≡_, Bool, true, false, _&&_, cond, List, [], _∷_, _++_, ℕ, leb, eqb, length}, Lists.{range, count, filter, all, In}}
+use Rattle.mesh.specs.{Graph.{Graph, linked, neighbours-among}, Cores.{number}}
 
 -- document 01: the order holds each radio once
 unfoldable pub each-once : (n : ℕ) → List ℕ → Bool

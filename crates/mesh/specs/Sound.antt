@@ -9,15 +9,8 @@
 --   sound-within       all conditions, where `most` bounds the bits of a row
 --   sound n t          document 01: the tables t of n radios are sound
 -- The conditions on the order alone are `each-once`, `rising` and `few-later` of specs/Orders.antt. Definitions only.
-use mathlib.Core.Bool.{Bool, _&&_, not, Bool·beq}
-use mathlib.Core.List.{List}
-use Prim.Native.Nat.{ℕ, _-_}
-use lib.Dec.{leb}
-use lib.ListN.{getD}
-use Rattle.mesh.specs.Limits.{max-radios, max-neighbours}
-use Rattle.lists.specs.Lists.{range, count, all}
-use Rattle.mesh.specs.Orders.{each-once, rising, few-later}
-use Rattle.mesh.specs.Tables.{Tables, marked}
+use Rattle.lists.specs.{Kit.{Bool, _&&_, not, Bool·beq, List, ℕ, _-_, leb, getD}, Lists.{range, count, all}}
+use Rattle.mesh.specs.{Limits.{max-radios, max-neighbours}, Orders.{each-once, rising, few-later}, Tables.{Tables, marked}}
 
 -- ---- rows
 

@@ -16,17 +16,9 @@
 --   In-turn wt ks        weights fall along ks; among equal ones the lower radio rises, and then the higher one
 --   Staircase-tree g ks  what the kept links are shown to be
 -- That `staircase` is such a tree is `staircase-tree` in crate forests. Definitions only.
-use mathlib.Core.Path.{_≡_}
-use mathlib.Core.Logic.{_⊎_, _↔_}
-use mathlib.Core.Bool.{Bool, true, _&&_, _||_, cond}
-use mathlib.Core.List.{List, [], _∷_, _++_}
-use Prim.Native.Nat.{ℕ, zero, suc, _+_, _≤_, _<_, min}
-use lib.Dec.{ltb, leb, eqb}
-use lib.ListN.{length}
-use Rattle.lists.specs.Lists.{member}
-use Rattle.mesh.specs.Graph.{Link, Graph, graph, In-links, link-before}
-use Rattle.mesh.specs.Cores.{number, numbers}
-use Rattle.mesh.specs.Connected.{Reachable, In-core, reached, greatest}
+use Rattle.lists.specs.{Kit.{_≡_, _⊎_, _↔_, Bool, true, _&&_, _||_, cond, List, [], _∷_, _++_, ℕ, zero, suc, _+_, _≤_, _<_, min, ltb, leb, eqb, length}}
+use Rattle.lists.specs.{Lists.{member}}
+use Rattle.mesh.specs.{Graph.{Link, Graph, graph, In-links, link-before}, Cores.{number, numbers}, Connected.{Reachable, In-core, reached, greatest}}
 
 -- ---- weights
 

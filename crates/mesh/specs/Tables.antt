@@ -9,16 +9,9 @@
 --   tables-of g xs     the tables of the graph g with the order xs
 --   Tables-of-size     tables of n radios as they are lent: lengths, and rows of bytes
 -- Laws are in proofs/Tables/. Definitions only.
-use mathlib.Core.Path.{_≡_}
-use mathlib.Core.Bool.{Bool, cond}
-use mathlib.Core.List.{List, map, flatMap}
-use Prim.Native.Nat.{ℕ, zero, suc, _+_, _*_, _-_, _/_, _%_, _^_}
-use lib.Dec.{eqb}
-use lib.ListN.{length, getD, set}
-use Rattle.mesh.specs.Limits.{row-bytes}
-use Rattle.lists.specs.Lists.{Entries-below, range, filter}
-use Rattle.mesh.specs.Graph.{Link, Graph, graph, linked}
-use Rattle.mesh.specs.Cores.{numbers}
+use Rattle.lists.specs.{Kit.{_≡_, Bool, cond, List, map, flatMap, ℕ, zero, suc, _+_, _*_, _-_, _/_, _%_, _^_, eqb, length, getD, set}, Lists.{Entries-below}}
+use Rattle.lists.specs.{Lists.{range, filter}}
+use Rattle.mesh.specs.{Limits.{row-bytes}, Graph.{Link, Graph, graph, linked}, Cores.{numbers}}
 
 -- document 01: links, 64 bytes a radio; numbers, one byte a radio; order, n radio numbers
 pub record Tables : Type 0 where

@@ -9,17 +9,9 @@
 --   tree g, node-name    the same, worked out
 -- That the tree worked out is the one defined by sets, and the only one, is `tree-iff` in proofs/Trees/Unique.antt; of names it
 -- is `node-name-iff` there. Definitions only.
-use mathlib.Core.Path.{_≡_}
-use mathlib.Core.Logic.{_⊎_, _↔_}
-use mathlib.Core.Bool.{Bool, true, false, _&&_, cond}
-use mathlib.Core.List.{List, [], _∷_, map, flatMap, List·Memᴰ}
-use Prim.Native.Nat.{ℕ, zero, suc, _-_, _≤_, _<_}
-use lib.Dec.{eqb}
-use Rattle.lists.specs.Lists.{range, filter, head-or}
-use Rattle.mesh.specs.Graph.{Graph, radios}
-use Rattle.mesh.specs.Cores.{number}
-use Rattle.mesh.specs.Connected.{In-core, core-of}
-use Rattle.mesh.specs.declared.Node.{Node}
+use Rattle.lists.specs.{Kit.{_≡_, _⊎_, _↔_, Bool, true, false, _&&_, cond, List, [], _∷_, map, flatMap, List·Memᴰ, ℕ, zero, suc, _≤_, _<_, eqb}, Lists.{range}}
+use Rattle.lists.specs.{Lists.{filter, head-or}}
+use Rattle.mesh.specs.{Graph.{Graph, radios}, Cores.{number}, Connected.{In-core, core-of}, declared.Node.{Node}}
 
 -- document 01: the root's name, and its parent
 abbrev pub root-name : ℕ

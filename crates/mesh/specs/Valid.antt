@@ -1,12 +1,8 @@
 -- What every accepted call keeps: the hypotheses of the theory.
 --   Valid most g xs      g has proper links in their order and at most so many neighbours a radio, and xs is a k-order of it
 --   smaller, larger      of the graphs before and after a link call, the one without the link and the one with it
-use mathlib.Core.Path.{_≡_}
-use mathlib.Core.Bool.{Bool, true, false}
-use mathlib.Core.List.{List}
-use Prim.Native.Nat.{ℕ, _≤_, _<_}
-use Rattle.mesh.specs.Graph.{Graph, degree, relinked, proper, ascending}
-use Rattle.mesh.specs.Orders.{is-k-order}
+use Rattle.lists.specs.Kit.{_≡_, Bool, true, false, List, ℕ, _≤_, _<_}
+use Rattle.mesh.specs.{Graph.{Graph, degree, relinked, proper, ascending}, Orders.{is-k-order}}
 
 pub record Valid (most : ℕ) (g : Graph) (xs : List ℕ) : Type 0 where
   pub links-proper : proper (g .n) (g .links) ≡ true

@@ -1,6 +1,6 @@
 // What a site is: its description with the three limits, and the record of a shell tree's node.
 // The definitions of document 01 are in specs/, their theory in proofs/. Nothing is refused here: there is no call.
-ghost use mathlib.Core.Path.{_≡_};
+ghost use Rattle.lists.specs.Kit.{_≡_};
 ghost use Rattle.mesh.specs.Limits.{max-radios, max-neighbours, row-bytes};
 
 // The description of a site: how many radios it has.

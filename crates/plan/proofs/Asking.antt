@@ -1,37 +1,17 @@
--- The questions of a link call, asked of the tables: what each outcome of the code gives, on plain values.
--- In order: sound tables, the number of each outcome, what a plan is made from, each outcome, what a plan is applied to.
-use mathlib.Core.Path.{_≡_, refl, sym, ap, subst, _∙_}
-use mathlib.Core.Logic.{_⊎_, inl, inr}
-use mathlib.Core.Bool.{Bool, true, false, _&&_}
-use mathlib.Core.List.{List}
-use Prim.Native.Nat.{ℕ, _≤_, _<_, min}
-use native.Mathlib.Omega.{arith}
-use native.Mathlib.Nat.{le-trans, le-of-eq}
-use lib.Dec.{leb}
-use lib.ListN.{length, getD}
-use borrow.Author.Tests.{leb-true, leb-false, le-leb, lt-leb}
-use Rattle.mesh.specs.Limits.{max-radios, max-neighbours}
-use Rattle.lists.specs.Lists.{range}
-use Rattle.mesh.specs.Graph.{Graph, radios, linked, neighbours-in}
-use Rattle.mesh.specs.Cores.{number, numbers}
-use Rattle.mesh.specs.Tables.{Tables, graph-in}
-use Rattle.mesh.specs.Sound.{number-in, rows-proper, sound}
-use Rattle.lists.proofs.Tests.{bool-cases}
-use Rattle.lists.proofs.Range.{range-in}
-use Rattle.lists.proofs.Filter.{length-filter, filter-ext}
-use Rattle.mesh.proofs.Cores.Peeling.{getD-numbers}
-use Rattle.mesh.proofs.Tables.Rows.{few-of}
-use Rattle.mesh.proofs.Tables.ReadBack.{proper-graph-in, ascending-graph-in, degree-graph-in}
-use Rattle.mesh.proofs.Tables.Soundness.{Right, sound-right}
-use Rattle.calls.specs.Questions.{ask, Lengths, lengths-of, size-good, site-lengths, answer-length, lent-refusal, site-refusal, ends-refusal, link-refusal}
-use Rattle.calls.proofs.QuestionLaws.{ask-no, ask-later, size-good-true, true-size-good, true-site-lengths, answer-length-true, true-answer-length}
-use Rattle.calls.proofs.ChainLaws.{Lent-good, lent-zero, lent-yes, lent-later, site-yes, ends-zero, link-zero}
-use Rattle.soundness.specs.Checks.{examinable, Examined}
-use Rattle.soundness.proofs.HighCounts.{examined-high}
-use Rattle.plan.specs.Plans.{Ready}
-use Rattle.plan.specs.Asked.{Asked}
-use Rattle.plan.specs.Plans.{Applicable}
+-- The questions of a link call, asked of the tables, on plain values.
+-- In order: sound tables, what a plan is made from, the questions, what a plan is applied to.
+use Rattle.lists.{specs.Kit.{_≡_, sym, ap, _∙_, Bool, true, _&&_, List, ℕ, _*_, _≤_, _<_, arith, le-trans, le-of-eq, leb, length, getD}, specs.Lists.{range}}
+use Rattle.lists.{proofs.Range.{range-in}, proofs.Filter.{length-filter, filter-ext}}
+use Rattle.mesh.{specs.Limits.{max-radios, max-neighbours, row-bytes}, specs.Graph.{Graph, radios, linked, neighbours-in}, specs.Cores.{number, numbers}}
+use Rattle.mesh.{specs.Tables.{Tables, graph-in}, specs.Sound.{number-in, rows-proper, sound}, proofs.Cores.Peeling.{getD-numbers}, proofs.Tables.Rows.{few-of}}
+use Rattle.mesh.{proofs.Tables.ReadBack.{proper-graph-in, ascending-graph-in, degree-graph-in}, proofs.Tables.Soundness.{Right, sound-right}}
+use Rattle.calls.{specs.Questions.{lengths-of, answer-length, ends-refusal}, proofs.QuestionLaws.{answer-length-true}}
+use Rattle.calls.{proofs.ChainLaws.{Site-good, site-zero, ends-zero, link-zero}}
+use Rattle.conditions.specs.Conditions.{Placed, Not-lower}
+use Rattle.soundness.{specs.Checks.{Asked}, proofs.HighCounts.{counts-neighbours-in}, proofs.RadioLaws.{site-later-no, site-later-yes}}
+use Rattle.plan.specs.Plans.{Ready, Applicable}
 use Rattle.plan.proofs.EndsLaws.{proper-rows}
+use Rattle.calls.specs.Chains.{link-refusal}
 
 -- ---- sound tables
 
@@ -53,112 +33,61 @@ high-numbers g ns e v l =
     (filter-ext f h (range 0 (g .n)) (λ w m. let k : w < g .n = omega (arith, range-in 0 (g .n) w m) in rw (is v l, is w k)))
     ∙ length-filter h (range 0 (g .n))
 
--- ---- the number of each outcome
+-- ---- what a plan is made from: places and not-lower counts of every radio are in ps and hs
 
-module _ (up : Bool) (n a b : ℕ) (t : Tables) (w : ℕ) where
+pub ready-of : (up : Bool) (n a b : ℕ) (t : Tables) (others : Bool) → Site-good n (lengths-of t) others (sound n t) → (ps hs : List ℕ) → Placed n (t .order) ps
+    → Not-lower n (t .links) (t .numbers) hs → max-radios ≤ length ps → max-radios ≤ length hs → ends-refusal max-neighbours up n a b (graph-in n (t .links)) ≡
+    0
+    → Ready up n a b t ps hs
+unfolding lengths-of graph-in
+ready-of up n a b t others good ps hs placed counts lp lh z =
+    let g = graph-in n (t .links) in
+    let right = right-of n t (good .lent .lengths .numbers) (good .is-sound) in
+    record {
+      small = good .lent .most;
+      links-length = good .lent .lengths .links;
+      numbers-length = good .lent .lengths .numbers;
+      order-length = good .lent .lengths .order;
+      is-sound = good .is-sound;
+      allowed = ends-zero max-neighbours up a b g z;
+      places-length = omega (arith, good .lent .most);
+      not-lower-length = omega (arith, good .lent .most);
+      placed = λ i l low high. placed .at i l;
+      counted = λ v l e.
+          counts-neighbours-in n t (good .is-sound) (good .lent .most) hs counts v l ∙ high-numbers g (t .numbers) (right .core-numbers) v l;
+    }
+
+-- ---- the questions: q is the number of 1 to 3
+
+module _ (up : Bool) (n a b : ℕ) (t : Tables) (w : ℕ) (ps hs : List ℕ) (q : ℕ) (asked : Asked n t (answer-length n w) ps hs q) where
   abbrev g : Graph
   g = graph-in n (t .links)
 
-  abbrev asked : ℕ
-  asked = link-refusal up n a b (lengths-of t) w (sound n t) g
+  abbrev R : ℕ
+  R = link-refusal up n a b (lengths-of t) w (sound n t) g
 
-  pub asked-lengths : (lent-refusal n (lengths-of t) (answer-length n w) 0 ≡ 0 → ⊥)
-      → lent-refusal n (lengths-of t) (answer-length n w) 0 ≡ asked
-  unfolding link-refusal site-refusal
-  asked-lengths h =
-      lent-later n (lengths-of t) (answer-length n w) 0 _ (λ good. absurd (h (lent-yes n (lengths-of t) (answer-length n w) 0 good)))
+  pub asked-no : (q ≡ 0 → ⊥) → q ≡ R
+  asked-no h = site-later-no n (lengths-of t) (answer-length n w) (sound n t) q (asked .number) _ h
 
-  module _ (good : Lent-good n (lengths-of t) (answer-length n w)) where
-    pub asked-unsound : sound n t ≡ false → 3 ≡ asked
-    unfolding link-refusal site-refusal
-    asked-unsound e = sym (lent-yes n (lengths-of t) (answer-length n w) _ good ∙ ask-no 3 (sound n t) _ e)
+  module _ (zero : q ≡ 0) where
+    good : Site-good n (lengths-of t) (answer-length n w) (sound n t)
+    good = site-zero n (lengths-of t) (answer-length n w) (sound n t) 0 (sym (asked .number) ∙ zero) .0
 
-    pub asked-ends : sound n t ≡ true → ends-refusal max-neighbours up n a b g ≡ asked
-    unfolding link-refusal
-    asked-ends e =
-        sym (site-yes n (lengths-of t) (answer-length n w) (sound n t) (ends-refusal max-neighbours up n a b g) (record { lent = good; is-sound = e }))
-
-    -- scratch for as many radios as a site may have lets the check answer question 3
-    pub examined-sound : (ps qs hs is : List ℕ) (r : Bool) → max-radios ≤ length ps → max-radios ≤ length hs → Examined n t ps qs hs is r
-        → r ≡ sound n t
-    unfolding examinable
-    examined-sound ps qs hs is r lp lh x =
-        let room : n ≤ min (length ps) (length hs) = omega (arith, good .most) in
-        x .answer
-        ∙ rw (true-size-good n (good .least) (good .most), true-site-lengths n (lengths-of t) (good .lengths), true-answer-length n (min (length ps) (length hs)) room)
-
-    pub rows-asked : sound n t ≡ true → rows-proper max-neighbours n (t .links) ≡ true
+    right : Right max-neighbours n t
     unfolding lengths-of
-    rows-asked e = right-of n t (good .lengths .numbers) e .rows
+    right = right-of n t (good .lent .lengths .numbers) (good .is-sound)
 
-    -- ---- what a plan is made from
+    pub ends-room : (n ≤ max-radios) × (length (t .links) ≡ row-bytes * n) × (rows-proper max-neighbours n (t .links) ≡ true)
+    unfolding lengths-of
+    ends-room = (good .lent .most, good .lent .lengths .links, right .rows)
 
-    pub ready-asked : (ps qs hs is : List ℕ) → max-radios ≤ length ps → max-radios ≤ length hs → sound n t ≡ true → Examined n t ps qs hs is true
-        → ends-refusal max-neighbours up n a b g ≡ 0 → Ready up n a b t qs is
-    unfolding lengths-of graph-in
-    ready-asked ps qs hs is lp lh e x z =
-        let right = right-of n t (good .lengths .numbers) e in
-        record {
-          small = good .most;
-          links-length = good .lengths .links;
-          numbers-length = good .lengths .numbers;
-          order-length = good .lengths .order;
-          is-sound = e;
-          allowed = ends-zero max-neighbours up a b g z;
-          places-length = omega (arith, good .most, x .places-long);
-          highs-length = omega (arith, good .most, x .highs-long);
-          placed = λ i l low high. x .placed refl .at i l;
-          counted = λ v l e. examined-high x v l ∙ high-numbers g (t .numbers) (right .core-numbers) v l;
-        }
+    pub asked-ends : ends-refusal max-neighbours up n a b g ≡ R
+    asked-ends = sym (site-later-yes n (lengths-of t) (answer-length n w) (sound n t) q (asked .number) _ zero)
 
--- ---- each outcome
-
-module _ (up : Bool) (n a b : ℕ) (t : Tables) (w : ℕ) where
-  -- the code's first number
-  abbrev lent : ℕ
-  lent = lent-refusal n (lengths-of t) (answer-length n w) 0
-
-  pub lent-asked : (r : ℕ) → r ≡ lent → r ≡ 0 → Lent-good n (lengths-of t) (answer-length n w)
-  lent-asked r e z = lent-zero n (lengths-of t) (answer-length n w) 0 (sym e ∙ z) .0
-
-  pub refused-lengths : (r : ℕ) (places highs : List ℕ) → r ≡ lent → (r ≡ 0 → ⊥) → Asked up n a b t w places highs r
-  refused-lengths r ps hs e h = record { number = e ∙ asked-lengths up n a b t w (λ z. h (e ∙ z)); ready = λ z. absurd (h z) }
-
-  module _ (good : Lent-good n (lengths-of t) (answer-length n w)) (ps qs hs is : List ℕ) (lp : max-radios ≤ length ps) (lh : max-radios ≤ length hs)
-      (r : Bool) (x : Examined n t ps qs hs is r) where
-    pub sound-asked : r ≡ true → sound n t ≡ true
-    sound-asked e = sym (examined-sound up n a b t w good ps qs hs is r lp lh x) ∙ e
-
-    pub refused-unsound : r ≡ false → Asked up n a b t w qs is 3
-    refused-unsound e = record {
-      number = asked-unsound up n a b t w good (sym (examined-sound up n a b t w good ps qs hs is r lp lh x) ∙ e);
-      ready = λ z. absurd (omega arith);
-    }
-
-    pub asked-all : (q : ℕ) → r ≡ true → q ≡ ends-refusal max-neighbours up n a b (graph-in n (t .links)) → Asked up n a b t w qs is q
-    asked-all q e z =
-        let k = sound-asked e in
-        record {
-          number = z ∙ asked-ends up n a b t w good k;
-          ready = λ h. ready-asked up n a b t w good ps qs hs is lp lh k (subst (Examined n t ps qs hs is) e x) (sym z ∙ h);
-        }
+    pub asked-ready : max-radios ≤ length ps → max-radios ≤ length hs → ends-refusal max-neighbours up n a b g ≡ 0 → Ready up n a b t ps hs
+    asked-ready lp lh z = ready-of up n a b t (answer-length n w) good ps hs (asked .placed zero) (asked .counts zero) lp lh z
 
 -- ---- what a plan is applied to
-
-answer-room : (n w m : ℕ) → n ≤ m → answer-length n (min w m) ≡ answer-length n w
-unfolding answer-length
-answer-room n w m k = go (bool-cases (leb n w))
-  where
-    go : (leb n w ≡ true) ⊎ (leb n w ≡ false) → leb n (min w m) ≡ leb n w
-    go (inl e) = le-leb n (min w m) (omega (arith, leb-true n w e)) ∙ sym e
-    go (inr e) = lt-leb n (min w m) (omega (arith, leb-false n w e)) ∙ sym e
-
--- a lent stretch for as many radios as a site may have changes no answer
-pub link-room : (up : Bool) (n a b : ℕ) (l : Lengths) (w m : ℕ) (sound : Bool) (g : Graph) → max-radios ≤ m
-    → link-refusal up n a b l (min w m) sound g ≡ link-refusal up n a b l w sound g
-unfolding link-refusal site-refusal lent-refusal
-link-room up n a b l w m sound g h =
-    ask-later 1 (size-good n) _ _ (λ p. let e : answer-length n (min w m) ≡ answer-length n w = answer-room n w m (omega (arith, size-good-true n p .1)) in rw e)
 
 -- what the questions say of the tables where none got "no"
 pub asked-applicable : (up : Bool) (n a b : ℕ) (t : Tables) (answer : List ℕ)

@@ -1,23 +1,13 @@
 -- What stands before the first turn: the counters of both ends brought to the graph after the call, and the places that fit.
-use mathlib.Core.Path.{_≡_, refl, sym, ap, _∙_}
-use mathlib.Core.Logic.{_⊎_, inl, inr}
-use mathlib.Core.Bool.{Bool, true, false, _&&_, _||_, cond, or-true, or-false, and-false}
-use mathlib.Core.List.{List, [], _∷_}
-use Prim.Native.Nat.{ℕ, _+_, _-_, _≤_, _<_}
-use native.Mathlib.Omega.{arith}
-use lib.Dec.{leb, eqb}
-use lib.ListN.{length, getD, set}
-use lib.Seq.{getD-set-same, getD-set-other}
-use borrow.Author.Tests.{eqb-true, eq-eqb}
-use Rattle.mesh.specs.Limits.{max-radios, row-bytes}
-use Rattle.lists.specs.Lists.{member, In}
-use Rattle.mesh.specs.Tables.{marked, put-bit}
-use Rattle.lists.proofs.Tests.{bool-cases}
-use Rattle.mesh.proofs.Tables.Laws.{length-put-bit}
-use Rattle.mesh.specs.Peel.{bound}
+use Rattle.lists.{specs.Kit.{_≡_, refl, sym, ap, _∙_, _⊎_, inl, inr, Bool, true, false, _&&_, _||_, cond, or-true, or-false, and-false, List, [], _∷_, ℕ, _+_}}
+use Rattle.lists.{specs.Kit.{_-_, _≤_, _<_, arith, leb, eqb, length, getD, set, getD-set-same, getD-set-other, eqb-true, eq-eqb}, specs.Lists.{member, In}}
+use Rattle.lists.{proofs.Tests.{bool-cases}}
+use Rattle.mesh.{specs.Limits.{max-radios}, specs.Peel.{bound}}
 use Rattle.plan.specs.Turns.{end-counted, ends-counted, places-fitting, Begin-ready}
-use Rattle.plan.proofs.TurnLoops.{length-end-counted}
-use Rattle.plan.proofs.TurnLaws.{marked-put}
+use Rattle.plan.specs.Turns.{call-of}
+use Rattle.plan.proofs.TurnLaws.{place-put}
+use Rattle.rows.proofs.SetLaws.{length-put-in}
+use Rattle.rows.specs.Sets.{in-set, put-in}
 
 -- ---- the bound of the peel
 
@@ -43,7 +33,7 @@ module _ (u : Bool) (k : ℕ) (ns : List ℕ) (v : ℕ) (cs : List ℕ) where
   unfolding end-counted
   getD-end-same l e = rw (eq-eqb (getD ns v 0) k e) (getD-set-same cs v (cond u (getD cs v 0 + 1) (getD cs v 0 - 1)) 0 l)
 
-module _ {u : Bool} {a b k start size : ℕ} {ns os cs : List ℕ} (h : Begin-ready u a b k start size ns os cs) where
+module _ {u : Bool} {a b k most start size : ℕ} {ns os cs : List ℕ} (h : Begin-ready (call-of u a b k most) start size ns os cs) where
   pub begin-a : (a < length ns) × (a < max-radios) × (u ≡ false → getD ns a 0 ≡ k → 1 ≤ getD cs a 0) × (getD ns a 0 ≡ k → getD cs a 0 < 255)
   begin-a = (h .known-a .0, h .known-a .1, h .above-zero a (inl refl), h .small a (h .known-a .0))
 
@@ -68,26 +58,26 @@ module _ {u : Bool} {a b k start size : ℕ} {ns os cs : List ℕ} (h : Begin-re
 
 -- ---- the places that fit
 
-pub marked-fitting : (os cs : List ℕ) (m : ℕ) (ps fs : List ℕ) → length fs ≡ row-bytes → ((p : ℕ) → In p ps → p < max-radios) → (q : ℕ) → q < max-radios
-    → marked (places-fitting os cs m ps fs) 0 q ≡ (marked fs 0 q || (member q ps && leb (getD cs (getD os q 0) 0) m))
+pub marked-fitting : (os cs : List ℕ) (m : ℕ) (ps fs : List ℕ) → length fs ≡ 8 → ((p : ℕ) → In p ps → p < max-radios) → (q : ℕ) → q < max-radios
+    → in-set (places-fitting os cs m ps fs) q ≡ (in-set fs q || (member q ps && leb (getD cs (getD os q 0) 0) m))
 unfolding places-fitting member
-marked-fitting os cs m [] fs e h q l = sym (or-false (marked fs 0 q))
+marked-fitting os cs m [] fs e h q l = sym (or-false (in-set fs q))
 marked-fitting os cs m (p ∷ ps) fs e h q l =
-    marked-fitting os cs m ps (cond (leb (getD cs (getD os p 0) 0) m) (put-bit true 0 p fs) fs) (long (leb (getD cs (getD os p 0) 0) m)) (λ r i. h r (inr i)) q l
+    marked-fitting os cs m ps (cond (leb (getD cs (getD os p 0) 0) m) (put-in p fs) fs) (long (leb (getD cs (getD os p 0) 0) m)) (λ r i. h r (inr i)) q l
     ∙ go (bool-cases (eqb p q)) (leb (getD cs (getD os p 0) 0) m) refl (member q ps) (leb (getD cs (getD os q 0) 0) m) refl
   where
-    long : (t : Bool) → length (cond t (put-bit true 0 p fs) fs) ≡ row-bytes
-    long true = length-put-bit true 0 p fs ∙ e
+    long : (t : Bool) → length (cond t (put-in p fs) fs) ≡ 8
+    long true = length-put-in p fs ∙ e
     long false = e
 
     go : (eqb p q ≡ true) ⊎ (eqb p q ≡ false) → (t : Bool) → leb (getD cs (getD os p 0) 0) m ≡ t → (x y : Bool) → leb (getD cs (getD os q 0) 0) m ≡ y
-        → (marked (cond t (put-bit true 0 p fs) fs) 0 q || (x && y)) ≡ (marked fs 0 q || ((eqb p q || x) && y))
-    go (inr ne) true s x y r = rw (marked-put true p q fs e (h p (inl refl)) l, ne)
+        → (in-set (cond t (put-in p fs) fs) q || (x && y)) ≡ (in-set fs q || ((eqb p q || x) && y))
+    go (inr ne) true s x y r = rw (place-put p q fs e (h p (inl refl)), ne)
     go (inr ne) false s x y r = rw ne
     go (inl eq) t s x y r =
         let same : t ≡ y = sym s ∙ ap (λ (z : ℕ). leb (getD cs (getD os z 0) 0) m) (eqb-true p q eq) ∙ r in
         rw eq (here t x y same)
       where
-        here : (t x y : Bool) → t ≡ y → (marked (cond t (put-bit true 0 p fs) fs) 0 q || (x && y)) ≡ (marked fs 0 q || y)
-        here true x y c = rw (← c, marked-put true p q fs e (h p (inl refl)) l, eq) (sym (or-true (marked fs 0 q)))
+        here : (t x y : Bool) → t ≡ y → (in-set (cond t (put-in p fs) fs) q || (x && y)) ≡ (in-set fs q || y)
+        here true x y c = rw (← c, place-put p q fs e (h p (inl refl)), eq) (sym (or-true (in-set fs q)))
         here false x y c = rw (← c, and-false x)

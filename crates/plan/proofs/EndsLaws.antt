@@ -1,22 +1,11 @@
 -- Questions 4 to 7 of a link call, put to the rows of the links table: what each "no" of the code gives, and the "yes" to all.
 -- In order: the rows of a proper table, then each outcome.
-use mathlib.Core.Path.{_≡_, refl, sym, ap, _∙_}
-use mathlib.Core.Bool.{Bool, true, false, _&&_, not, Bool·beq}
-use mathlib.Core.List.{List}
-use Prim.Native.Nat.{ℕ, _*_, _≤_, _<_}
-use native.Mathlib.Omega.{arith}
-use lib.ListN.{length}
-use borrow.Author.Tests.{lt-ltb, le-ltb, eq-eqb, ne-eqb}
-use Rattle.mesh.specs.Limits.{max-radios, row-bytes}
-use Rattle.mesh.specs.Graph.{Graph, linked, degree}
-use Rattle.mesh.specs.Tables.{marked, graph-in}
-use Rattle.mesh.specs.Sound.{symmetric, irreflexive, within, few, rows-proper}
-use Rattle.lists.proofs.Tests.{and-left, and-right}
-use Rattle.mesh.proofs.Tables.ReadBack.{linked-graph-in, degree-graph-in}
+use Rattle.lists.{specs.Kit.{_≡_, refl, sym, ap, _∙_, Bool, true, false, _&&_, not, Bool·beq, List, ℕ, _*_, _≤_, _<_, arith, length, lt-ltb, le-ltb, eq-eqb}}
+use Rattle.lists.{specs.Kit.{ne-eqb}, proofs.Tests.{and-left, and-right}}
+use Rattle.mesh.{specs.Limits.{max-radios, row-bytes}, specs.Graph.{Graph, linked, degree}, specs.Tables.{marked, graph-in}, specs.Sound.{symmetric}}
+use Rattle.mesh.{specs.Sound.{irreflexive, within, few, rows-proper}, proofs.Tables.ReadBack.{linked-graph-in, degree-graph-in}}
 use Rattle.calls.specs.Questions.{ask, is-radio, are-radios, ends-differ, can-switch, has-room, ends-refusal}
-use Rattle.rows.specs.Rows.{row-listed}
-use Rattle.rows.proofs.RowListLaws.{length-neighbours-of}
-use Rattle.rows.proofs.RowWords.{row-listed-whole}
+use Rattle.rows.{specs.Rows.{row-listed}, proofs.RowListLaws.{length-neighbours-of}, proofs.RowWords.{row-listed-whole}}
 
 -- ---- the rows of a proper table
 

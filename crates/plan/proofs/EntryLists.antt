@@ -1,35 +1,14 @@
 -- The entries at the places of a set, listed the lowest first.
 --   Entries-listing   what is listed so far and what is left give what the whole gives
 -- In order: places listed, the set bits of a word, the words of a set; places that tell marked entries.
-use mathlib.Core.Path.{_≡_, refl, sym, ap, _∙_}
-use mathlib.Core.Logic.{_⊎_, inl, inr}
-use mathlib.Core.Bool.{Bool, true, false, cond}
-use mathlib.Core.List.{List, [], _∷_, _++_, map, append-nil}
-use Prim.Native.Nat.{ℕ, zero, suc, _+_, _*_, _-_, _/_, _%_, _^_, _≤_, _<_}
-use native.Mathlib.Omega.{arith}
-use native.Mathlib.Numerals.{add-one}
-use native.Mathlib.Nat.{add-zero}
-use lib.Bits.{bitAnd, and-le-l}
-use lib.Count.{trailingZeros}
-use lib.ListN.{length, getD, set, take, drop, replicate, length-append, length-replicate}
-use lib.Dec.{eqb}
-use lib.Seq.{sets, drop-cons}
-use borrow.Author.Tests.{eqb-true, eqb-false, ltb-true, ltb-false, eq-eqb, ne-eqb}
-use Rattle.mesh.specs.Limits.{max-radios}
-use Rattle.lists.specs.Lists.{filter, range, In}
-use Rattle.lists.specs.Facts.{Distinct}
-use Rattle.lists.proofs.Filter.{filter-append, filter-none, filter-ext, filter-in, in-filter}
-use Rattle.lists.proofs.Map.{map-append, length-map, map-range-of-getD}
-use Rattle.lists.proofs.Member.{in-left, in-right}
-use Rattle.lists.proofs.Overwrite.{sets-append}
-use Rattle.lists.proofs.Range.{in-range, range-in, range-append}
-use Rattle.lists.proofs.Tests.{bool-cases, never}
-use Rattle.mesh.specs.Tables.{digit}
-use Rattle.rows.specs.Rows.{set-bits}
-use Rattle.rows.proofs.RowWords.{words-from, words-end}
-use Rattle.rows.proofs.WordLaws.{set-bits-lowest, set-bits-nothing, length-set-bits-le}
-use Rattle.rows.specs.Sets.{in-set, put-in, take-out}
-use Rattle.rows.proofs.SetLaws.{in-set-zeros, in-put-in, in-take-out, length-put-in, length-take-out}
+use Rattle.lists.{specs.Kit.{_≡_, refl, sym, ap, _∙_, _⊎_, inl, inr, Bool, true, false, cond, List, [], _∷_, _++_, append-nil, ℕ, zero, suc, _+_, _*_, _-_}}
+use Rattle.lists.{specs.Kit.{_/_, _%_, _^_, _≤_, _<_, arith, add-one, add-zero, bitAnd, and-le-l, trailingZeros, length, getD, set, take, drop, replicate}}
+use Rattle.lists.{specs.Kit.{length-append, length-replicate, eqb, sets, drop-cons, eqb-true, eqb-false}, specs.Lists.{filter, range}}
+use Rattle.lists.{proofs.Filter.{filter-append, filter-none, in-filter}, proofs.Map.{map-append, length-map}, proofs.Member.{in-left, in-right}}
+use Rattle.lists.{proofs.Overwrite.{sets-append}, proofs.Range.{range-in, range-append}, proofs.Tests.{bool-cases, never}}
+use Rattle.mesh.specs.{Limits.{max-radios}, Tables.{digit}}
+use Rattle.rows.{specs.Rows.{set-bits}, proofs.RowWords.{words-from, words-end}, proofs.WordLaws.{set-bits-lowest, length-set-bits-le}, specs.Sets.{in-set}}
+use Rattle.rows.{specs.Sets.{put-in, take-out}, proofs.SetLaws.{in-set-zeros, in-put-in, in-take-out, length-put-in, length-take-out}}
 use Rattle.plan.specs.Places.{set-places, entries-at, Stands, Marked-places}
 
 -- ---- places listed

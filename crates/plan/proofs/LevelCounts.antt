@@ -1,17 +1,7 @@
 -- A level's numbers counted part by part: a byte counts a part, and the parts come to the whole.
-use mathlib.Core.Path.{_≡_, sym, ap}
-use mathlib.Core.Bool.{Bool}
-use mathlib.Core.List.{List}
-use Prim.Native.Nat.{ℕ, _+_, _^_, _≤_, _<_}
-use native.Mathlib.Omega.{arith}
-use mir.Syntax.{w8}
-use mir.Val.{boolByte, Fits}
-use lib.ListN.{take, drop, length-take, take-append-drop}
-use lib.Seq.{drop-drop}
-use Rattle.lists.specs.Lists.{count}
-use Rattle.lists.proofs.Tests.{bit-one, byte-bit}
-use Rattle.lists.proofs.Count.{count-append, count-not}
-use Rattle.lists.proofs.Loops.{Counted-from}
+use Rattle.lists.{specs.Kit.{_≡_, sym, ap, Bool, List, ℕ, _+_, _≤_, _<_, arith, take, drop, length-take, take-append-drop, drop-drop}, specs.Lists.{count}}
+use Rattle.lists.{proofs.Tests.{bit-one, byte-bit}, proofs.Count.{count-append, count-not}, proofs.Loops.{Counted-from}}
+use mir.{Syntax.{w8}, Val.{boolByte, Fits}}
 
 -- a byte is enough for a count of so few
 pub counted-byte : (n i : ℕ) (t : Bool) → n ≤ i → i < 255 → Fits w8 (n + boolByte t)

@@ -1,37 +1,47 @@
 -- The stretch of a level: which radios stand in it, and in which order their places are.
 -- In order: laws of lists, the radios of the stretch, places along what is left of it.
-use mathlib.Core.Path.{_≡_, refl, sym, ap, _∙_}
-use mathlib.Core.Logic.{_⊎_, inl, inr}
-use mathlib.Core.Bool.{Bool, true, false}
-use mathlib.Core.List.{List, [], _∷_}
-use Prim.Native.Nat.{ℕ, suc, _+_, _-_, _≤_, _<_}
-use native.Mathlib.Omega.{arith}
-use lib.ListN.{length, getD}
-use Rattle.mesh.specs.Limits.{max-radios}
-use Rattle.lists.specs.Lists.{member, head-or, In}
-use Rattle.lists.specs.Facts.{Distinct, Rising}
-use Rattle.mesh.specs.Tables.{marked}
-use Rattle.lists.proofs.Tests.{bool-cases}
-use Rattle.lists.proofs.Member.{member-in, in-getD, getD-of-in, head-or-below}
-use Rattle.rows.specs.Rows.{neighbours-of}
-use Rattle.rows.proofs.RowListLaws.{ascending-neighbours-of, in-neighbours-of, member-neighbours-of}
+use Rattle.lists.{specs.Kit.{_≡_, sym, ap, _∙_, _⊎_, inl, inr, Bool, true, false, List, [], _∷_, ℕ, suc, _+_, _-_, _≤_, _<_, arith, length, getD}}
+use Rattle.lists.{specs.Lists.{head-or, In}, specs.Facts.{Distinct, Rising}, proofs.Tests.{bool-cases}, proofs.Member.{in-getD, getD-of-in}}
+use Rattle.lists.{proofs.Member.{head-or-below}, proofs.Ascending.{head-or-lowest, rising-index}}
+use Rattle.mesh.specs.{Limits.{max-radios}}
 use Rattle.plan.specs.Peels.{stretch, Level}
 use Rattle.plan.proofs.StretchLoops.{length-stretch, getD-stretch}
-use Rattle.lists.proofs.Ascending.{head-or-lowest, rising-index}
+use Rattle.lists.specs.Kit.{_&&_}
+use Rattle.lists.proofs.Ascending.{ascending-range, ascending-filter}
+use Rattle.lists.proofs.Range.{in-range}
+use Rattle.lists.proofs.Tests.{and-left, and-both}
+use Rattle.lists.proofs.Filter.{in-filter, filter-in}
+use Rattle.lists.specs.Lists.{filter, range}
+use Rattle.rows.proofs.SetLaws.{common-filter}
+use Rattle.rows.specs.Sets.{in-set, common}
 
 -- ---- the lowest marked place
 
-module _ (fs : List ℕ) (p : ℕ) (first : p ≡ head-or max-radios (neighbours-of fs 0)) where
-  pub first-marked-in : p < max-radios → marked fs 0 p ≡ true
-  first-marked-in l =
-      rw first (in-neighbours-of fs 0 (head-or max-radios (neighbours-of fs 0)) (head-or-below max-radios (neighbours-of fs 0) (omega arith)) .1)
+module _ (fs : List ℕ) (p : ℕ) (first : p ≡ head-or max-radios (common fs fs)) where
+  abbrev twice : ℕ → Bool
+  twice v = in-set fs v && in-set fs v
 
-  pub first-marked-least : (q : ℕ) → q < p → q < max-radios → marked fs 0 q ≡ false
-  first-marked-least q l lq = go (bool-cases (member q (neighbours-of fs 0)))
+  listed : common fs fs ≡ filter twice (range 0 max-radios)
+  listed = common-filter fs fs
+
+  pub first-marked-in : p < max-radios → in-set fs p ≡ true
+  first-marked-in l =
+      let at : In p (common fs fs) = rw first (head-or-below max-radios (common fs fs) (omega arith)) in
+      and-left (in-set fs p) (in-set fs p) (in-filter twice (range 0 max-radios) p (rw listed at at) .1)
+
+  pub first-marked-least : (q : ℕ) → q < p → q < max-radios → in-set fs q ≡ false
+  first-marked-least q l lq = go (bool-cases (in-set fs q))
     where
-      go : (member q (neighbours-of fs 0) ≡ true) ⊎ (member q (neighbours-of fs 0) ≡ false) → marked fs 0 q ≡ false
-      go (inl e) = absurd (omega (arith, head-or-lowest max-radios q (neighbours-of fs 0) (ascending-neighbours-of fs 0) (member-in q (neighbours-of fs 0) e)))
-      go (inr e) = sym (member-neighbours-of fs 0 q lq) ∙ e
+      go : (in-set fs q ≡ true) ⊎ (in-set fs q ≡ false) → in-set fs q ≡ false
+      go (inr e) = e
+      go (inl e) =
+          let m : In q (common fs fs) = rw listed (filter-in twice (range 0 max-radios) q (in-range 0 max-radios q (omega arith) (omega arith))
+          (and-both (in-set fs q) (in-set fs q) e e)) in
+          absurd (omega (
+            arith,
+            head-or-lowest max-radios q (common fs fs)
+                (rw listed (ascending-filter twice (range 0 max-radios) (ascending-range 0 max-radios))) m,
+          ))
 
 -- ---- the radios of the stretch
 
@@ -40,7 +50,8 @@ module _ {f : ℕ → ℕ → Bool} {ns os ps : List ℕ} {k start size : ℕ} (
   pub place-level : (p : ℕ) → start ≤ p → p < start + size → In (getD os p 0) (stretch os start size)
   place-level p low high =
       let i : start + (p - start) ≡ p = omega arith in
-      let at : getD (stretch os start size) (p - start) 0 ≡ getD os p 0 = getD-stretch os start size (p - start) (omega arith) ∙ ap (λ (x : ℕ). getD os x 0) i in
+      let at : getD (stretch os start size) (p - start) 0 ≡ getD os p 0 = getD-stretch os start size (p - start) (omega arith) ∙ ap (λ (x : ℕ). getD os x 0)
+      i in
       rw (← at) (in-getD (stretch os start size) (p - start) (omega (arith, length-stretch os start size (lv .fits))))
 
   pub level-stretch : (v : ℕ) → v < length os → getD ns v 0 ≡ k → In v (stretch os start size)

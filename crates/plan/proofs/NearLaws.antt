@@ -1,28 +1,13 @@
 -- The neighbours of a radio after a link went up or down: by the row's own bits where the radio is no end of the link, else by
 -- a copy of the row with one bit put.
-use mathlib.Core.Path.{_≡_, refl, sym, ap, _∙_}
-use mathlib.Core.Logic.{_⊎_, inl, inr}
-use mathlib.Core.Bool.{Bool, true, false, _&&_, cond}
-use mathlib.Core.List.{List}
-use Prim.Native.Nat.{ℕ, suc, _+_, _*_, _-_, _/_, _≤_, _<_, min}
-use native.Mathlib.Omega.{arith}
-use lib.Dec.{eqb}
-use lib.ListN.{length, take, drop, length-drop}
-use lib.Seq.{take-all, getD-take, getD-drop, length-take-le}
-use borrow.Author.Tests.{eqb-true, eqb-false, eq-eqb, ne-eqb}
-use Rattle.mesh.specs.Limits.{max-radios, max-neighbours, row-bytes}
-use Rattle.lists.specs.Lists.{range, overwrite}
-use Rattle.mesh.specs.Tables.{byte-at, marked, put-bit, put-link}
-use Rattle.lists.proofs.Tests.{bool-cases}
-use Rattle.lists.proofs.Range.{range-in}
-use Rattle.lists.proofs.Filter.{filter-ext}
-use Rattle.lists.proofs.Overwrite.{overwrite-all}
-use Rattle.mesh.proofs.Tables.Laws.{length-put-bit, marked-put-bit}
-use Rattle.rows.specs.Rows.{neighbours-of, row-listed, row-count}
-use Rattle.rows.proofs.RowListLaws.{row-listed-fits}
-use Rattle.rows.proofs.RowWords.{row-listed-whole}
-use Rattle.plan.specs.Places.{other-end}
-use Rattle.plan.specs.Turns.{released, places-released, near-left, Releasable, Row-ready, Near-ready, Lists-neighbours}
+use Rattle.lists.{specs.Kit.{_≡_, refl, sym, ap, _∙_, _⊎_, inl, inr, Bool, true, false, _&&_, cond, List, ℕ, suc, _+_, _*_, _/_, _≤_, _<_, min, arith, eqb}}
+use Rattle.lists.{specs.Kit.{length, take, drop, length-drop, take-all, getD-take, getD-drop, length-take-le, eqb-true, eqb-false, eq-eqb, ne-eqb}}
+use Rattle.lists.{specs.Lists.{range, overwrite}, proofs.Tests.{bool-cases}, proofs.Range.{range-in}, proofs.Filter.{filter-ext}}
+use Rattle.lists.{proofs.Overwrite.{overwrite-all}}
+use Rattle.mesh.{specs.Limits.{max-radios, max-neighbours, row-bytes}, specs.Tables.{byte-at, marked, put-bit, put-link}, proofs.Tables.Laws.{length-put-bit}}
+use Rattle.mesh.{proofs.Tables.Laws.{marked-put-bit}}
+use Rattle.rows.{specs.Rows.{neighbours-of, row-listed, row-count}, proofs.RowListLaws.{row-listed-fits}, proofs.RowWords.{row-listed-whole}}
+use Rattle.plan.specs.{Places.{other-end}, Turns.{released, places-released, near-left, Releasable, Row-ready, Near-ready, Lists-neighbours}}
 
 -- rows that mark alike list alike
 pub neighbours-of-ext : (ts us : List ℕ) (v w : ℕ) → ((x : ℕ) → x < max-radios → marked ts v x ≡ marked us w x) → neighbours-of ts v ≡ neighbours-of us w
@@ -31,7 +16,8 @@ neighbours-of-ext ts us v w h =
     filter-ext (λ x. marked ts v x) (λ x. marked us w x) (range 0 max-radios) (λ x m. h x (omega (arith, range-in 0 max-radios x m)))
 
 -- what `row_neighbours` writes, where there is room
-pub lists-row : (ts : List ℕ) (v r : ℕ) (old new : List ℕ) → row-bytes * v + row-bytes ≤ length ts → length (neighbours-of ts v) ≤ min (length old) (suc max-neighbours)
+pub lists-row : (ts : List ℕ) (v r : ℕ) (old new : List ℕ) → row-bytes * v + row-bytes ≤ length ts → length (neighbours-of ts v) ≤ min (length old)
+    (suc max-neighbours)
     → r ≡ min (length old) (row-count max-neighbours ts v)
     → new ≡ overwrite (take (min (length old) (suc max-neighbours)) (row-listed ts v)) old → Lists-neighbours ts v r new
 lists-row ts v r old new whole room e f =
@@ -40,7 +26,8 @@ lists-row ts v r old new whole room e f =
     record { counted = all .0 ∙ ap length is; listed = all .1 ∙ is }
 
 -- other rows that mark alike
-pub lists-same : {ts us : List ℕ} {v w : ℕ} (r : ℕ) (new : List ℕ) → neighbours-of ts v ≡ neighbours-of us w → Lists-neighbours ts v r new → Lists-neighbours us w r new
+pub lists-same : {ts us : List ℕ} {v w : ℕ} (r : ℕ) (new : List ℕ) → neighbours-of ts v ≡ neighbours-of us w → Lists-neighbours ts v r new → Lists-neighbours us
+    w r new
 lists-same r new e h = record { counted = h .counted ∙ ap length e; listed = h .listed ∙ e }
 
 -- the same radios, listed another way
@@ -90,7 +77,8 @@ module _ (ts : List ℕ) (v m : ℕ) (long : m ≡ row-bytes) (whole : row-bytes
       → row1 ≡ overwrite (take (length row0) part) row0 → row2 ≡ put-bit u 0 w row1 → neighbours-of row2 0 ≡ neighbours-of (put-bit u v w ts) v
   row-copied u w row0 row1 row2 small l e f =
       let is : row1 ≡ part =
-      e ∙ ap (λ (z : List ℕ). overwrite z row0) (take-all (length row0) part (omega (arith, length-part))) ∙ overwrite-all part row0 (omega (arith, length-part)) in
+      e ∙ ap (λ (z : List ℕ). overwrite z row0) (take-all (length row0) part (omega (arith, length-part))) ∙ overwrite-all part row0
+      (omega (arith, length-part)) in
       ap (λ (z : List ℕ). neighbours-of z 0) (f ∙ ap (put-bit u 0 w) is) ∙ neighbours-of-put u w small
 
 -- a row that marks as another does, listed

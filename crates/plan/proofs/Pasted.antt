@@ -1,13 +1,7 @@
 -- A list copied over a part of another that is lent.
-use mathlib.Core.Path.{_≡_, sym, ap, ap₂, _∙_}
-use mathlib.Core.List.{List, _++_, append-assoc}
-use Prim.Native.Nat.{ℕ, _+_, _-_, _≤_}
-use native.Mathlib.Omega.{arith}
-use lib.ListN.{length, take, drop}
-use lib.Seq.{take-all, paste}
+use Rattle.lists.{specs.Kit.{_≡_, sym, ap, ap₂, _∙_, List, _++_, append-assoc, ℕ, _+_, _-_, _≤_, arith, length, take, drop, take-all, paste}}
+use Rattle.lists.{specs.Lists.{overwrite}, proofs.Overwrite.{overwrite-take}}
 use borrow.Rule.Slice.PartMut.{midOf, putMid, mid-len, post-is}
-use Rattle.lists.specs.Lists.{overwrite}
-use Rattle.lists.proofs.Overwrite.{overwrite-take}
 
 -- ys copied over the part of xs that ends before place e
 pub put-part : (xs ys new : List ℕ) (i e : ℕ) → i + length ys ≡ e → e ≤ length xs

@@ -1,55 +1,31 @@
 -- The loop of the peel, as its invariant: the entries written so far are taken, and p is the lowest place that fits.
-use mathlib.Core.Path.{_≡_, refl, sym, ap, _∙_}
-use mathlib.Core.Logic.{_⊎_, inl, inr}
-use mathlib.Core.Bool.{Bool, true, false, not, cond}
-use mathlib.Core.List.{List, [], _∷_, _++_}
-use Prim.Native.Nat.{ℕ, _+_, _-_, _/_, _%_, _≤_, _<_}
-use native.Mathlib.Omega.{arith}
-use native.Mathlib.Numerals.{add-one}
-use lib.Dec.{eqb}
-use lib.ListN.{length, getD, set, take, replicate, length-set, length-replicate, getD-replicate}
-use lib.Seq.{length-take-le, take-suc-set}
-use borrow.Author.Tests.{eqb-true, eqb-false}
-use Rattle.mesh.specs.Limits.{max-radios, row-bytes}
-use Rattle.lists.specs.Lists.{head-or, member, all, range, In}
-use Rattle.mesh.specs.Tables.{digit, marked, put-bit, put-link}
-use Rattle.lists.proofs.All.{all-in}
-use Rattle.lists.proofs.Tests.{bool-cases, never}
-use Rattle.lists.proofs.Member.{in-left, in-right, in-cases, member-in, in-member, not-member}
-use Rattle.lists.proofs.Range.{in-range}
-use Rattle.rows.specs.Rows.{neighbours-of, row-listed}
-use Rattle.rows.proofs.RowWords.{row-listed-whole}
-use Rattle.rows.specs.Sets.{in-set, take-out}
-use Rattle.rows.proofs.SetLaws.{length-take-out, in-take-out}
-use Rattle.plan.specs.Turns.{released, places-released, near-left, Releasable, Row-ready}
-use Rattle.plan.specs.Places.{level-start, level-size}
-use Rattle.plan.specs.Peels.{linked-after, Turning, Whole-counted, Left-set, Peel-ready, Peel-done}
-use Rattle.plan.proofs.TurnLoops.{length-released}
-use Rattle.plan.proofs.LevelLaws.{first-marked-least}
-use Rattle.plan.proofs.PeelTurns.{turns-end, taken-below, taken-room, whole-none, taken-releasable, whole-turns, whole-after, left-releasable, left-turns}
+use Rattle.lists.{specs.Kit.{_≡_, refl, sym, ap, _∙_, _⊎_, inl, inr, Bool, true, false, not, cond, List, [], _∷_, _++_, ℕ, _+_, _/_, _%_, _≤_, _<_, arith}}
+use Rattle.lists.{specs.Kit.{add-one, eqb, length, getD, set, take, replicate, length-set, length-replicate, getD-replicate, length-take-le, take-suc-set}}
+use Rattle.lists.{specs.Kit.{eqb-true, eqb-false}, specs.Lists.{head-or, member, all, range, In}, proofs.All.{all-in}, proofs.Tests.{bool-cases, never}}
+use Rattle.lists.{proofs.Member.{in-left, in-right, in-cases, member-in, in-member, not-member}, proofs.Range.{in-range}}
+use Rattle.mesh.specs.{Limits.{max-radios}, Tables.{digit, marked, put-link}}
+use Rattle.rows.{specs.Sets.{in-set, take-out}, proofs.SetLaws.{length-take-out}}
+use Rattle.rows.{proofs.SetLaws.{in-take-out}}
+use Rattle.plan.specs.{Turns.{released, places-released, near-left, Releasable, Row-ready}, Places.{level-start, level-size}, Peels.{linked-after}}
+use Rattle.plan.specs.{Peels.{Turning, Left-set, Peel-ready, Peel-done, stretch-at}}
+use Rattle.plan.proofs.{TurnLoops.{length-released}, LevelLaws.{first-marked-least}, PeelTurns.{turns-end, taken-below, taken-room}}
+use Rattle.plan.proofs.{PeelTurns.{left-releasable, left-turns}}
+use Rattle.plan.specs.Turns.{call-of}
+use Rattle.rows.specs.Sets.{common}
 
 pub record Peel-from (up : Bool) (a b k m : ℕ) (links numbers order places cs0 fs0 list0 cs fs list : List ℕ) (taken p : ℕ) : Type 0 where
   pub long-counters : length cs ≡ length cs0
   pub long-fits : length fs ≡ length fs0
   pub long-list : length list ≡ length list0
   pub room : taken ≤ level-size numbers k
-  pub next : p ≡ head-or max-radios (neighbours-of fs 0)
-  pub turning : Turning (linked-after up a b (length order) links) m order places (level-start numbers k) (level-size numbers k) (take taken list) cs fs
-
--- every radio of the level counted, taken or not
-abbrev pub Thin-from : (up : Bool) → (a b k m : ℕ) → (links numbers order places cs0 fs0 list0 cs fs list : List ℕ) → (taken p : ℕ) → Type 0
-Thin-from up a b k m links ns os ps cs0 fs0 list0 cs fs list taken p =
-    Peel-from up a b k m links ns os ps cs0 fs0 list0 cs fs list taken p
-    × Whole-counted (linked-after up a b (length os) links) os (level-start ns k) (level-size ns k) (take taken list) cs
+  pub next : p ≡ head-or max-radios (common fs fs)
+  pub turning : Turning (linked-after up a b (length order) links) m order places (stretch-at (level-start numbers k) (level-size numbers k))
+      (take taken list) cs fs
 
 -- a set of what is not taken
 abbrev pub Masked-from : (up : Bool) → (a b k m : ℕ) → (links numbers order places cs0 fs0 list0 left cs fs list : List ℕ) → (taken p : ℕ) → Type 0
 Masked-from up a b k m links ns os ps cs0 fs0 list0 left cs fs list taken p =
     Peel-from up a b k m links ns os ps cs0 fs0 list0 cs fs list taken p × Left-set (take taken list) left
-
--- what `first_marked` says of a whole row
-first-of : (fs : List ℕ) (p : ℕ) → length fs ≡ row-bytes → p ≡ head-or max-radios (row-listed fs 0) → p ≡ head-or max-radios (neighbours-of fs 0)
-first-of fs p e h = h ∙ ap (head-or max-radios) (row-listed-whole fs 0 (omega arith))
 
 -- ---- what is not taken, as a set
 
@@ -88,21 +64,19 @@ left-set-more {taken} {left} v l h = record {
             out (inr (inr q)) = q
 
 module _ {up : Bool} {a b k m : ℕ} {links ns os ps cs0 fs0 list0 : List ℕ}
-    (ready : Peel-ready up a b k m links ns os ps cs0 fs0 (length list0)) where
-  peel-none : (p : ℕ) → p ≡ head-or max-radios (row-listed fs0 0) → Peel-from up a b k m links ns os ps cs0 fs0 list0 cs0 fs0 list0 0 p
+    (ready : Peel-ready (call-of up a b k m) links ns os ps cs0 fs0 (length list0)) where
+  peel-none : (p : ℕ) → p ≡ head-or max-radios (common fs0 fs0) → Peel-from up a b k m links ns os ps cs0 fs0 list0 cs0 fs0 list0 0 p
   peel-none p e = record {
     long-counters = refl;
     long-fits = refl;
     long-list = refl;
     room = omega arith;
-    next = first-of fs0 p (ready .turning .fits-long) e;
+    next = e;
     turning = ready .turning;
   }
 
-  pub thin-none : (p : ℕ) → p ≡ head-or max-radios (row-listed fs0 0) → Thin-from up a b k m links ns os ps cs0 fs0 list0 cs0 fs0 list0 0 p
-  thin-none p e = (peel-none p e, whole-none (ready .level) m (ready .turning) refl)
-
-  pub masked-none : (p : ℕ) → p ≡ head-or max-radios (row-listed fs0 0) → Masked-from up a b k m links ns os ps cs0 fs0 list0 (replicate 8 18446744073709551615) cs0 fs0 list0 0 p
+  pub masked-none : (p : ℕ) → p ≡ head-or max-radios (common fs0 fs0)
+      → Masked-from up a b k m links ns os ps cs0 fs0 list0 (replicate 8 18446744073709551615) cs0 fs0 list0 0 p
   masked-none p e = (peel-none p e, left-set-none)
 
   module _ {cs fs list : List ℕ} {taken p : ℕ} (h : Peel-from up a b k m links ns os ps cs0 fs0 list0 cs fs list taken p) where
@@ -144,36 +118,22 @@ module _ {up : Bool} {a b k m : ℕ} {links ns os ps cs0 fs0 list0 : List ℕ}
 
       -- one radio more, with what its turn released
       peel-turn : (near cs1 fs1 : List ℕ) (p1 : ℕ)
-          → Turning (linked-after up a b (length os) links) m os ps (level-start ns k) (level-size ns k) (take taken list ++ (v ∷ [])) (released ns k near cs)
-          (places-released ns ps k m near cs (put-bit false 0 p fs))
-          → cs1 ≡ released ns k near cs → fs1 ≡ places-released ns ps k m near cs (put-bit false 0 p fs) → p1 ≡ head-or max-radios (row-listed fs1 0)
+          → Turning (linked-after up a b (length os) links) m os ps (stretch-at (level-start ns k) (level-size ns k)) (take taken list ++ (v ∷ []))
+          (released ns k near cs) (places-released ns ps k m near cs (take-out p fs))
+          → cs1 ≡ released ns k near cs → fs1 ≡ places-released ns ps k m near cs (take-out p fs) → p1 ≡ head-or max-radios (common fs1 fs1)
           → Peel-from up a b k m links ns os ps cs0 fs0 list0 cs1 fs1 (set list taken v) (taken + 1) p1
       peel-turn near cs1 fs1 p1 more ec ef e =
-          let turned : Turning (linked-after up a b (length os) links) m os ps (level-start ns k) (level-size ns k) (take (taken + 1) (set list taken v)) cs1 fs1 =
+          let turned : Turning (linked-after up a b (length os) links) m os ps (stretch-at (level-start ns k) (level-size ns k))
+          (take (taken + 1) (set list taken v)) cs1 fs1 =
           rw (written, ec, ef) more in
           record {
             long-counters = ap length ec ∙ length-released ns k near cs ∙ h .long-counters;
             long-fits = turned .fits-long ∙ sym (ready .turning .fits-long);
             long-list = length-set list taken v ∙ h .long-list;
             room = omega (arith, peel-room);
-            next = first-of fs1 p1 (turned .fits-long) e;
+            next = e;
             turning = turned;
           }
-
-      -- ---- all neighbours of v released
-
-      module _ (whole : Whole-counted (linked-after up a b (length os) links) os (level-start ns k) (level-size ns k) (take taken list) cs) where
-        pub thin-releasable : Releasable ns ps k (neighbours-of (put-link up a b links) v) cs
-        thin-releasable = taken-releasable (ready .level) m (h .turning) p (h .next) some (put-link up a b links) row-marks whole
-
-        pub thin-turn : (cs1 fs1 : List ℕ) (p1 : ℕ) → cs1 ≡ released ns k (neighbours-of (put-link up a b links) v) cs
-            → fs1 ≡ places-released ns ps k m (neighbours-of (put-link up a b links) v) cs (put-bit false 0 p fs) → p1 ≡ head-or max-radios (row-listed fs1 0)
-            → Thin-from up a b k m links ns os ps cs0 fs0 list0 cs1 fs1 (set list taken v) (taken + 1) p1
-        thin-turn cs1 fs1 p1 ec ef e = (
-          peel-turn (neighbours-of (put-link up a b links) v) cs1 fs1 p1
-              (whole-turns (ready .level) m (h .turning) p (h .next) some (put-link up a b links) row-marks whole) ec ef e,
-          rw (written, ec) (whole-after (ready .level) m (h .turning) p (h .next) some (put-link up a b links) row-marks whole),
-        )
 
       -- ---- the ones released that are left
 
@@ -181,19 +141,17 @@ module _ {up : Bool} {a b k m : ℕ} {links ns os ps cs0 fs0 list0 : List ℕ}
         less-set : Left-set (take taken list ++ (v ∷ [])) (take-out v left)
         less-set = left-set-more v (omega (arith, v-below, ready .level .small)) is
 
-        pub masked-releasable : Releasable ns ps k (near-left (put-link up a b links) v (take-out v left)) cs
-        masked-releasable =
-            left-releasable (ready .level) m (h .turning) p (h .next) some (put-link up a b links) row-marks (take-out v left) less-set
+        pub masked-releasable : Releasable ns ps k (near-left (put-link up a b links) v left) cs
+        masked-releasable = left-releasable (ready .level) m (h .turning) p (h .next) some (put-link up a b links) row-marks left is
 
-        pub masked-turn : (left1 cs1 fs1 : List ℕ) (p1 : ℕ) → left1 ≡ take-out v left
-            → cs1 ≡ released ns k (near-left (put-link up a b links) v (take-out v left)) cs
-            → fs1 ≡ places-released ns ps k m (near-left (put-link up a b links) v (take-out v left)) cs (put-bit false 0 p fs)
-            → p1 ≡ head-or max-radios (row-listed fs1 0) → Masked-from up a b k m links ns os ps cs0 fs0 list0 left1 cs1 fs1 (set list taken v) (taken + 1) p1
+        pub masked-turn : (left1 cs1 fs1 : List ℕ) (p1 : ℕ) → left1 ≡ take-out v left → cs1 ≡ released ns k (near-left (put-link up a b links) v left) cs
+            → fs1 ≡ places-released ns ps k m (near-left (put-link up a b links) v left) cs (take-out p fs)
+            → p1 ≡ head-or max-radios (common fs1 fs1) → Masked-from up a b k m links ns os ps cs0 fs0 list0 left1 cs1 fs1 (set list taken v) (taken + 1) p1
         masked-turn left1 cs1 fs1 p1 el ec ef e = (
-          peel-turn (near-left (put-link up a b links) v (take-out v left)) cs1 fs1 p1
-              (left-turns (ready .level) m (h .turning) p (h .next) some (put-link up a b links) row-marks (take-out v left) less-set) ec ef e,
+          peel-turn (near-left (put-link up a b links) v left) cs1 fs1 p1
+              (left-turns (ready .level) m (h .turning) p (h .next) some (put-link up a b links) row-marks left is) ec ef e,
           rw (written, el) less-set,
         )
 
-    pub peel-end : max-radios ≤ p → Peel-done up a b k m links ns os taken cs list
+    pub peel-end : max-radios ≤ p → Peel-done (call-of up a b k m) links ns os taken cs list
     peel-end l = record { fits = h .room; peels = turns-end (ready .level) m (h .turning) (λ q lq. first-marked-least fs p (h .next) q (omega arith) lq) }

@@ -1,38 +1,22 @@
 -- A turn of the peel, on plain values: the lowest fitting place is that of the radio that the peel takes next, and after its
 -- neighbours are released counters and fitting places tell of what is left then. At the end the radios whose counter is above
 -- the bound are the stuck ones.
-use mathlib.Core.Path.{_≡_, refl, sym, ap, _∙_}
-use mathlib.Core.Logic.{_⊎_, inl, inr}
-use mathlib.Core.Bool.{Bool, true, false, not, _&&_, _||_, cond}
-use mathlib.Core.List.{List, [], _∷_, _++_}
-use Prim.Native.Nat.{ℕ, _+_, _-_, _≤_, _<_}
-use native.Mathlib.Omega.{arith}
-use lib.Dec.{ltb, leb, eqb}
-use lib.ListN.{length, getD, length-append}
-use borrow.Author.Tests.{eqb-true, eqb-false, ne-eqb, leb-true, leb-false, lt-ltb, le-ltb}
-use Rattle.mesh.specs.Limits.{max-radios, row-bytes}
-use Rattle.lists.specs.Lists.{count, filter, member, head-or, In}
-use Rattle.lists.specs.Facts.{Distinct, Rising}
-use Rattle.mesh.specs.Tables.{marked, put-bit}
-use Rattle.lists.proofs.Tests.{bool-cases, never, and-left, and-right, bit-false}
-use Rattle.lists.proofs.Member.{in-left, in-right, in-cases, in-drop, member-in, in-member, not-member, split-in}
-use Rattle.lists.proofs.Count.{count-append, count-mid, count-pos, count-all}
-use Rattle.lists.proofs.Distinct.{permutation-in, distinct-mid, distinct-right, distinct-apart, permutation-distinct}
-use Rattle.lists.proofs.Filter.{filter-ext, in-filter, filter-in, distinct-filter}
-use Rattle.mesh.proofs.Tables.Laws.{length-put-bit}
-use Rattle.mesh.specs.Peel.{Peels}
-use Rattle.mesh.proofs.Links.Peel.{takes-more, takes-permutation, takes-now-in, takes-taken-in, takes-now-filter}
-use Rattle.rows.specs.Rows.{neighbours-of}
-use Rattle.rows.proofs.RowListLaws.{distinct-neighbours-of, in-neighbours-of, member-neighbours-of}
-use Rattle.rows.specs.Sets.{in-set}
-use Rattle.plan.specs.Turns.{released, places-released, near-left, Releasable}
-use Rattle.plan.specs.Peels.{stretch, above, Level, Turning, Whole-counted, Left-set}
-use Rattle.plan.proofs.TurnLaws.{marked-put, getD-released-level, fits-released, marked-released, marked-released-place}
-use Rattle.plan.proofs.TurnLoops.{length-released, length-places-released}
-use Rattle.plan.proofs.StretchLoops.{length-stretch}
-use Rattle.lists.proofs.Ascending.{rising-filter, rising-before}
-use Rattle.plan.proofs.LevelLaws.{first-marked-in, first-marked-least, place-level, level-stretch, Stands, stretch-stands, place-apart, place-small}
-use Rattle.plan.proofs.LevelLaws.{rising-stretch, distinct-stretch}
+use Rattle.lists.{specs.Kit.{_≡_, refl, sym, ap, _∙_, _⊎_, inl, inr, Bool, true, false, not, _&&_, _||_, cond, List, [], _∷_, _++_, ℕ, _+_, _≤_, _<_, arith}}
+use Rattle.lists.{specs.Kit.{ltb, leb, eqb, length, getD, length-append, eqb-true, eqb-false, ne-eqb, leb-true, leb-false, lt-ltb, le-ltb}, specs.Lists.{count}}
+use Rattle.lists.{specs.Lists.{filter, member, head-or, In}, specs.Facts.{Distinct, Rising}, proofs.Tests.{bool-cases, never, and-left, and-right, bit-false}}
+use Rattle.lists.{proofs.Member.{in-left, in-right, in-cases, in-drop, member-in, in-member, not-member, split-in}, proofs.Count.{count-append, count-mid}}
+use Rattle.lists.{proofs.Count.{count-pos, count-all}, proofs.Distinct.{permutation-in, distinct-mid, distinct-right, distinct-apart, permutation-distinct}}
+use Rattle.lists.{proofs.Filter.{filter-ext, in-filter, filter-in, distinct-filter}, proofs.Ascending.{rising-filter, rising-before}}
+use Rattle.mesh.{specs.Limits.{max-radios}, specs.Tables.{marked}, specs.Peel.{Peels}}
+use Rattle.mesh.{proofs.Links.Peel.{takes-more, takes-permutation, takes-now-in, takes-taken-in, takes-now-filter}}
+use Rattle.rows.{specs.Rows.{neighbours-of}, proofs.RowListLaws.{distinct-neighbours-of, in-neighbours-of, member-neighbours-of}, specs.Sets.{in-set}}
+use Rattle.plan.specs.{Turns.{released, places-released, near-left, Releasable}, Peels.{stretch, above, Level, Turning, Left-set, stretch-at}}
+use Rattle.plan.proofs.{TurnLaws.{getD-released-level, fits-released, marked-released, marked-released-place}, TurnLoops.{length-released}}
+use Rattle.plan.proofs.{TurnLoops.{length-places-released}, StretchLoops.{length-stretch}, LevelLaws.{first-marked-in, first-marked-least, place-level}}
+use Rattle.plan.proofs.{LevelLaws.{level-stretch, Stands, stretch-stands, place-apart, place-small, rising-stretch, distinct-stretch}}
+use Rattle.plan.proofs.TurnLaws.{place-out}
+use Rattle.rows.proofs.SetLaws.{length-take-out}
+use Rattle.rows.specs.Sets.{take-out, common}
 
 module _ {f : ℕ → ℕ → Bool} {ns os ps : List ℕ} {k start size : ℕ} (lv : Level f ns os ps k start size) (m : ℕ) where
   abbrev level : List ℕ
@@ -44,7 +28,7 @@ module _ {f : ℕ → ℕ → Bool} {ns os ps : List ℕ} {k start size : ℕ} (
   abbrev place : ℕ → ℕ
   place v = getD ps v 0
 
-  module _ {taken cs fs : List ℕ} (h : Turning f m os ps start size taken cs fs) where
+  module _ {taken cs fs : List ℕ} (h : Turning f m os ps (stretch-at start size) taken cs fs) where
     abbrev left : List ℕ
     left = h .rest
 
@@ -64,17 +48,6 @@ module _ {f : ℕ → ℕ → Bool} {ns os ps : List ℕ} {k start size : ℕ} (
     left-rising =
         rw (takes-now-filter f m high (distinct-stretch lv) (h .takes)) (rising-filter place (λ v. member v left) level (rising-stretch lv))
 
-    -- before the first turn all radios of the level are counted
-    pub whole-none : taken ≡ [] → Whole-counted f os start size taken cs
-    whole-none e v i = go (level-cases v i)
-      where
-        go : In v taken ⊎ In v left → getD cs v 0 + count (f v) taken ≡ count (f v) level + count (f v) high
-        go (inl t) = absurd (nothing (rw e at t))
-          where
-            nothing : In v [] → ⊥
-            nothing q = q
-        go (inr l) = omega (arith, h .counted v l, takes-permutation f m high (h .takes) (f v), count-append (f v) taken left)
-
     pub length-left : length taken + length left ≡ size
     length-left =
         omega (
@@ -88,13 +61,14 @@ module _ {f : ℕ → ℕ → Bool} {ns os ps : List ℕ} {k start size : ℕ} (
 
     -- ---- the end: no place fits
 
-    module _ (none : (p : ℕ) → p < max-radios → marked fs 0 p ≡ false) where
+    module _ (none : (p : ℕ) → p < max-radios → in-set fs p ≡ false) where
       left-full : (v : ℕ) → In v left → m < getD cs v 0
       left-full v i =
           let at = left-in v i in
           let s = stretch-stands lv v at in
           leb-false (getD cs v 0) m
-          (sym (ap (λ (b : Bool). b && leb (getD cs v 0) m) (in-member v left i)) ∙ sym (h .fitting v at) ∙ none (place v) (omega (arith, s .high, lv .fits, lv .small)))
+          (sym (ap (λ (b : Bool). b && leb (getD cs v 0) m) (in-member v left i)) ∙ sym (h .fitting v at) ∙ none (place v)
+          (omega (arith, s .high, lv .fits, lv .small)))
 
       left-is : left ≡ filter (λ v. ltb m (getD cs v 0)) level
       left-is =
@@ -111,7 +85,7 @@ module _ {f : ℕ → ℕ → Bool} {ns os ps : List ℕ} {k start size : ℕ} (
 
     -- ---- a turn: the place p is the lowest that fits
 
-    module _ (p : ℕ) (first : p ≡ head-or max-radios (neighbours-of fs 0)) (some : p < max-radios) where
+    module _ (p : ℕ) (first : p ≡ head-or max-radios (common fs fs)) (some : p < max-radios) where
       abbrev v : ℕ
       v = getD os p 0
 
@@ -128,7 +102,7 @@ module _ {f : ℕ → ℕ → Bool} {ns os ps : List ℕ} {k start size : ℕ} (
       taken-place = lv .placed p (there .0) (there .1)
 
       taken-fits : (member v left && leb (getD cs v 0) m) ≡ true
-      taken-fits = sym (h .fitting v taken-level) ∙ ap (marked fs 0) taken-place ∙ first-marked-in fs p first some
+      taken-fits = sym (h .fitting v taken-level) ∙ ap (in-set fs) taken-place ∙ first-marked-in fs p first some
 
       pub taken-left : In v left
       taken-left = member-in v left (and-left (member v left) (leb (getD cs v 0) m) taken-fits)
@@ -145,7 +119,7 @@ module _ {f : ℕ → ℕ → Bool} {ns os ps : List ℕ} {k start size : ℕ} (
         cs1 = released ns k near cs
 
         abbrev fs0 : List ℕ
-        fs0 = put-bit false 0 p fs
+        fs0 = take-out p fs
 
         abbrev fs1 : List ℕ
         fs1 = places-released ns ps k m near cs fs0
@@ -157,14 +131,16 @@ module _ {f : ℕ → ℕ → Bool} {ns os ps : List ℕ} {k start size : ℕ} (
         counter-less-or-same : (w : ℕ) → In w level → getD cs1 w 0 ≤ getD cs w 0
         counter-less-or-same w i = omega (arith, counter-after w i)
 
-        long-fs0 : length fs0 ≡ row-bytes
-        long-fs0 = length-put-bit false 0 p fs ∙ h .fits-long
+        long-fs0 : length fs0 ≡ 8
+        long-fs0 = length-take-out p fs ∙ h .fits-long
 
-        place-marked-after : (w : ℕ) → In w level → marked fs1 0 (place w) ≡ (cond (eqb p (place w)) false (marked fs 0 (place w)) || (member w near && eqb (getD cs1 w 0) m))
+        place-marked-after : (w : ℕ) → In w level → in-set fs1 (place w) ≡
+            (cond (eqb p (place w)) false (in-set fs (place w)) || (member w near && eqb (getD cs1 w 0) m))
         place-marked-after w i =
             let s = stretch-stands lv w i in
-            marked-released-place ns ps k m (place-small lv) (place-apart lv) near cs fs0 long-fs0 may w (omega (arith, s .below, lv .numbers-length)) (s .level)
-            ∙ rw (marked-put false p (place w) fs (h .fits-long) some (omega (arith, s .high, lv .fits, lv .small)))
+            marked-released-place ns ps k m (place-small lv) (place-apart lv) near cs fs0 long-fs0 may w (omega (arith, s .below, lv .numbers-length))
+            (s .level)
+            ∙ rw (place-out p (place w) fs (h .fits-long) some)
 
         -- what is left, cut at v
         module _ (xs ys : List ℕ) (cut : left ≡ xs ++ v ∷ ys) where
@@ -199,7 +175,8 @@ module _ {f : ℕ → ℕ → Bool} {ns os ps : List ℕ} {k start size : ℕ} (
                   omega (
                     arith,
                     h .counted w in-left-now,
-                    leb-false (getD cs w 0) m (sym (ap (λ (b : Bool). b && leb (getD cs w 0) m) (in-member w left in-left-now)) ∙ sym (h .fitting w at) ∙ unmarked),
+                    leb-false (getD cs w 0) m (sym (ap (λ (b : Bool). b && leb (getD cs w 0) m) (in-member w left in-left-now)) ∙ sym (h .fitting w at) ∙
+                        unmarked),
                   )
 
           still-left : (w : ℕ) → In w (xs ++ ys) → In w left
@@ -232,13 +209,14 @@ module _ {f : ℕ → ℕ → Bool} {ns os ps : List ℕ} {k start size : ℕ} (
           taken-unfit false x y e l = refl
           taken-unfit true x y e l = ne-eqb y m (λ q. omega arith)
 
-          fitting-after : (w : ℕ) → In w level → marked fs1 0 (place w) ≡ (member w (xs ++ ys) && leb (getD cs1 w 0) m)
+          fitting-after : (w : ℕ) → In w level → in-set fs1 (place w) ≡ (member w (xs ++ ys) && leb (getD cs1 w 0) m)
           fitting-after w i = place-marked-after w i ∙ go (bool-cases (eqb p (place w)))
             where
               s : Stands lv w
               s = stretch-stands lv w i
 
-              others : (v ≡ w → ⊥) → (t : Bool) → member w left ≡ t → ((t && leb (getD cs w 0) m) || (member w near && eqb (getD cs1 w 0) m)) ≡ (t && leb (getD cs1 w 0) m)
+              others : (v ≡ w → ⊥) → (t : Bool) → member w left ≡ t → ((t && leb (getD cs w 0) m) || (member w near && eqb (getD cs1 w 0) m)) ≡
+                  (t && leb (getD cs1 w 0) m)
               others ne true e = fits-released m (member w near) (getD cs w 0) (getD cs1 w 0) (counter-after w i)
               others ne false e = used (level-cases w i)
                 where
@@ -247,7 +225,8 @@ module _ {f : ℕ → ℕ → Bool} {ns os ps : List ℕ} {k start size : ℕ} (
                   used (inr l) = never (member w left) (in-member w left l) e
 
               go : (eqb p (place w) ≡ true) ⊎ (eqb p (place w) ≡ false)
-                  → (cond (eqb p (place w)) false (marked fs 0 (place w)) || (member w near && eqb (getD cs1 w 0) m)) ≡ (member w (xs ++ ys) && leb (getD cs1 w 0) m)
+                  → (cond (eqb p (place w)) false (in-set fs (place w)) || (member w near && eqb (getD cs1 w 0) m)) ≡
+                  (member w (xs ++ ys) && leb (getD cs1 w 0) m)
               go (inl e) =
                   let same : v ≡ w = ap (λ (x : ℕ). getD os x 0) (eqb-true p (place w) e) ∙ s .entry in
                   let self : member w near ≡ false = releases w (rw same at taken-left) ∙ ap (f v) (sym same) ∙ lv .irreflexive v in
@@ -257,15 +236,15 @@ module _ {f : ℕ → ℕ → Bool} {ns os ps : List ℕ} {k start size : ℕ} (
                   let ne : v ≡ w → ⊥ = λ q. eqb-false p (place w) e (sym taken-place ∙ ap place q) in
                   rw (e, h .fitting w i, member-after w ne) (others ne (member w left) refl)
 
-          standing-after : (q : ℕ) → q < max-radios → marked fs1 0 q ≡ true → (start ≤ q) × (q < start + size)
+          standing-after : (q : ℕ) → q < max-radios → in-set fs1 q ≡ true → (start ≤ q) × (q < start + size)
           standing-after q l t = go (marked-released ns ps k m (place-small lv) near cs fs0 long-fs0 may q l t)
             where
-              old : (b : Bool) → eqb p q ≡ b → cond b false (marked fs 0 q) ≡ true → marked fs 0 q ≡ true
+              old : (b : Bool) → eqb p q ≡ b → cond b false (in-set fs q) ≡ true → in-set fs q ≡ true
               old true e u = never false u refl
               old false e u = u
 
-              go : (marked fs0 0 q ≡ true) ⊎ ((w : ℕ) × (w < length ns) × (getD ns w 0 ≡ k) × (getD ps w 0 ≡ q)) → (start ≤ q) × (q < start + size)
-              go (inl u) = h .standing q l (old (eqb p q) refl (sym (marked-put false p q fs (h .fits-long) some l) ∙ u))
+              go : (in-set fs0 q ≡ true) ⊎ ((w : ℕ) × (w < length ns) × (getD ns w 0 ≡ k) × (getD ps w 0 ≡ q)) → (start ≤ q) × (q < start + size)
+              go (inl u) = h .standing q l (old (eqb p q) refl (sym (place-out p q fs (h .fits-long) some) ∙ u))
               go (inr r) =
                   let s = lv .stands (r .0) (omega (arith, r .1, lv .numbers-length)) (r .2) in
                   (omega (arith, s .0, r .3), omega (arith, s .1, r .3))
@@ -278,7 +257,7 @@ module _ {f : ℕ → ℕ → Bool} {ns os ps : List ℕ} {k start size : ℕ} (
               go (inr (inl e)) = rw (← e) (omega (arith, taken-few, counter-less-or-same v taken-level))
               go (inr (inr e)) = absurd e
 
-          turned : Turning f m os ps start size (taken ++ (v ∷ [])) cs1 fs1
+          turned : Turning f m os ps (stretch-at start size) (taken ++ (v ∷ [])) cs1 fs1
           turned = record {
             rest = xs ++ ys;
             takes = takes-more f m high v xs ys (h .takes) cut fits-now before;
@@ -290,7 +269,7 @@ module _ {f : ℕ → ℕ → Bool} {ns os ps : List ℕ} {k start size : ℕ} (
             fits-long = length-places-released ns ps k m near cs fs0 ∙ long-fs0;
           }
 
-        pub turns-more : Turning f m os ps start size (taken ++ (v ∷ [])) cs1 fs1
+        pub turns-more : Turning f m os ps (stretch-at start size) (taken ++ (v ∷ [])) cs1 fs1
         turns-more = let r = split-in v left taken-left in turned (r .0) (r .1) (r .2)
 
       -- the neighbours of v after the call, as a row lists them
@@ -313,35 +292,8 @@ module _ {f : ℕ → ℕ → Bool} {ns os ps : List ℕ} {k start size : ℕ} (
           above-zero = λ w i e. some-left w i (level-stretch lv w (lv .within v w (linked w i)) e);
         }
 
-        -- all of them
-        module _ (whole : Whole-counted f os start size taken cs) where
-          pub taken-releasable : Releasable ns ps k (neighbours-of us v) cs
-          taken-releasable = row-releasable (neighbours-of us v) (distinct-neighbours-of us v) row-linked (λ w i at.
-              omega (
-                arith,
-                whole w at,
-                takes-permutation f m high (h .takes) (f w),
-                count-append (f w) taken left,
-                count-pos (f w) v left taken-left (lv .symmetric w v ∙ row-linked w i),
-              ))
-
-          pub whole-turns : Turning f m os ps start size (taken ++ (v ∷ [])) (released ns k (neighbours-of us v) cs)
-              (places-released ns ps k m (neighbours-of us v) cs (put-bit false 0 p fs))
-          whole-turns = turns-more (neighbours-of us v) taken-releasable (λ w i. row-member w (left-in w i))
-
-          pub whole-after : Whole-counted f os start size (taken ++ (v ∷ [])) (released ns k (neighbours-of us v) cs)
-          unfolding count
-          whole-after w i =
-              omega (
-                arith,
-                whole w i,
-                counter-after (neighbours-of us v) taken-releasable (λ w i. row-member w (left-in w i)) w i,
-                ap (λ (b : Bool). cond {A = ℕ} b 1 0) (row-member w i ∙ lv .symmetric v w),
-                count-append (f w) taken (v ∷ []),
-              )
-
         -- the ones that are left
-        module _ (set : List ℕ) (is : Left-set (taken ++ (v ∷ [])) set) where
+        module _ (set : List ℕ) (is : Left-set taken set) where
           abbrev near-set : List ℕ
           near-set = near-left us v set
 
@@ -361,7 +313,7 @@ module _ {f : ℕ → ℕ → Bool} {ns os ps : List ℕ} {k start size : ℕ} (
 
               go : In w taken ⊎ In w left → In w left
               go (inl t) =
-                  let gone : in-set set w ≡ false = is .has w (below-radios w at) ∙ ap not (in-member w (taken ++ (v ∷ [])) (in-left w taken (v ∷ []) t)) in
+                  let gone : in-set set w ≡ false = is .has w (below-radios w at) ∙ ap not (in-member w taken t) in
                   never (in-set set w) (r .1) gone
               go (inr l) = l
 
@@ -379,15 +331,10 @@ module _ {f : ℕ → ℕ → Bool} {ns os ps : List ℕ} {k start size : ℕ} (
 
               go : (f v w ≡ true) ⊎ (f v w ≡ false) → member w near-set ≡ f v w
               go (inl e) =
-                  let apart-v : v ≡ w → ⊥ = λ q. never (f v v) (ap (f v) q ∙ e) (lv .irreflexive v) in
-                  let out : member w (taken ++ (v ∷ [])) ≡ false = not-member w (taken ++ (v ∷ [])) (λ t. untaken apart-v (in-cases w taken (v ∷ []) t)) in
+                  let out : member w taken ≡ false = not-member w taken (λ t. distinct-apart taken left all-distinct w t i) in
                   in-member w near-set (near-in w (member-in w (neighbours-of us v) (row-member w at ∙ e)) (is .has w (below-radios w at) ∙ ap not out)) ∙ sym e
-                where
-                  untaken : (v ≡ w → ⊥) → In w taken ⊎ In w (v ∷ []) → ⊥
-                  untaken ne (inl t) = distinct-apart taken left all-distinct w t i
-                  untaken ne (inr (inl q)) = ne q
-                  untaken ne (inr (inr q)) = absurd q
               go (inr e) = not-member w near-set (λ t. never (f v w) (row-linked w (in-near w t .0)) e) ∙ sym e
 
-          pub left-turns : Turning f m os ps start size (taken ++ (v ∷ [])) (released ns k near-set cs) (places-released ns ps k m near-set cs (put-bit false 0 p fs))
+          pub left-turns : Turning f m os ps (stretch-at start size) (taken ++ (v ∷ [])) (released ns k near-set cs)
+              (places-released ns ps k m near-set cs (take-out p fs))
           left-turns = turns-more near-set left-releasable left-member

@@ -1,37 +1,26 @@
--- Where the next turn of a walk is, by what `first_marked` says of a whole row; the beginning end, branch by branch.
-use mathlib.Core.Path.{_≡_, ap, _∙_}
-use mathlib.Core.List.{List}
-use Prim.Native.Nat.{ℕ, _+_, _≤_, _<_}
-use native.Mathlib.Omega.{arith}
-use lib.ListN.{length, getD}
-use borrow.Author.Tests.{lt-ltb, le-ltb, le-leb, lt-leb}
-use Rattle.mesh.specs.Limits.{max-radios, row-bytes}
-use Rattle.lists.specs.Lists.{head-or}
-use Rattle.rows.specs.Rows.{neighbours-of, row-listed}
-use Rattle.rows.proofs.RowWords.{row-listed-whole}
+-- Where the next turn of a walk is, by the lowest place due; the beginning end, branch by branch.
+use Rattle.lists.specs.{Kit.{_≡_, List, ℕ, _+_, _≤_, _<_, arith, getD, lt-ltb, le-ltb, le-leb, lt-leb}, Lists.{head-or}}
+use Rattle.mesh.specs.Limits.{max-radios}
 use Rattle.plan.specs.Places.{stop-place, next-place, beginning-end}
+use Rattle.rows.specs.Sets.{common}
 
 module _ (first size front taken : ℕ) (ds : List ℕ) where
   pub next-none : front ≤ taken → stop-place ≡ next-place first size front taken ds
   unfolding next-place
   next-none l = rw (le-leb front taken l)
 
-  -- what `first_marked` says of a whole row
-  module _ (p : ℕ) (some : taken < front) (long : length ds ≡ row-bytes) (e : p ≡ head-or max-radios (row-listed ds 0)) where
-    whole : p ≡ head-or max-radios (neighbours-of ds 0)
-    whole = e ∙ ap (head-or max-radios) (row-listed-whole ds 0 (omega arith))
-
+  module _ (p : ℕ) (some : taken < front) (e : p ≡ head-or max-radios (common ds ds)) where
     pub next-before : p < first + front → p ≡ next-place first size front taken ds
     unfolding next-place
-    next-before l = rw (lt-leb front taken some, ← whole, lt-ltb p (first + front) l)
+    next-before l = rw (lt-leb front taken some, ← e, lt-ltb p (first + front) l)
 
     pub next-end : first + front ≤ p → size ≤ front → stop-place ≡ next-place first size front taken ds
     unfolding next-place
-    next-end l h = rw (lt-leb front taken some, ← whole, le-ltb p (first + front) l, le-leb size front h)
+    next-end l h = rw (lt-leb front taken some, ← e, le-ltb p (first + front) l, le-leb size front h)
 
     pub next-on : first + front ≤ p → front < size → p ≡ next-place first size front taken ds
     unfolding next-place
-    next-on l h = rw (lt-leb front taken some, ← whole, le-ltb p (first + front) l, lt-leb size front h)
+    next-on l h = rw (lt-leb front taken some, ← e, le-ltb p (first + front) l, lt-leb size front h)
 
 -- ---- the beginning end, by the numbers x and y of the ends a and b
 

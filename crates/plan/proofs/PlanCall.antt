@@ -1,27 +1,15 @@
 -- The facts that a plan's code hands from call to call, as the code names its values.
-use mathlib.Core.Path.{_≡_, ap, _∙_}
-use mathlib.Core.Bool.{Bool, true, false, not}
-use mathlib.Core.List.{List}
-use Prim.Native.Nat.{ℕ, _+_, _≤_, _<_, min}
-use native.Mathlib.Omega.{arith}
-use lib.Dec.{ltb}
-use lib.ListN.{length, getD, replicate, length-replicate}
-use lib.Seq.{sets}
-use Rattle.mesh.specs.Limits.{max-radios, row-bytes}
-use Rattle.lists.specs.Lists.{range, filter}
-use Rattle.mesh.specs.Graph.{linked}
-use Rattle.mesh.specs.Tables.{tables, byte-at, graph-in}
-use Rattle.mesh.proofs.GraphLaws.{linked-sym}
-use Rattle.mesh.proofs.Links.Call.{linked-positive}
-use Rattle.mesh.specs.Peel.{bound}
-use Rattle.mesh.proofs.Tables.Laws.{marked-replicate}
-use Rattle.plan.specs.Plans.{Ready, Planned}
-use Rattle.plan.specs.Turns.{ends-counted, places-fitting, Begin-ready}
-use Rattle.plan.specs.Places.{level-start, level-size}
-use Rattle.plan.specs.Peels.{stretch, Peel-ready, Peel-done}
-use Rattle.plan.proofs.PlanLevel.{a-below, b-below, number-is, order-radios, level-is, stretch-fits}
-use Rattle.plan.proofs.PlanStart.{begin-ready, peel-ready}
-use Rattle.plan.proofs.PlanEnd.{plan-end}
+use Rattle.lists.specs.{Kit.{_≡_, ap, _∙_, Bool, true, false, not, List, ℕ, _+_, _≤_, _<_, min, arith, ltb, length, getD, replicate, length-replicate, sets}}
+use Rattle.lists.specs.{Lists.{range, filter}}
+use Rattle.mesh.{specs.Limits.{max-radios}, specs.Graph.{linked}, specs.Tables.{tables, graph-in}, proofs.GraphLaws.{linked-sym}}
+use Rattle.mesh.{proofs.Links.Call.{linked-positive}, specs.Peel.{bound}}
+use Rattle.plan.specs.{Plans.{Ready, Planned}, Turns.{ends-counted, places-fitting, Begin-ready}, Places.{level-start, level-size}, Peels.{stretch}}
+use Rattle.plan.specs.{Peels.{Peel-ready, Peel-done}}
+use Rattle.plan.proofs.{PlanLevel.{a-below, b-below, number-is, order-radios, level-is, stretch-fits}, PlanStart.{begin-ready, peel-ready}}
+use Rattle.plan.proofs.{PlanEnd.{plan-end}}
+use Rattle.plan.specs.Turns.{call-of}
+use Rattle.plan.specs.Plans.{plan-of}
+use Rattle.rows.proofs.SetLaws.{in-set-zeros}
 
 module _ {u : Bool} {a b : ℕ} {ts ns os ps cs : List ℕ} (r : Ready u (length os) a b (tables ts ns os) ps cs) where
   abbrev lower : ℕ
@@ -45,19 +33,18 @@ module _ {u : Bool} {a b : ℕ} {ts ns os ps cs : List ℕ} (r : Ready u (length
   -- the call and its stretch, as `call_at` and `stretch_of` say them
   module _ {w : Bool} {x y k m from many : ℕ} (call : (w ≡ u) × (x ≡ a) × (y ≡ b) × (k ≡ lower) × (m ≡ bound u lower))
       (at : (from ≡ level-start ns k) × (many ≡ level-size ns k)) where
-    pub plan-begin : Begin-ready w x y k from many ns os cs
-    plan-begin = rw (call .0, call .1, call .2, at .0, at .1) (begin-ready r k (call .3))
+    pub plan-begin : Begin-ready (call-of w x y k m) from many ns os cs
+    plan-begin = rw (call .0, call .1, call .2, at .0, at .1) (begin-ready r k (call .3) m)
 
     pub plan-peel : (cs1 fs1 : List ℕ) (room : ℕ) → (cs1 ≡ ends-counted w x y k ns cs)
-        × (fs1 ≡ places-fitting os (ends-counted w x y k ns cs) m (range from many) (replicate row-bytes 0)) → length os ≤ room
-        → Peel-ready w x y k m ts ns os ps cs1 fs1 room
-    unfolding byte-at
+        × (fs1 ≡ places-fitting os (ends-counted w x y k ns cs) m (range from many) (replicate 8 0)) → length os ≤ room
+        → Peel-ready (call-of w x y k m) ts ns os ps cs1 fs1 room
     plan-peel cs1 fs1 room e l =
         rw (e .0, e .1, call .0, call .1, call .2, at .0, at .1)
-        (peel-ready r k (call .3) m (replicate row-bytes 0) (length-replicate {A = ℕ} row-bytes 0) (λ q lq. marked-replicate row-bytes 0 q (omega arith))
+        (peel-ready r k (call .3) m (replicate 8 0) (length-replicate {A = ℕ} 8 0) (λ q lq. in-set-zeros 8 q)
         room l)
 
-    pub plan-stuck : (taken : ℕ) (cs2 list1 : List ℕ) → Peel-done w x y k m ts ns os taken cs2 list1
+    pub plan-stuck : (taken : ℕ) (cs2 list1 : List ℕ) → Peel-done (call-of w x y k m) ts ns os taken cs2 list1
         → (from + many ≤ length os) × (from + many ≤ max-radios) × (taken ≤ max-radios) × ((p : ℕ) → p < length os → getD os p 0 < max-radios)
     plan-stuck taken cs2 list1 done =
         let fits : from + many ≤ length os = omega (arith, at .0, at .1, stretch-fits r k) in (
@@ -67,8 +54,10 @@ module _ {u : Bool} {a b : ℕ} {ts ns os ps cs : List ℕ} (r : Ready u (length
           λ p l. omega (arith, order-radios r p l, r .small),
         )
 
-    pub plan-done : (taken : ℕ) (cs2 list1 list2 : List ℕ) → Peel-done w x y k m ts ns os taken cs2 list1 → length list1 ≡ max-radios
-        → list2 ≡ sets list1 taken (filter (λ v. ltb m (getD cs2 v 0)) (stretch os from many)) → Planned u a b (graph-in (length os) ts) os from many taken list2
+    pub plan-done : (taken : ℕ) (cs2 list1 list2 : List ℕ) → Peel-done (call-of w x y k m) ts ns os taken cs2 list1 → length list1 ≡ max-radios
+        → list2 ≡ sets list1 taken (filter (λ v. ltb m (getD cs2 v 0)) (stretch os from many))
+        → Planned u a b (graph-in (length os) ts) os (plan-of from many taken) list2
     plan-done taken cs2 list1 list2 done room written =
-        plan-end r w x y k m from many taken cs2 list1 list2 (call .0) (call .1) (call .2) (call .3 ∙ level-is r) (call .4 ∙ ap (bound u) (level-is r)) (at .0) (at .1)
+        plan-end r w x y k m from many taken cs2 list1 list2 (call .0) (call .1) (call .2) (call .3 ∙ level-is r) (call .4 ∙ ap (bound u) (level-is r)) (at .0)
+        (at .1)
         done room written

@@ -1,30 +1,14 @@
 -- What a plan comes to: the taken, then the stuck, are document 01's layout of the stretch, and one part of them the changed radios.
-use mathlib.Core.Path.{_≡_, refl, sym, ap, ap₂, subst, _∙_}
-use mathlib.Core.Logic.{_⊎_, inl, inr}
-use mathlib.Core.Bool.{Bool, true, false, cond}
-use mathlib.Core.List.{List, [], _++_, append-assoc}
-use Prim.Native.Nat.{ℕ, _+_, _≤_, _<_}
-use native.Mathlib.Omega.{arith}
-use lib.Dec.{ltb}
-use lib.ListN.{length, getD, take, drop, length-append, take-append-drop}
-use lib.Seq.{paste, paste-zero, drop-drop, sets, sets-eq, length-sets, take-at, drop-at, take-take, getD-take, length-take-le}
-use Rattle.mesh.specs.Limits.{max-neighbours, max-radios}
-use Rattle.lists.specs.Lists.{filter, member, In}
-use Rattle.mesh.specs.Graph.{Graph, linked, relinked}
-use Rattle.mesh.specs.Cores.{number}
-use Rattle.mesh.specs.Levels.{changed, lower-level, new-stretch, with-stretch, new-order}
-use Rattle.mesh.specs.Tables.{tables, graph-in}
-use Rattle.lists.proofs.Member.{in-cases, in-getD}
-use Rattle.lists.proofs.Count.{count-all}
-use Rattle.mesh.proofs.Links.LevelCut.{mids, highs}
-use Rattle.mesh.specs.Peel.{bound, Takes, none, Peels}
-use Rattle.mesh.proofs.Links.Peel.{Peeling, takes-permutation, takes-taken-in, takes-now-in}
-use Rattle.plan.specs.Plans.{Ready, Planned}
-use Rattle.plan.specs.Planned.{changed-part}
-use Rattle.plan.specs.Places.{level-start, level-size}
-use Rattle.plan.specs.Peels.{stretch, above, Peel-done}
-use Rattle.plan.proofs.StretchLoops.{length-stretch}
-use Rattle.plan.proofs.PlanLevel.{is-valid, start-is, size-is, stretch-is, above-is, stretch-fits, stretch-number}
+use Rattle.lists.{specs.Kit.{_≡_, refl, sym, ap, ap₂, subst, _∙_, _⊎_, inl, inr, Bool, true, false, cond, List, [], _++_, append-assoc, ℕ, _+_, _≤_, _<_}}
+use Rattle.lists.{specs.Kit.{arith, ltb, length, getD, take, drop, length-append, take-append-drop, paste, paste-zero, drop-drop, sets, sets-eq, length-sets}}
+use Rattle.lists.{specs.Kit.{take-at, drop-at, take-take, getD-take, length-take-le}, specs.Lists.{filter, member, In}, proofs.Member.{in-cases, in-getD}}
+use Rattle.lists.{proofs.Count.{count-all}}
+use Rattle.mesh.{specs.Limits.{max-neighbours, max-radios}, specs.Graph.{Graph, linked, relinked}, specs.Cores.{number}, specs.Levels.{changed, lower-level}}
+use Rattle.mesh.{specs.Levels.{new-stretch, with-stretch, new-order}, specs.Tables.{tables, graph-in}, proofs.Links.LevelCut.{mids, highs}, specs.Peel.{bound}}
+use Rattle.mesh.{specs.Peel.{Takes, none, Peels}, proofs.Links.Peel.{Peeling, takes-permutation, takes-taken-in, takes-now-in}}
+use Rattle.plan.specs.{Plans.{Ready, Planned, plan-of}, Planned.{changed-part}, Places.{level-start, level-size}, Peels.{stretch, above, Peel-done}}
+use Rattle.plan.proofs.{StretchLoops.{length-stretch}, PlanLevel.{is-valid, start-is, size-is, stretch-is, above-is, stretch-fits, stretch-number}}
+use Rattle.plan.specs.Turns.{call-of}
 use Rattle.mesh.proofs.Links.Call as link-call
 
 module _ {u : Bool} {a b : ℕ} {ts ns os ps cs : List ℕ} (r : Ready u (length os) a b (tables ts ns os) ps cs) where
@@ -49,7 +33,7 @@ module _ {u : Bool} {a b : ℕ} {ts ns os ps cs : List ℕ} (r : Ready u (length
   abbrev level : List ℕ
   level = stretch os start size
 
-  module _ (taken : ℕ) (cs1 list1 list2 : List ℕ) (done : Peel-done u a b K (bound u K) ts ns os taken cs1 list1) (room : length list1 ≡ max-radios)
+  module _ (taken : ℕ) (cs1 list1 list2 : List ℕ) (done : Peel-done (call-of u a b K (bound u K)) ts ns os taken cs1 list1) (room : length list1 ≡ max-radios)
       (written : list2 ≡ sets list1 taken (filter (λ v. ltb (bound u K) (getD cs1 v 0)) level)) where
     abbrev first : List ℕ
     first = take taken list1
@@ -113,7 +97,7 @@ module _ {u : Bool} {a b : ℕ} {ts ns os ps cs : List ℕ} (r : Ready u (length
         ∙ sym (link-call.new-stretch-is max-neighbours u a b g os (is-valid r) (r .allowed) peel)
         ∙ sym (ap₂ (λ (xs ys : List ℕ). new-stretch u after K (changed u a b g) xs ys) (stretch-is r K) (above-is r K))
 
-    plan-at : Planned u a b g os start size taken list2
+    plan-at : Planned u a b g os (plan-of start size taken) list2
     unfolding changed-part graph-in peel new-order with-stretch
     plan-at = record {
       fits = stretch-fits r K;
@@ -122,7 +106,8 @@ module _ {u : Bool} {a b : ℕ} {ts ns os ps cs : List ℕ} (r : Ready u (length
       taken-fits = done .fits;
       laid = rw (← start-is r K, ← size-is r K, ← stretch-laid) (append-assoc (take start os) (take size list2) (drop (start + size) os));
       changed-is = λ v l. link-call.changed-part max-neighbours u a b g os (is-valid r) (r .allowed) peel v l ∙ ap (member v) (part-is u);
-      radios = λ i l. rw (sym (getD-take size list2 i 0 l) ∙ ap (λ (xs : List ℕ). getD xs i 0) front) (front-in (getD (first ++ stuck) i 0) (in-getD (first ++ stuck) i (omega (arith, both-length))));
+      radios = λ i l. rw (sym (getD-take size list2 i 0 l) ∙ ap (λ (xs : List ℕ). getD xs i 0) front)
+          (front-in (getD (first ++ stuck) i 0) (in-getD (first ++ stuck) i (omega (arith, both-length))));
     }
 
     -- ---- nothing taken going down: nothing moves, nothing falls
@@ -141,7 +126,7 @@ module _ {u : Bool} {a b : ℕ} {ts ns os ps cs : List ℕ} (r : Ready u (length
         ∙ ap (λ (xs : List ℕ). take start os ++ xs) (take-append-drop size (drop start os))
         ∙ take-append-drop start os
 
-    unmoved-at : taken ≡ 0 → u ≡ false → Planned u a b g os 0 0 taken list1
+    unmoved-at : taken ≡ 0 → u ≡ false → Planned u a b g os (plan-of 0 0 taken) list1
     unfolding changed-part
     unmoved-at z d = record {
       fits = omega arith;
@@ -158,14 +143,15 @@ module _ {u : Bool} {a b : ℕ} {ts ns os ps cs : List ℕ} (r : Ready u (length
 
   -- as the code names its values
   pub plan-end : (w : Bool) (x y k m from many taken : ℕ) (cs1 list1 list2 : List ℕ) → w ≡ u → x ≡ a → y ≡ b → k ≡ K → m ≡ bound u K
-      → from ≡ level-start ns k → many ≡ level-size ns k → Peel-done w x y k m ts ns os taken cs1 list1 → length list1 ≡ max-radios
-      → list2 ≡ sets list1 taken (filter (λ v. ltb m (getD cs1 v 0)) (stretch os from many)) → Planned u a b g os from many taken list2
+      → from ≡ level-start ns k → many ≡ level-size ns k → Peel-done (call-of w x y k m) ts ns os taken cs1 list1 → length list1 ≡ max-radios
+      → list2 ≡ sets list1 taken (filter (λ v. ltb m (getD cs1 v 0)) (stretch os from many)) → Planned u a b g os (plan-of from many taken) list2
   plan-end w x y k m from many taken cs1 list1 list2 ew ex ey ek em es ez done room written =
       let fs : from ≡ start = es ∙ ap (level-start ns) ek in
       let fz : many ≡ size = ez ∙ ap (level-size ns) ek in
       rw (fs, fz) (plan-at taken cs1 list1 list2 (rw (ew, ex, ey, em, ek) at done) room (rw (fs, fz, em) at written))
 
   pub plan-unmoved : (w : Bool) (x y k m taken : ℕ) (cs1 list1 : List ℕ) → w ≡ u → x ≡ a → y ≡ b → k ≡ K → m ≡ bound u K
-      → Peel-done w x y k m ts ns os taken cs1 list1 → length list1 ≡ max-radios → taken ≡ 0 → u ≡ false → Planned u a b g os 0 0 taken list1
+      → Peel-done (call-of w x y k m) ts ns os taken cs1 list1 → length list1 ≡ max-radios → taken ≡ 0 → u ≡ false
+      → Planned u a b g os (plan-of 0 0 taken) list1
   plan-unmoved w x y k m taken cs1 list1 ew ex ey ek em done room z d =
       unmoved-at taken cs1 list1 (sets list1 taken (filter (λ v. ltb (bound u K) (getD cs1 v 0)) level)) (rw (ew, ex, ey, em, ek) at done) room refl z d

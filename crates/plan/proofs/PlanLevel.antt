@@ -1,46 +1,20 @@
 -- The level that a link call peels, from sound tables and a call that is allowed: its stretch, its radios, the neighbours after
 -- the call.
-use mathlib.Core.Path.{_≡_, refl, sym, ap, ap₂, _∙_}
-use mathlib.Core.Logic.{_⊎_, inl, inr}
-use mathlib.Core.Bool.{Bool, true, false, _&&_, cond}
-use mathlib.Core.List.{List, _++_}
-use Prim.Native.Nat.{ℕ, _+_, _-_, _≤_, _<_, min}
-use native.Mathlib.Omega.{arith}
-use lib.Dec.{ltb, eqb}
-use lib.ListN.{length, getD, length-append}
-use borrow.Author.Tests.{ltb-true, ltb-false, eqb-true, eq-eqb}
-use Rattle.mesh.specs.Limits.{max-radios, max-neighbours}
-use Rattle.lists.specs.Lists.{count, In}
-use Rattle.lists.specs.Facts.{Each-once}
-use Rattle.mesh.specs.Graph.{Graph, radios, linked, neighbours-among, degree, relinked, proper}
-use Rattle.mesh.specs.Cores.{number, numbers}
-use Rattle.mesh.specs.Levels.{lower-level, stretch-start, stretch-length}
-use Rattle.mesh.specs.Tables.{tables, marked, put-link, graph-in}
-use Rattle.mesh.specs.Sound.{symmetric, irreflexive, within, few, rows-proper, sound}
-use Rattle.lists.proofs.Tests.{bool-cases, never, and-left, and-right}
-use Rattle.lists.proofs.Filter.{in-filter, filter-in}
-use Rattle.lists.proofs.Range.{once-in, once-below}
-use Rattle.mesh.proofs.GraphLaws.{ends, ends-of, linked-self, linked-sym}
-use Rattle.mesh.proofs.Cores.Certificate.{Certificate}
-use Rattle.mesh.proofs.Cores.Peeling.{getD-numbers}
-use Rattle.mesh.proofs.Cores.KOrders.{k-order-certificate}
-use Rattle.mesh.proofs.Links.LevelCut.{lows, mids, highs, level-cut, stretch-start-is, stretch-length-is, take-level, drop-above}
-use Rattle.mesh.proofs.Links.Call.{relinked-proper}
-use Rattle.mesh.proofs.Links.Laws.{link-valid}
-use Rattle.mesh.specs.Valid.{Valid}
-use Rattle.mesh.proofs.Tables.Rows.{within-of, few-of, linked-within, row-degree-count}
-use Rattle.mesh.proofs.Tables.Laws.{marked-put-link}
-use Rattle.mesh.proofs.Tables.Relinked.{linked-relinked}
-use Rattle.mesh.proofs.Tables.ReadBack.{proper-graph-in, ascending-graph-in, linked-graph-in, degree-graph-in}
-use Rattle.mesh.proofs.Tables.Soundness.{Right, sound-right}
-use Rattle.rows.specs.Rows.{neighbours-of}
-use Rattle.rows.proofs.RowListLaws.{length-neighbours-of}
-use Rattle.plan.specs.Plans.{Ready}
-use Rattle.plan.specs.Places.{level-start, level-size}
-use Rattle.plan.specs.Peels.{stretch, above, linked-after, Level}
+use Rattle.lists.{specs.Kit.{_≡_, refl, sym, ap, ap₂, _∙_, _⊎_, inl, inr, Bool, true, false, _&&_, cond, List, _++_, ℕ, _+_, _-_, _≤_, _<_, min, arith, ltb}}
+use Rattle.lists.{specs.Kit.{eqb, length, getD, length-append, ltb-true, ltb-false, eqb-true, eq-eqb}, specs.Lists.{count, In}, specs.Facts.{Each-once}}
+use Rattle.lists.{proofs.Tests.{bool-cases, never, and-left, and-right}, proofs.Filter.{in-filter, filter-in}, proofs.Range.{once-in, once-below}}
+use Rattle.lists.{proofs.Member.{in-getD, getD-of-in}, proofs.Count.{count-map}}
+use Rattle.mesh.{specs.Limits.{max-radios, max-neighbours}, specs.Graph.{Graph, radios, linked, neighbours-among, degree, relinked, proper}}
+use Rattle.mesh.{specs.Cores.{number, numbers}, specs.Levels.{lower-level, stretch-start, stretch-length}, specs.Tables.{tables, marked, put-link, graph-in}}
+use Rattle.mesh.{specs.Sound.{symmetric, irreflexive, within, few, rows-proper, sound}, proofs.GraphLaws.{ends, ends-of, linked-self, linked-sym}}
+use Rattle.mesh.{proofs.Cores.Certificate.{Certificate}, proofs.Cores.Peeling.{getD-numbers}, proofs.Cores.KOrders.{k-order-certificate}}
+use Rattle.mesh.{proofs.Links.LevelCut.{lows, mids, highs, level-cut, stretch-start-is, stretch-length-is, take-level, drop-above}}
+use Rattle.mesh.{proofs.Links.Call.{relinked-proper}, proofs.Links.Laws.{link-valid}, specs.Valid.{Valid}, proofs.Tables.Rows.{within-of, few-of}}
+use Rattle.mesh.{proofs.Tables.Rows.{linked-within, row-degree-count}, proofs.Tables.Laws.{marked-put-link}, proofs.Tables.Relinked.{linked-relinked}}
+use Rattle.mesh.{proofs.Tables.ReadBack.{proper-graph-in, ascending-graph-in, linked-graph-in, degree-graph-in}, proofs.Tables.Soundness.{Right, sound-right}}
+use Rattle.rows.{specs.Rows.{neighbours-of}, proofs.RowListLaws.{length-neighbours-of}}
+use Rattle.plan.specs.{Plans.{Ready}, Places.{level-start, level-size}, Peels.{stretch, above, linked-after, Level}}
 use Rattle.plan.proofs.StretchLoops.{length-stretch, getD-stretch}
-use Rattle.lists.proofs.Member.{in-getD, getD-of-in}
-use Rattle.lists.proofs.Count.{count-map}
 
 -- ---- laws of lists
 
@@ -65,19 +39,23 @@ module _ {u : Bool} {a b : ℕ} {ts ns os ps cs : List ℕ} (r : Ready u (length
 
   pub is-symmetric : symmetric n ts ≡ true
   unfolding rows-proper
-  is-symmetric = and-left (symmetric n ts) (irreflexive n ts) (and-left (symmetric n ts && irreflexive n ts) (within n ts && few max-neighbours n ts) (right .rows))
+  is-symmetric = and-left (symmetric n ts) (irreflexive n ts)
+      (and-left (symmetric n ts && irreflexive n ts) (within n ts && few max-neighbours n ts) (right .rows))
 
   pub is-irreflexive : irreflexive n ts ≡ true
   unfolding rows-proper
-  is-irreflexive = and-right (symmetric n ts) (irreflexive n ts) (and-left (symmetric n ts && irreflexive n ts) (within n ts && few max-neighbours n ts) (right .rows))
+  is-irreflexive = and-right (symmetric n ts) (irreflexive n ts)
+      (and-left (symmetric n ts && irreflexive n ts) (within n ts && few max-neighbours n ts) (right .rows))
 
   pub is-within : within n ts ≡ true
   unfolding rows-proper
-  is-within = and-left (within n ts) (few max-neighbours n ts) (and-right (symmetric n ts && irreflexive n ts) (within n ts && few max-neighbours n ts) (right .rows))
+  is-within = and-left (within n ts) (few max-neighbours n ts)
+      (and-right (symmetric n ts && irreflexive n ts) (within n ts && few max-neighbours n ts) (right .rows))
 
   is-few : few max-neighbours n ts ≡ true
   unfolding rows-proper
-  is-few = and-right (within n ts) (few max-neighbours n ts) (and-right (symmetric n ts && irreflexive n ts) (within n ts && few max-neighbours n ts) (right .rows))
+  is-few = and-right (within n ts) (few max-neighbours n ts)
+      (and-right (symmetric n ts && irreflexive n ts) (within n ts && few max-neighbours n ts) (right .rows))
 
   pub is-valid : Valid max-neighbours g os
   unfolding graph-in
@@ -195,7 +173,8 @@ module _ {u : Bool} {a b : ℕ} {ts ns os ps cs : List ℕ} (r : Ready u (length
       placed = placed-at ek;
       numbered = numbered-at;
       stands = λ v l e. (
-          let m = getD-of-in v (stretch os start size) (rw stretch-is (filter-in (λ v. eqb (num v) k) os v (once-in n os is-once v l) (eq-eqb (num v) k (sym (number-is v l) ∙ e)))) in
+          let m = getD-of-in v (stretch os start size)
+          (rw stretch-is (filter-in (λ v. eqb (num v) k) os v (once-in n os is-once v l) (eq-eqb (num v) k (sym (number-is v l) ∙ e)))) in
           stands-at ek v (m .0) (omega (arith, m .1, length-stretch os start size stretch-fits)) (m .2));
       within = λ v w h. past v w h (bool-cases (ltb w n));
       irreflexive = linked-self after after-proper;
@@ -207,7 +186,8 @@ module _ {u : Bool} {a b : ℕ} {ts ns os ps cs : List ℕ} (r : Ready u (length
             let i : start + (p - start) ≡ p = omega arith in
             let at : getD (stretch os start size) (p - start) 0 ≡ getD os p 0 =
             getD-stretch os start size (p - start) (omega arith) ∙ ap (λ (x : ℕ). getD os x 0) i in
-            let m = stretch-number (getD os p 0) (rw at at (in-getD (stretch os start size) (p - start) (omega (arith, length-stretch os start size stretch-fits)))) in
+            let m = stretch-number (getD os p 0) (rw at at
+            (in-getD (stretch os start size) (p - start) (omega (arith, length-stretch os start size stretch-fits)))) in
             number-is (getD os p 0) (m .0) ∙ m .1
 
         past : (v w : ℕ) → linked after v w ≡ true → (ltb w n ≡ true) ⊎ (ltb w n ≡ false) → w < n
@@ -218,7 +198,8 @@ module _ {u : Bool} {a b : ℕ} {ts ns os ps cs : List ℕ} (r : Ready u (length
     row-is v w l lw = marked-put-link u n a b ts v w (r .small) (r .links-length) a-below b-below lw ∙ go (bool-cases (ltb w n))
       where
         relinked-is : linked after v w ≡ cond (ends a b v w) u (linked g v w)
-        relinked-is = linked-relinked u a b g (is-valid .links-proper) (is-valid .links-ascending) (r .allowed .a-radio) (r .allowed .b-radio) (r .allowed .differ) v w
+        relinked-is = linked-relinked u a b g (is-valid .links-proper) (is-valid .links-ascending) (r .allowed .a-radio) (r .allowed .b-radio)
+            (r .allowed .differ) v w
 
         not-ends : n ≤ w → (t : Bool) → ends a b v w ≡ t → cond t u (marked ts v w) ≡ false
         not-ends h true e = absurd (no (ends-of a b v w e))

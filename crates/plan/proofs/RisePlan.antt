@@ -1,33 +1,16 @@
 -- The plan of a level that rises whole: no radio of it fits with the link, so the peel takes nobody and the stretch stands as it stood.
 -- In order: which radios fit with the link, the loop over the stretch, the plan.
-use mathlib.Core.Path.{_≡_, refl, sym, ap, _∙_}
-use mathlib.Core.Logic.{_⊎_, inl, inr}
-use mathlib.Core.Bool.{Bool, true, false, not, _||_, cond}
-use mathlib.Core.List.{List, _∷_, _++_}
-use Prim.Native.Nat.{ℕ, _+_, _-_, _≤_, _<_, min}
-use native.Mathlib.Omega.{arith}
-use native.Mathlib.Nat.{add-zero}
-use lib.Dec.{ltb, leb, eqb}
-use lib.ListN.{length, getD, drop, take}
-use lib.Seq.{paste, sets, sets-eq, drop-cons, drop-length}
-use borrow.Author.Tests.{ltb-true, leb-true, leb-false, eqb-true, eqb-false, lt-ltb, le-leb, eq-eqb, ne-eqb, not-true}
-use Rattle.mesh.specs.Limits.{max-radios}
-use Rattle.lists.specs.Lists.{all, filter, In}
-use Rattle.lists.proofs.All.{all-in}
-use Rattle.lists.proofs.Filter.{filter-all}
-use Rattle.lists.proofs.Tests.{bool-cases, iff-eq}
-use Rattle.mesh.specs.Graph.{Graph}
-use Rattle.mesh.specs.Cores.{number}
-use Rattle.mesh.specs.Tables.{tables, graph-in}
-use Rattle.mesh.specs.Peel.{none}
-use Rattle.plan.specs.Plans.{Ready, Planned}
-use Rattle.plan.specs.Turns.{ends-counted, fits-linked, stays-linked}
-use Rattle.plan.specs.Places.{level-start, level-size}
-use Rattle.plan.specs.Peels.{stretch, Peel-done}
-use Rattle.plan.proofs.StretchLoops.{length-stretch, getD-stretch}
-use Rattle.plan.proofs.PlanLevel.{number-is, level-is, stretch-fits, stretch-number, order-radios}
-use Rattle.plan.proofs.PlanStart.{counter-a, counter-b, counter-other, counted-stretch}
-use Rattle.plan.proofs.PlanEnd.{plan-end}
+use Rattle.lists.{specs.Kit.{_≡_, refl, sym, ap, _∙_, _⊎_, inl, inr, Bool, true, false, _||_, cond, List, _++_, ℕ, _+_, _-_, _≤_, _<_, min, arith, add-zero}}
+use Rattle.lists.{specs.Kit.{ltb, leb, eqb, length, getD, drop, take, paste, sets, sets-eq, ltb-true, leb-true, leb-false, eqb-true, eqb-false, lt-ltb, le-leb}}
+use Rattle.lists.{specs.Kit.{eq-eqb, ne-eqb, not-true}, specs.Lists.{all, filter, In}, proofs.All.{all-in}, proofs.Filter.{filter-all}}
+use Rattle.lists.{proofs.Tests.{bool-cases, iff-eq}}
+use Rattle.mesh.specs.{Limits.{max-radios}, Graph.{Graph}, Cores.{number}, Tables.{tables, graph-in}, Peel.{none}}
+use Rattle.plan.specs.{Plans.{Ready, Planned}, Turns.{ends-counted, fits-linked, stays-linked}, Places.{level-start, level-size}, Peels.{stretch}}
+use Rattle.plan.specs.{Peels.{Peel-done}}
+use Rattle.plan.proofs.{StretchLoops.{length-stretch}, PlanLevel.{level-is, stretch-fits, stretch-number, order-radios}, PlanStart.{counter-a}}
+use Rattle.plan.proofs.{PlanStart.{counter-b, counter-other, counted-stretch}, PlanEnd.{plan-end}}
+use Rattle.plan.specs.Turns.{call-of}
+use Rattle.plan.specs.Plans.{plan-of}
 
 -- ---- which radios fit with the link
 
@@ -93,13 +76,14 @@ module _ {a b : ℕ} {ts ns os ps cs : List ℕ} (r : Ready true (length os) a b
     stuck-all : filter (λ v. ltb k (getD cs1 v 0)) level ≡ level
     stuck-all = filter-all (λ v. ltb k (getD cs1 v 0)) level (λ v i. lt-ltb k (getD cs1 v 0) (above v i))
 
-    done : (list : List ℕ) → Peel-done true a b k k ts ns os 0 cs1 list
+    done : (list : List ℕ) → Peel-done (call-of true a b k k) ts ns os 0 cs1 list
     done list = record {
       fits = omega arith;
       peels = rw stuck-all (record { takes = none; full = λ v i. omega (arith, above v i, counted-stretch r k ek v i) });
     }
 
-    whole-plan : (list1 list2 : List ℕ) → length list1 ≡ max-radios → list2 ≡ paste list1 0 (drop start os) size → Planned true a b g os start size 0 list2
+    whole-plan : (list1 list2 : List ℕ) → length list1 ≡ max-radios → list2 ≡ paste list1 0 (drop start os) size
+        → Planned true a b g os (plan-of start size 0) list2
     whole-plan list1 list2 room e =
         plan-end r true a b k k start size 0 cs1 list1 list2 refl refl refl (ek ∙ level-is r) (ek ∙ level-is r) refl refl (done list1) room (e ∙ written)
       where
@@ -112,7 +96,7 @@ module _ {a b : ℕ} {ts ns os ps cs : List ℕ} (r : Ready true (length os) a b
   -- as the code names its values
   pub whole-lent : (from many : ℕ) → (from ≡ level-start ns k) × (many ≡ level-size ns k) → (t : Bool)
       → t ≡ all (stays-linked a b k cs) (stretch os from many) → t ≡ true → (list1 list2 : List ℕ) → length list1 ≡ max-radios
-      → list2 ≡ paste list1 0 (drop from os) (from + many - from) → Planned true a b g os from many 0 list2
+      → list2 ≡ paste list1 0 (drop from os) (from + many - from) → Planned true a b g os (plan-of from many 0) list2
   whole-lent from many at t et h list1 list2 room e =
       let same : from + many - from ≡ many = omega arith in
       rw (at .0, at .1)

@@ -1,14 +1,7 @@
 -- The loops over a level's stretch, as invariants over what is left of their lists.
 -- In order: what stands at a place of the stretch; its radios that a test passes, listed; whether all of them pass it.
-use mathlib.Core.Path.{_≡_, refl, ap, _∙_}
-use mathlib.Core.Bool.{Bool, true, false}
-use mathlib.Core.List.{List, _∷_}
-use Prim.Native.Nat.{ℕ, _+_, _-_, _≤_, _<_}
-use native.Mathlib.Omega.{arith}
-use native.Mathlib.Numerals.{add-one}
-use lib.ListN.{length, getD, set, drop, length-drop, length-set}
-use lib.Seq.{sets, drop-cons, drop-length, getD-take, getD-drop, length-take-le}
-use Rattle.lists.specs.Lists.{all, filter}
+use Rattle.lists.specs.{Kit.{_≡_, refl, ap, _∙_, Bool, true, false, List, _∷_, ℕ, _+_, _≤_, _<_, arith, add-one, length, getD, set, drop, length-drop}}
+use Rattle.lists.specs.{Kit.{length-set, sets, drop-cons, drop-length, getD-take, getD-drop, length-take-le}, Lists.{all, filter}}
 use Rattle.plan.specs.Peels.{stretch}
 
 -- ---- what stands at a place
@@ -46,7 +39,8 @@ module _ (f : ℕ → Bool) (os : List ℕ) (start size taken : ℕ) (old : List
         → Stretch-listed f os start size taken old new to (i + 1)
     unfolding filter
     stretch-passed e d k =
-        let cut : filter f (drop i (stretch os start size)) ≡ getD os (start + i) 0 ∷ filter f (drop (i + 1) (stretch os start size)) = ap (filter f) next ∙ rw e in
+        let cut : filter f (drop i (stretch os start size)) ≡ getD os (start + i) 0 ∷ filter f (drop (i + 1) (stretch os start size)) = ap (filter f) next ∙ rw
+        e in
         record {
           low = omega arith;
           few = omega (arith, h .few);

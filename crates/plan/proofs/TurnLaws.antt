@@ -1,44 +1,35 @@
 -- What releasing listed radios comes to: each radio of the level that is listed has a counter one less, and its place is marked
 -- if that counter is then the bound; no other place of the level changes.
-use mathlib.Core.Path.{_≡_, refl, sym, ap, _∙_}
-use mathlib.Core.Logic.{_⊎_, inl, inr}
-use mathlib.Core.Bool.{Bool, true, false, _&&_, _||_, cond, or-true, or-false, and-false}
-use mathlib.Core.List.{List, [], _∷_}
-use Prim.Native.Nat.{ℕ, _+_, _-_, _<_}
-use native.Mathlib.Omega.{arith}
-use lib.Dec.{leb, eqb}
-use lib.ListN.{length, getD, set}
-use lib.Seq.{getD-set-same, getD-set-other}
-use borrow.Author.Tests.{eqb-true, eqb-false, eq-eqb, ne-eqb, leb-true, leb-false, le-leb, lt-leb}
-use Rattle.mesh.specs.Limits.{max-radios, row-bytes}
-use Rattle.lists.specs.Lists.{member}
-use Rattle.mesh.specs.Tables.{byte-at, marked, put-bit}
-use Rattle.lists.proofs.Tests.{never, bool-cases, and-left}
-use Rattle.lists.proofs.Member.{not-member}
-use Rattle.mesh.proofs.Tables.Laws.{marked-put-bit}
+use Rattle.lists.{specs.Kit.{_≡_, refl, sym, ap, _∙_, _⊎_, inl, inr, Bool, true, false, _&&_, _||_, cond, or-true, or-false, and-false, List, [], _∷_, ℕ, _+_}}
+use Rattle.lists.{specs.Kit.{_-_, _<_, arith, leb, eqb, length, getD, set, getD-set-same, getD-set-other, eqb-true, eqb-false, eq-eqb, ne-eqb, leb-true}}
+use Rattle.lists.{specs.Kit.{leb-false, le-leb, lt-leb}, specs.Lists.{member}, proofs.Tests.{never, bool-cases, and-left}, proofs.Member.{not-member}}
+use Rattle.mesh.{specs.Limits.{max-radios}}
 use Rattle.plan.specs.Turns.{counter-less, released, place-marked, places-released, Releasable}
 use Rattle.plan.proofs.TurnLoops.{length-place-marked, releasable-tail}
+use Rattle.rows.proofs.SetLaws.{in-put-in, in-take-out}
+use Rattle.rows.specs.Sets.{in-set, put-in, take-out}
 
--- ---- laws of one row: bit p of a row of its own
+-- ---- a place put into a set of eight words, or taken out
 
-pub marked-put : (on : Bool) (p q : ℕ) (fs : List ℕ) → length fs ≡ row-bytes → p < max-radios → q < max-radios
-    → marked (put-bit on 0 p fs) 0 q ≡ cond (eqb p q) on (marked fs 0 q)
-unfolding byte-at
-marked-put on p q fs e lp lq = marked-put-bit on 0 p fs 0 q lp lq (omega arith)
+pub place-put : (p q : ℕ) (fs : List ℕ) → length fs ≡ 8 → p < max-radios → in-set (put-in p fs) q ≡ cond (eqb p q) true (in-set fs q)
+place-put p q fs e lp = in-put-in p q fs (omega arith)
+
+pub place-out : (p q : ℕ) (fs : List ℕ) → length fs ≡ 8 → p < max-radios → in-set (take-out p fs) q ≡ cond (eqb p q) false (in-set fs q)
+place-out p q fs e lp = in-take-out p q fs (omega arith)
 
 -- where one place of a part is cleared, a place that is still marked is another
-pub cleared-other : (first p q : ℕ) (fs : List ℕ) → length fs ≡ row-bytes → first + p < max-radios → first + q < max-radios
-    → marked (put-bit false 0 (first + p) fs) 0 (first + q) ≡ true → (q ≡ p → ⊥) × (marked fs 0 (first + q) ≡ true)
+pub cleared-other : (first p q : ℕ) (fs : List ℕ) → length fs ≡ 8 → first + p < max-radios → first + q < max-radios
+    → in-set (take-out (first + p) fs) (first + q) ≡ true → (q ≡ p → ⊥) × (in-set fs (first + q) ≡ true)
 cleared-other first p q fs long lp lq t = go (bool-cases (eqb (first + p) (first + q)))
   where
-    put : marked (put-bit false 0 (first + p) fs) 0 (first + q) ≡ cond (eqb (first + p) (first + q)) false (marked fs 0 (first + q))
-    put = marked-put false (first + p) (first + q) fs long lp lq
+    put : in-set (take-out (first + p) fs) (first + q) ≡ cond (eqb (first + p) (first + q)) false (in-set fs (first + q))
+    put = place-out (first + p) (first + q) fs long lp
 
-    go : (eqb (first + p) (first + q) ≡ true) ⊎ (eqb (first + p) (first + q) ≡ false) → (q ≡ p → ⊥) × (marked fs 0 (first + q) ≡ true)
-    go (inl e) = never (marked (put-bit false 0 (first + p) fs) 0 (first + q)) t (put ∙ ap (λ (b : Bool). cond b false (marked fs 0 (first + q))) e)
+    go : (eqb (first + p) (first + q) ≡ true) ⊎ (eqb (first + p) (first + q) ≡ false) → (q ≡ p → ⊥) × (in-set fs (first + q) ≡ true)
+    go (inl e) = never (in-set (take-out (first + p) fs) (first + q)) t (put ∙ ap (λ (b : Bool). cond b false (in-set fs (first + q))) e)
     go (inr e) = (
       λ s. eqb-false (first + p) (first + q) e (ap (λ (z : ℕ). first + z) (sym s)),
-      sym (put ∙ ap (λ (b : Bool). cond b false (marked fs 0 (first + q))) e) ∙ t,
+      sym (put ∙ ap (λ (b : Bool). cond b false (in-set fs (first + q))) e) ∙ t,
     )
 
 -- ---- counters
@@ -76,7 +67,8 @@ module _ (ns : List ℕ) (k : ℕ) where
           rw ne (rec ∙ counter-kept v w cs (inl (λ e. eqb-false v w ne (sym e))))
       go rec (inl e) (inr q) =
           let same = eqb-true v w e in
-          rw (e, q) (let zero-bit : getD (released ns k vs (counter-less ns k v cs)) w 0 + 0 ≡ getD (counter-less ns k v cs) w 0 = ap (λ (x : ℕ). getD (released ns k vs (counter-less ns k v cs)) w 0 + x) (sym (none q (member w vs))) ∙ rec in
+          rw (e, q) (let zero-bit : getD (released ns k vs (counter-less ns k v cs)) w 0 + 0 ≡ getD (counter-less ns k v cs) w 0 = ap
+          (λ (x : ℕ). getD (released ns k vs (counter-less ns k v cs)) w 0 + x) (sym (none q (member w vs))) ∙ rec in
           zero-bit ∙ counter-kept v w cs (inr (rw same (eqb-false (getD ns w 0) k q))))
         where
           none : eqb (getD ns w 0) k ≡ false → (t : Bool) → cond {A = ℕ} (t && eqb (getD ns w 0) k) 1 0 ≡ 0
@@ -122,9 +114,9 @@ fits-released m true x y e = go (bool-cases (leb x m)) (bool-cases (eqb y m))
 
 module _ (ns ps : List ℕ) (k m : ℕ) (small : (v : ℕ) → v < length ns → getD ns v 0 ≡ k → getD ps v 0 < max-radios) where
   -- a mark more is the place of a radio of the level
-  pub marked-released : (near cs fs : List ℕ) → length fs ≡ row-bytes → Releasable ns ps k near cs → (q : ℕ) → q < max-radios
-      → marked (places-released ns ps k m near cs fs) 0 q ≡ true
-      → (marked fs 0 q ≡ true) ⊎ ((w : ℕ) × (w < length ns) × (getD ns w 0 ≡ k) × (getD ps w 0 ≡ q))
+  pub marked-released : (near cs fs : List ℕ) → length fs ≡ 8 → Releasable ns ps k near cs → (q : ℕ) → q < max-radios
+      → in-set (places-released ns ps k m near cs fs) q ≡ true
+      → (in-set fs q ≡ true) ⊎ ((w : ℕ) × (w < length ns) × (getD ns w 0 ≡ k) × (getD ps w 0 ≡ q))
   unfolding places-released place-marked
   marked-released [] cs fs e h q lq t = inl t
   marked-released (v ∷ vs) cs fs e h q lq t =
@@ -135,32 +127,33 @@ module _ (ns ps : List ℕ) (k m : ℕ) (small : (v : ℕ) → v < length ns →
       test : Bool
       test = eqb (getD ns v 0) k && eqb (getD (counter-less ns k v cs) v 0) m
 
-      put : test ≡ true → marked (put-bit true 0 (getD ps v 0) fs) 0 q ≡ true → (eqb (getD ps v 0) q ≡ true) ⊎ (eqb (getD ps v 0) q ≡ false)
-          → (marked fs 0 q ≡ true) ⊎ ((w : ℕ) × (w < length ns) × (getD ns w 0 ≡ k) × (getD ps w 0 ≡ q))
+      put : test ≡ true → in-set (put-in (getD ps v 0) fs) q ≡ true → (eqb (getD ps v 0) q ≡ true) ⊎ (eqb (getD ps v 0) q ≡ false)
+          → (in-set fs q ≡ true) ⊎ ((w : ℕ) × (w < length ns) × (getD ns w 0 ≡ k) × (getD ps w 0 ≡ q))
       put p u (inl s) =
           let at-level = eqb-true (getD ns v 0) k (and-left (eqb (getD ns v 0) k) (eqb (getD (counter-less ns k v cs) v 0) m) p) in
           inr (v, h .known v (inl refl) .0, at-level, eqb-true (getD ps v 0) q s)
       put p u (inr s) =
           let at-level = eqb-true (getD ns v 0) k (and-left (eqb (getD ns v 0) k) (eqb (getD (counter-less ns k v cs) v 0) m) p) in
-          inl (ap (λ (b : Bool). cond b true (marked fs 0 q)) (sym s) ∙ sym (marked-put true (getD ps v 0) q fs e (small v (h .known v (inl refl) .0) at-level) lq) ∙ u)
+          inl (ap (λ (b : Bool). cond b true (in-set fs q)) (sym s) ∙ sym (place-put (getD ps v 0) q fs e (small v (h .known v (inl refl) .0) at-level)) ∙ u)
 
-      one : (marked (place-marked ns ps k m v (counter-less ns k v cs) fs) 0 q ≡ true) ⊎ ((w : ℕ) × (w < length ns) × (getD ns w 0 ≡ k) × (getD ps w 0 ≡ q))
+      one : (in-set (place-marked ns ps k m v (counter-less ns k v cs) fs) q ≡ true) ⊎ ((w : ℕ) × (w < length ns) × (getD ns w 0 ≡ k) × (getD ps w 0 ≡ q))
           → (test ≡ true) ⊎ (test ≡ false)
-          → (marked fs 0 q ≡ true) ⊎ ((w : ℕ) × (w < length ns) × (getD ns w 0 ≡ k) × (getD ps w 0 ≡ q))
+          → (in-set fs q ≡ true) ⊎ ((w : ℕ) × (w < length ns) × (getD ns w 0 ≡ k) × (getD ps w 0 ≡ q))
       one (inr r) s = inr r
       one (inl u) (inr s) = inl (rw s at u)
       one (inl u) (inl s) = put s (rw s at u) (bool-cases (eqb (getD ps v 0) q))
 
   module _ (apart : (v w : ℕ) → v < length ns → w < length ns → getD ns v 0 ≡ k → getD ns w 0 ≡ k → getD ps v 0 ≡ getD ps w 0 → v ≡ w) where
     -- the mark of a radio of the level
-    pub marked-released-place : (near cs fs : List ℕ) → length fs ≡ row-bytes → Releasable ns ps k near cs → (w : ℕ) → w < length ns → getD ns w 0 ≡ k
-        → marked (places-released ns ps k m near cs fs) 0 (getD ps w 0)
-        ≡ (marked fs 0 (getD ps w 0) || (member w near && eqb (getD (released ns k near cs) w 0) m))
+    pub marked-released-place : (near cs fs : List ℕ) → length fs ≡ 8 → Releasable ns ps k near cs → (w : ℕ) → w < length ns → getD ns w 0 ≡ k
+        → in-set (places-released ns ps k m near cs fs) (getD ps w 0)
+        ≡ (in-set fs (getD ps w 0) || (member w near && eqb (getD (released ns k near cs) w 0) m))
     unfolding places-released released place-marked member
-    marked-released-place [] cs fs e h w lw kw = sym (or-false (marked fs 0 (getD ps w 0)))
+    marked-released-place [] cs fs e h w lw kw = sym (or-false (in-set fs (getD ps w 0)))
     marked-released-place (v ∷ vs) cs fs e h w lw kw =
         let less = counter-less ns k v cs in
-        marked-released-place vs less (place-marked ns ps k m v less fs) (length-place-marked ns ps k m v less fs ∙ e) (releasable-tail ns ps k v vs cs h) w lw kw
+        marked-released-place vs less (place-marked ns ps k m v less fs) (length-place-marked ns ps k m v less fs ∙ e) (releasable-tail ns ps k v vs cs h) w lw
+        kw
         ∙ go (bool-cases (eqb v w))
       where
         less : List ℕ
@@ -170,24 +163,25 @@ module _ (ns ps : List ℕ) (k m : ℕ) (small : (v : ℕ) → v < length ns →
         end = released ns k vs less
 
         here : v ≡ w → (t : Bool) → eqb (getD less v 0) m ≡ t
-            → marked (cond (eqb (getD ns v 0) k && t) (put-bit true 0 (getD ps v 0) fs) fs) 0 (getD ps w 0) ≡ (marked fs 0 (getD ps w 0) || t)
+            → in-set (cond (eqb (getD ns v 0) k && t) (put-in (getD ps v 0) fs) fs) (getD ps w 0) ≡ (in-set fs (getD ps w 0) || t)
         here s true q =
             rw (eq-eqb (getD ns v 0) k (rw s kw), s)
-            (marked-put true (getD ps w 0) (getD ps w 0) fs e (small w lw kw) (small w lw kw) ∙ rw (eq-eqb (getD ps w 0) (getD ps w 0) refl) (sym (or-true (marked fs 0 (getD ps w 0)))))
-        here s false q = rw (and-false (eqb (getD ns v 0) k)) (sym (or-false (marked fs 0 (getD ps w 0))))
+            (place-put (getD ps w 0) (getD ps w 0) fs e (small w lw kw) ∙ rw (eq-eqb (getD ps w 0) (getD ps w 0) refl)
+            (sym (or-true (in-set fs (getD ps w 0)))))
+        here s false q = rw (and-false (eqb (getD ns v 0) k)) (sym (or-false (in-set fs (getD ps w 0))))
 
         elsewhere : (v ≡ w → ⊥) → (t : Bool) → (eqb (getD ns v 0) k && eqb (getD less v 0) m) ≡ t
-            → marked (cond t (put-bit true 0 (getD ps v 0) fs) fs) 0 (getD ps w 0) ≡ marked fs 0 (getD ps w 0)
+            → in-set (cond t (put-in (getD ps v 0) fs) fs) (getD ps w 0) ≡ in-set fs (getD ps w 0)
         elsewhere ne true q =
             let kv = eqb-true (getD ns v 0) k (and-left (eqb (getD ns v 0) k) (eqb (getD less v 0) m) q) in
             let lv = h .known v (inl refl) .0 in
-            marked-put true (getD ps v 0) (getD ps w 0) fs e (small v lv kv) (small w lw kw)
+            place-put (getD ps v 0) (getD ps w 0) fs e (small v lv kv)
             ∙ rw (ne-eqb (getD ps v 0) (getD ps w 0) (λ s. ne (apart v w lv lw kv kw s)))
         elsewhere ne false q = refl
 
         go : (eqb v w ≡ true) ⊎ (eqb v w ≡ false)
-            → (marked (place-marked ns ps k m v less fs) 0 (getD ps w 0) || (member w vs && eqb (getD end w 0) m))
-            ≡ (marked fs 0 (getD ps w 0) || ((eqb v w || member w vs) && eqb (getD end w 0) m))
+            → (in-set (place-marked ns ps k m v less fs) (getD ps w 0) || (member w vs && eqb (getD end w 0) m))
+            ≡ (in-set fs (getD ps w 0) || ((eqb v w || member w vs) && eqb (getD end w 0) m))
         go (inr s) =
             rw (s, elsewhere (eqb-false v w s) (eqb (getD ns v 0) k && eqb (getD less v 0) m) refl)
         go (inl s) =
@@ -196,4 +190,4 @@ module _ (ns ps : List ℕ) (k m : ℕ) (small : (v : ℕ) → v < length ns →
             let kept : getD end w 0 ≡ getD less v 0 =
             (let r = getD-released ns k ps vs less (releasable-tail ns ps k v vs cs h) w in
             omega (arith, rw out at r, ap (λ (x : ℕ). getD less x 0) same)) in
-            rw (s, out, kept) (or-false (marked (place-marked ns ps k m v less fs) 0 (getD ps w 0)) ∙ here same (eqb (getD less v 0) m) refl)
+            rw (s, out, kept) (or-false (in-set (place-marked ns ps k m v less fs) (getD ps w 0)) ∙ here same (eqb (getD less v 0) m) refl)

@@ -1,33 +1,15 @@
 -- The loops of a turn, as invariants over what is left of their lists.
 -- In order: lengths, the places that fit at the start, radios released: one, of a list, of a word, of a row.
-use mathlib.Core.Path.{_≡_, refl, sym, ap, _∙_}
-use mathlib.Core.Logic.{_⊎_, inl, inr}
-use mathlib.Core.Bool.{Bool, true, false, _&&_, cond}
-use mathlib.Core.List.{List, [], _∷_, _++_}
-use Prim.Native.Nat.{ℕ, suc, _+_, _*_, _-_, _/_, _%_, _^_, _≤_, _<_}
-use native.Mathlib.Omega.{arith}
-use native.Mathlib.Numerals.{add-one}
-use lib.Bits.{bitAnd, and-le-l}
-use lib.Count.{trailingZeros}
-use lib.Dec.{leb, eqb}
-use lib.ListN.{length, getD, set, drop, length-set}
-use lib.Seq.{drop-cons, getD-set-other, drop-length}
-use borrow.Author.Tests.{eq-eqb, ne-eqb}
-use Rattle.mesh.specs.Limits.{max-radios, row-bytes}
-use Rattle.lists.specs.Lists.{range, filter}
-use Rattle.mesh.specs.Tables.{digit, marked, put-bit}
-use Rattle.lists.proofs.Tests.{bool-cases}
-use Rattle.lists.proofs.Member.{in-left}
-use Rattle.lists.proofs.Distinct.{distinct-left}
-use Rattle.lists.proofs.Filter.{filter-filter}
-use Rattle.lists.proofs.Parts.{length-cond}
-use Rattle.mesh.proofs.Tables.Laws.{length-put-bit}
-use Rattle.rows.specs.Rows.{row-from, set-bits, row-word, word-of}
-use Rattle.rows.proofs.WordLaws.{set-bits-nothing, set-bits-lowest}
-use Rattle.rows.proofs.RowWords.{row-from-zero, row-from-end, row-from-word, words-from, marked-word, word-of-whole}
-use Rattle.rows.specs.Sets.{in-set}
-use Rattle.rows.proofs.SetLaws.{digit-and}
+use Rattle.lists.{specs.Kit.{_≡_, refl, sym, ap, _∙_, _⊎_, inl, inr, Bool, true, false, _&&_, cond, List, [], _∷_, _++_, ℕ, suc, _+_, _*_, _-_, _/_, _%_, _^_}}
+use Rattle.lists.{specs.Kit.{_≤_, _<_, arith, add-one, bitAnd, and-le-l, trailingZeros, leb, eqb, length, getD, set, drop, length-set, drop-cons}}
+use Rattle.lists.{specs.Kit.{getD-set-other, drop-length, eq-eqb, ne-eqb}, specs.Lists.{range, filter}, proofs.Tests.{bool-cases}, proofs.Member.{in-left}}
+use Rattle.lists.{proofs.Distinct.{distinct-left}, proofs.Filter.{filter-filter}, proofs.Parts.{length-cond}}
+use Rattle.mesh.{specs.Limits.{max-radios, row-bytes}, specs.Tables.{digit, marked}}
+use Rattle.rows.{specs.Rows.{row-from, set-bits, row-word, word-of}, proofs.WordLaws.{set-bits-nothing, set-bits-lowest}, proofs.RowWords.{row-from-zero}}
+use Rattle.rows.{proofs.RowWords.{row-from-end, row-from-word, words-from, marked-word, word-of-whole}, specs.Sets.{in-set}, proofs.SetLaws.{digit-and}}
 use Rattle.plan.specs.Turns.{end-counted, counter-less, released, place-marked, places-released, places-fitting, near-left, Releasable}
+use Rattle.rows.proofs.SetLaws.{length-put-in}
+use Rattle.rows.specs.Sets.{put-in}
 
 -- ---- lengths
 
@@ -38,7 +20,7 @@ length-counter-less ns k v cs = length-cond (eqb (getD ns v 0) k) (set cs v (get
 pub length-place-marked : (ns ps : List ℕ) (k m v : ℕ) (cs fs : List ℕ) → length (place-marked ns ps k m v cs fs) ≡ length fs
 unfolding place-marked
 length-place-marked ns ps k m v cs fs =
-    length-cond (eqb (getD ns v 0) k && eqb (getD cs v 0) m) (put-bit true 0 (getD ps v 0) fs) fs (length-put-bit true 0 (getD ps v 0) fs)
+    length-cond (eqb (getD ns v 0) k && eqb (getD cs v 0) m) (put-in (getD ps v 0) fs) fs (length-put-in (getD ps v 0) fs)
 
 pub length-end-counted : (u : Bool) (k : ℕ) (ns : List ℕ) (v : ℕ) (cs : List ℕ) → length (end-counted u k ns v cs) ≡ length cs
 unfolding end-counted
@@ -59,8 +41,8 @@ pub length-places-fitting : (os cs : List ℕ) (m : ℕ) (ps fs : List ℕ) → 
 unfolding places-fitting
 length-places-fitting os cs m [] fs = refl
 length-places-fitting os cs m (p ∷ ps) fs =
-    let new = cond (leb (getD cs (getD os p 0) 0) m) (put-bit true 0 p fs) fs in
-    length-places-fitting os cs m ps new ∙ length-cond (leb (getD cs (getD os p 0) 0) m) (put-bit true 0 p fs) fs (length-put-bit true 0 p fs)
+    let new = cond (leb (getD cs (getD os p 0) 0) m) (put-in p fs) fs in
+    length-places-fitting os cs m ps new ∙ length-cond (leb (getD cs (getD os p 0) 0) m) (put-in p fs) fs (length-put-in p fs)
 
 -- from p on to the stretch's end is left
 pub record Fitting-from (order counters : List ℕ) (most start size : ℕ) (old : List ℕ) (p : ℕ) (fits : List ℕ) : Type 0 where
@@ -76,16 +58,16 @@ module _ (os cs : List ℕ) (m start size : ℕ) (old : List ℕ) where
     is = let e : start + size - start ≡ size = omega arith in ap (λ (x : ℕ). places-fitting os cs m (range start x) old) e;
   }
 
-  pub fitting-turn : (p : ℕ) (fits new : List ℕ) → p < start + size → new ≡ cond (leb (getD cs (getD os p 0) 0) m) (put-bit true 0 p fits) fits
+  pub fitting-turn : (p : ℕ) (fits new : List ℕ) → p < start + size → new ≡ cond (leb (getD cs (getD os p 0) 0) m) (put-in p fits) fits
       → Fitting-from os cs m start size old p fits → Fitting-from os cs m start size old (p + 1) new
   unfolding places-fitting range
   fitting-turn p fits new l e h = record {
-    long = ap length e ∙ length-cond (leb (getD cs (getD os p 0) 0) m) (put-bit true 0 p fits) fits (length-put-bit true 0 p fits) ∙ h .long;
+    long = ap length e ∙ length-cond (leb (getD cs (getD os p 0) 0) m) (put-in p fits) fits (length-put-in p fits) ∙ h .long;
     low = (omega (arith, h .low .0), omega arith);
     is =
         let parts : start + size - p ≡ suc (start + size - (p + 1)) = omega arith in
         ap (places-fitting os cs m (range (p + 1) (start + size - (p + 1)))) e
-        ∙ ap (λ (x : ℕ). places-fitting os cs m (range x (start + size - (p + 1))) (cond (leb (getD cs (getD os p 0) 0) m) (put-bit true 0 p fits) fits)) (add-one p)
+        ∙ ap (λ (x : ℕ). places-fitting os cs m (range x (start + size - (p + 1))) (cond (leb (getD cs (getD os p 0) 0) m) (put-in p fits) fits)) (add-one p)
         ∙ sym (ap (λ (x : ℕ). places-fitting os cs m (range p x) fits) parts)
         ∙ h .is;
   }
@@ -107,7 +89,7 @@ module _ (ns ps : List ℕ) (k m v : ℕ) (cs fs : List ℕ) where
   level-less e = rw (eq-eqb (getD ns v 0) k e)
 
   pub release-fits : getD ns v 0 ≡ k → getD less v 0 ≡ m
-      → (less ≡ counter-less ns k v cs) × (put-bit true 0 (getD ps v 0) fs ≡ place-marked ns ps k m v (counter-less ns k v cs) fs)
+      → (less ≡ counter-less ns k v cs) × (put-in (getD ps v 0) fs ≡ place-marked ns ps k m v (counter-less ns k v cs) fs)
   unfolding place-marked
   release-fits e f = (sym (level-less e), rw (level-less e, eq-eqb (getD ns v 0) k e, eq-eqb (getD less v 0) m f))
 
@@ -189,7 +171,8 @@ module _ (ns ps : List ℕ) (k m : ℕ) (near old fold : List ℕ) where
   releasing-part [] rest cs fs cs1 fs1 f g h = rw (f, g) h
   releasing-part (v ∷ xs) rest cs fs cs1 fs1 f g h =
       let less = counter-less ns k v cs in
-      releasing-part xs rest less (place-marked ns ps k m v less fs) cs1 fs1 f g (releasing-one v (xs ++ rest) cs fs less (place-marked ns ps k m v less fs) refl refl h)
+      releasing-part xs rest less (place-marked ns ps k m v less fs) cs1 fs1 f g
+      (releasing-one v (xs ++ rest) cs fs less (place-marked ns ps k m v less fs) refl refl h)
 
   pub releasing-end : (rest cs fs : List ℕ) → rest ≡ [] → Releasing ns ps k m near old fold rest cs fs
       → (cs ≡ released ns k near old) × (fs ≡ places-released ns ps k m near old fold)
@@ -304,7 +287,8 @@ module _ (row : List ℕ) (long : length row ≡ row-bytes) (bytes : (i : ℕ) �
   left-split set =
       filter-filter (in-set set) (λ x. marked row 0 x) (range (64 * j) (max-radios - 64 * j))
       ∙ words-from (λ x. marked row 0 x && in-set set x) j (bitAnd w (getD set j 0)) l tells
-      ∙ ap (_++_ (set-bits 64 (64 * j) (bitAnd w (getD set j 0)))) (sym (filter-filter (in-set set) (λ x. marked row 0 x) (range (64 * (j + 1)) (max-radios - 64 * (j + 1)))))
+      ∙ ap (_++_ (set-bits 64 (64 * j) (bitAnd w (getD set j 0))))
+      (sym (filter-filter (in-set set) (λ x. marked row 0 x) (range (64 * (j + 1)) (max-radios - 64 * (j + 1)))))
     where
       tells : (b : ℕ) → b < 64 → (marked row 0 (64 * j + b) && digit (getD set ((64 * j + b) / 64) 0) ((64 * j + b) % 64)) ≡ digit (bitAnd w (getD set j 0)) b
       tells b h =

@@ -1,30 +1,17 @@
 -- The loops of the walk's leaves, and what touching listed radios comes to: places due are kept, and each new one is the place of a listed
 -- radio that stands later in the level.
-use mathlib.Core.Path.{_≡_, refl, sym, ap, _∙_}
-use mathlib.Core.Logic.{_⊎_, inl, inr}
-use mathlib.Core.Bool.{Bool, true, false, cond}
-use mathlib.Core.List.{List, [], _∷_, _++_}
-use Prim.Native.Nat.{ℕ, _+_, _-_, _≤_, _<_}
-use mir.Syntax.{w8}
-use mir.Val.{boolByte, Fits}
-use native.Mathlib.Omega.{arith}
-use lib.Dec.{eqb}
-use lib.ListN.{length, getD, take, drop}
-use lib.Seq.{length-take-le, getD-take, take-take, paste}
+use Rattle.lists.{specs.Kit.{_≡_, refl, sym, ap, _∙_, _⊎_, inl, inr, Bool, true, false, cond, List, [], _∷_, _++_, ℕ, _+_, _-_, _≤_, _<_, arith, eqb, length}}
+use Rattle.lists.{specs.Kit.{getD, take, drop, length-take-le, getD-take, take-take, paste, eqb-true, eq-eqb, ne-eqb, lt-ltb, le-ltb}, specs.Lists.{count}}
+use Rattle.lists.{specs.Lists.{overwrite, In}, specs.Facts.{folded}, proofs.Tests.{bool-cases}, proofs.Member.{in-getD}, proofs.Parts.{length-cond}}
+use Rattle.lists.{proofs.Loops.{Counted-from, counted-turn, counted-end, length-folded}}
+use mir.Val.{boolByte}
 use borrow.Rule.Slice.PartMut.{midOf, putMid, mid-len}
-use borrow.Author.Tests.{eqb-true, eq-eqb, ne-eqb, lt-ltb, le-ltb}
-use Rattle.mesh.specs.Limits.{max-radios, max-neighbours, row-bytes}
-use Rattle.lists.specs.Lists.{count, overwrite, In}
-use Rattle.lists.specs.Facts.{folded}
-use Rattle.mesh.specs.Tables.{marked, put-bit}
-use Rattle.lists.proofs.Tests.{bool-cases, bit-one, byte-bit}
-use Rattle.lists.proofs.Member.{in-getD}
-use Rattle.lists.proofs.Parts.{length-cond}
-use Rattle.lists.proofs.Loops.{Counted-from, counted-turn, counted-end, length-folded}
-use Rattle.mesh.proofs.Tables.Laws.{length-put-bit}
-use Rattle.plan.proofs.Pasted.{put-part}
+use Rattle.mesh.{specs.Limits.{max-radios}}
+use Rattle.plan.proofs.{Pasted.{put-part}}
 use Rattle.plan.specs.Walks.{is-later, place-touched, places-touched, Known}
-use Rattle.plan.proofs.TurnLaws.{marked-put}
+use Rattle.plan.proofs.TurnLaws.{place-put}
+use Rattle.rows.proofs.SetLaws.{length-put-in}
+use Rattle.rows.specs.Sets.{in-set, put-in}
 
 -- ---- listed radios
 
@@ -61,7 +48,7 @@ copied-part xs ys new front until at low high room e =
 -- ---- touching
 
 module _ (k p : ℕ) (ns ps : List ℕ) where
-  pub touched-put : (w : ℕ) (ds : List ℕ) → getD ns w 0 ≡ k → p < getD ps w 0 → put-bit true 0 (getD ps w 0) ds ≡ place-touched k p ns ps w ds
+  pub touched-put : (w : ℕ) (ds : List ℕ) → getD ns w 0 ≡ k → p < getD ps w 0 → put-in (getD ps w 0) ds ≡ place-touched k p ns ps w ds
   unfolding place-touched is-later
   touched-put w ds e l = rw (eq-eqb (getD ns w 0) k e, lt-ltb p (getD ps w 0) l)
 
@@ -72,17 +59,17 @@ module _ (k p : ℕ) (ns ps : List ℕ) where
 
   pub length-place-touched : (w : ℕ) (ds : List ℕ) → length (place-touched k p ns ps w ds) ≡ length ds
   unfolding place-touched
-  length-place-touched w ds = length-cond (is-later k p ns ps w) (put-bit true 0 (getD ps w 0) ds) ds (length-put-bit true 0 (getD ps w 0) ds)
+  length-place-touched w ds = length-cond (is-later k p ns ps w) (put-in (getD ps w 0) ds) ds (length-put-in (getD ps w 0) ds)
 
   pub length-touched : (near ds : List ℕ) → length (places-touched k p ns ps near ds) ≡ length ds
   unfolding places-touched
   length-touched near ds = length-folded (place-touched k p ns ps) length-place-touched near ds
 
-  put-keeps : (v : ℕ) (ds : List ℕ) → length ds ≡ row-bytes → (is-later k p ns ps v ≡ true → getD ps v 0 < max-radios) → (q : ℕ) → q < max-radios
-      → marked ds 0 q ≡ true → (t : Bool) → is-later k p ns ps v ≡ t → marked (cond t (put-bit true 0 (getD ps v 0) ds) ds) 0 q ≡ true
-  put-keeps v ds long small q lq m true s = marked-put true (getD ps v 0) q ds long (small s) lq ∙ go (eqb (getD ps v 0) q)
+  put-keeps : (v : ℕ) (ds : List ℕ) → length ds ≡ 8 → (is-later k p ns ps v ≡ true → getD ps v 0 < max-radios) → (q : ℕ) → q < max-radios
+      → in-set ds q ≡ true → (t : Bool) → is-later k p ns ps v ≡ t → in-set (cond t (put-in (getD ps v 0) ds) ds) q ≡ true
+  put-keeps v ds long small q lq m true s = place-put (getD ps v 0) q ds long (small s) ∙ go (eqb (getD ps v 0) q)
     where
-      go : (b : Bool) → cond b true (marked ds 0 q) ≡ true
+      go : (b : Bool) → cond b true (in-set ds q) ≡ true
       go true = refl
       go false = m
   put-keeps v ds long small q lq m false s = m
@@ -91,41 +78,42 @@ module _ (k p : ℕ) (ns ps : List ℕ) where
   abbrev pub Small : List ℕ → Type 0
   Small near = (w : ℕ) → In w near → is-later k p ns ps w ≡ true → getD ps w 0 < max-radios
 
-  pub touched-keeps : (near ds : List ℕ) → Small near → length ds ≡ row-bytes → (q : ℕ) → q < max-radios → marked ds 0 q ≡ true
-      → marked (places-touched k p ns ps near ds) 0 q ≡ true
+  pub touched-keeps : (near ds : List ℕ) → Small near → length ds ≡ 8 → (q : ℕ) → q < max-radios → in-set ds q ≡ true
+      → in-set (places-touched k p ns ps near ds) q ≡ true
   unfolding places-touched folded place-touched
   touched-keeps [] ds small long q lq m = m
   touched-keeps (v ∷ vs) ds small long q lq m =
-      touched-keeps vs (cond (is-later k p ns ps v) (put-bit true 0 (getD ps v 0) ds) ds) (λ w i. small w (inr i)) (length-place-touched v ds ∙ long) q lq
+      touched-keeps vs (cond (is-later k p ns ps v) (put-in (getD ps v 0) ds) ds) (λ w i. small w (inr i)) (length-place-touched v ds ∙ long) q lq
       (put-keeps v ds long (small v (inl refl)) q lq m (is-later k p ns ps v) refl)
 
-  pub touched-marks : (near ds : List ℕ) → Small near → length ds ≡ row-bytes → (w : ℕ) → In w near → is-later k p ns ps w ≡ true
-      → marked (places-touched k p ns ps near ds) 0 (getD ps w 0) ≡ true
+  pub touched-marks : (near ds : List ℕ) → Small near → length ds ≡ 8 → (w : ℕ) → In w near → is-later k p ns ps w ≡ true
+      → in-set (places-touched k p ns ps near ds) (getD ps w 0) ≡ true
   unfolding places-touched folded place-touched
   touched-marks (v ∷ vs) ds small long w (inl s) t =
       let lw = small w (inl s) t in
-      touched-keeps vs (cond (is-later k p ns ps v) (put-bit true 0 (getD ps v 0) ds) ds) (λ u i. small u (inr i)) (length-place-touched v ds ∙ long) (getD ps w 0) lw
-      (rw s (rw t (marked-put true (getD ps w 0) (getD ps w 0) ds long lw lw ∙ rw (eq-eqb (getD ps w 0) (getD ps w 0) refl))))
+      touched-keeps vs (cond (is-later k p ns ps v) (put-in (getD ps v 0) ds) ds) (λ u i. small u (inr i)) (length-place-touched v ds ∙ long) (getD ps w 0) lw
+      (rw s (rw t (place-put (getD ps w 0) (getD ps w 0) ds long lw ∙ rw (eq-eqb (getD ps w 0) (getD ps w 0) refl))))
   touched-marks (v ∷ vs) ds small long w (inr m) t =
-      touched-marks vs (cond (is-later k p ns ps v) (put-bit true 0 (getD ps v 0) ds) ds) (λ u i. small u (inr i)) (length-place-touched v ds ∙ long) w m t
+      touched-marks vs (cond (is-later k p ns ps v) (put-in (getD ps v 0) ds) ds) (λ u i. small u (inr i)) (length-place-touched v ds ∙ long) w m t
 
-  pub touched-only : (near ds : List ℕ) → Small near → length ds ≡ row-bytes → (q : ℕ) → q < max-radios
-      → marked (places-touched k p ns ps near ds) 0 q ≡ true
-      → (marked ds 0 q ≡ true) ⊎ ((w : ℕ) × In w near × (is-later k p ns ps w ≡ true) × (getD ps w 0 ≡ q))
+  pub touched-only : (near ds : List ℕ) → Small near → length ds ≡ 8 → (q : ℕ) → q < max-radios
+      → in-set (places-touched k p ns ps near ds) q ≡ true
+      → (in-set ds q ≡ true) ⊎ ((w : ℕ) × In w near × (is-later k p ns ps w ≡ true) × (getD ps w 0 ≡ q))
   unfolding places-touched folded place-touched
   touched-only [] ds small long q lq m = inl m
   touched-only (v ∷ vs) ds small long q lq m =
-      one (touched-only vs (cond (is-later k p ns ps v) (put-bit true 0 (getD ps v 0) ds) ds) (λ w i. small w (inr i)) (length-place-touched v ds ∙ long) q lq m)
+      one (touched-only vs (cond (is-later k p ns ps v) (put-in (getD ps v 0) ds) ds) (λ w i. small w (inr i)) (length-place-touched v ds ∙ long) q lq m)
     where
-      put : (t : Bool) → is-later k p ns ps v ≡ t → marked (cond t (put-bit true 0 (getD ps v 0) ds) ds) 0 q ≡ true
+      put : (t : Bool) → is-later k p ns ps v ≡ t → in-set (cond t (put-in (getD ps v 0) ds) ds) q ≡ true
           → (eqb (getD ps v 0) q ≡ true) ⊎ (eqb (getD ps v 0) q ≡ false)
-          → (marked ds 0 q ≡ true) ⊎ ((w : ℕ) × In w (v ∷ vs) × (is-later k p ns ps w ≡ true) × (getD ps w 0 ≡ q))
+          → (in-set ds q ≡ true) ⊎ ((w : ℕ) × In w (v ∷ vs) × (is-later k p ns ps w ≡ true) × (getD ps w 0 ≡ q))
       put true t u (inl s) = inr (v, inl refl, t, eqb-true (getD ps v 0) q s)
       put true t u (inr s) =
-          inl (sym (marked-put true (getD ps v 0) q ds long (small v (inl refl) t) lq ∙ ap (λ (b : Bool). cond b true (marked ds 0 q)) s) ∙ u)
+          inl (sym (place-put (getD ps v 0) q ds long (small v (inl refl) t) ∙ ap (λ (b : Bool). cond b true (in-set ds q)) s) ∙ u)
       put false t u s = inl u
 
-      one : (marked (cond (is-later k p ns ps v) (put-bit true 0 (getD ps v 0) ds) ds) 0 q ≡ true) ⊎ ((w : ℕ) × In w vs × (is-later k p ns ps w ≡ true) × (getD ps w 0 ≡ q))
-          → (marked ds 0 q ≡ true) ⊎ ((w : ℕ) × In w (v ∷ vs) × (is-later k p ns ps w ≡ true) × (getD ps w 0 ≡ q))
+      one : (in-set (cond (is-later k p ns ps v) (put-in (getD ps v 0) ds) ds) q ≡ true) ⊎
+          ((w : ℕ) × In w vs × (is-later k p ns ps w ≡ true) × (getD ps w 0 ≡ q))
+          → (in-set ds q ≡ true) ⊎ ((w : ℕ) × In w (v ∷ vs) × (is-later k p ns ps w ≡ true) × (getD ps w 0 ≡ q))
       one (inl u) = put (is-later k p ns ps v) refl u (bool-cases (eqb (getD ps v 0) q))
       one (inr (w, m, t, s)) = inr (w, inr m, t, s)

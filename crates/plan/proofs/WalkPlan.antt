@@ -3,40 +3,22 @@
 --   site           what the walk is made from
 --   walked-plan    the plan of a walk
 --   settled-plan   the plan of the quick path
-use mathlib.Core.Path.{_≡_, refl, sym, ap, subst, _∙_}
-use mathlib.Core.Logic.{_⊎_, inl, inr}
-use mathlib.Core.Bool.{Bool, true, false, cond}
-use mathlib.Core.List.{List, [], _∷_, _++_, append-nil, append-assoc}
-use Prim.Native.Nat.{ℕ, suc, _+_, _*_, _-_, _≤_, _<_, min}
-use native.Mathlib.Omega.{arith}
-use lib.Dec.{ltb, leb, eqb}
-use lib.ListN.{length, getD, take, drop, length-drop, take-append-drop, drop-of-length-le}
-use lib.Seq.{length-take-le, getD-take, getD-drop, drop-cons, drop-drop, drop-append-le, take-take, take-all, paste, paste-zero}
-use borrow.Author.Tests.{ltb-true, ltb-false, lt-ltb, eq-eqb, ne-eqb, leb-true}
-use Rattle.mesh.specs.Limits.{max-radios, max-neighbours, row-bytes}
-use Rattle.lists.specs.Lists.{count, filter, member, In}
-use Rattle.lists.specs.Facts.{Distinct}
-use Rattle.mesh.specs.Graph.{Graph, linked, relinked}
-use Rattle.mesh.specs.Cores.{number}
-use Rattle.mesh.specs.Levels.{changed, lower-level, new-order}
-use Rattle.mesh.specs.Tables.{tables, marked, put-link, graph-in}
-use Rattle.mesh.specs.Peel.{Peels}
-use Rattle.lists.proofs.Tests.{bool-cases}
-use Rattle.lists.proofs.Member.{in-left, in-right, in-cases, in-getD, getD-of-in}
-use Rattle.lists.proofs.Count.{count-append}
-use Rattle.lists.proofs.Filter.{in-filter, filter-in, filter-all, filter-none, filter-append}
-use Rattle.lists.proofs.Range.{once-in, once-below, once-distinct}
-use Rattle.lists.proofs.Distinct.{distinct-right, distinct-apart, permutation-in}
-use Rattle.mesh.proofs.Links.LevelCut.{mids, highs}
-use Rattle.mesh.proofs.Links.Peel.{takes-permutation}
+use Rattle.lists.{specs.Kit.{_≡_, refl, sym, ap, subst, _∙_, _⊎_, inl, inr, Bool, true, false, cond, List, [], _∷_, _++_, append-nil, append-assoc, ℕ, suc}}
+use Rattle.lists.{specs.Kit.{_+_, _*_, _-_, _≤_, _<_, min, arith, ltb, leb, eqb, length, getD, take, drop, length-drop, take-append-drop, drop-of-length-le}}
+use Rattle.lists.{specs.Kit.{length-take-le, getD-take, getD-drop, drop-cons, drop-drop, drop-append-le, take-take, take-all, paste, paste-zero, ltb-true}}
+use Rattle.lists.{specs.Kit.{ltb-false, lt-ltb, eq-eqb, ne-eqb, leb-true}, specs.Lists.{count, filter, member, In}, proofs.Tests.{bool-cases}}
+use Rattle.lists.{proofs.Member.{in-left, in-right, in-cases, in-getD, getD-of-in}, proofs.Count.{count-append}, proofs.Filter.{in-filter, filter-in}}
+use Rattle.lists.{proofs.Filter.{filter-all, filter-none, filter-append}, proofs.Range.{once-in, once-below, once-distinct}, proofs.Distinct.{distinct-right}}
+use Rattle.lists.{proofs.Distinct.{distinct-apart, permutation-in}}
+use Rattle.mesh.{specs.Limits.{max-radios, max-neighbours, row-bytes}, specs.Graph.{Graph, linked, relinked}, specs.Cores.{number}, specs.Levels.{lower-level}}
+use Rattle.mesh.{specs.Levels.{new-order}, specs.Tables.{tables, graph-in}, specs.Peel.{Peels}, proofs.Links.LevelCut.{mids, highs}}
+use Rattle.mesh.{proofs.Links.Peel.{takes-permutation}}
 use Rattle.walks.specs.Walk.{Few-front}
+use Rattle.plan.specs.{Planned.{changed-part}, Plans.{Ready, Planned}, Places.{level-start, level-size, beginning-end}, Peels.{linked-after, Level}}
+use Rattle.plan.specs.{Walks.{radios-of, joined, Walk-site, Walk-done, rise-of, part-of}}
+use Rattle.plan.proofs.PlanLevel.{a-below, b-below, is-valid, is-once, number-is, level-is, above-is, stretch-fits, is-level, row-is, row-few}
+use Rattle.plan.specs.Plans.{plan-of}
 use Rattle.walks.proofs.Beginning as beginning
-use Rattle.plan.specs.Planned.{changed-part}
-use Rattle.plan.specs.Plans.{Ready, Planned}
-use Rattle.plan.specs.Places.{level-start, level-size, beginning-end}
-use Rattle.plan.specs.Peels.{linked-after, Level}
-use Rattle.plan.specs.Walks.{radios-of, joined, Walk-site, Walk-done}
-use Rattle.plan.proofs.PlanLevel.{a-below, b-below, is-valid, is-once, number-is, order-radios, level-is, above-is, stretch-fits, is-level, row-is, row-few}
 
 -- ---- the beginning end
 
@@ -249,7 +231,7 @@ module _ {a b : ℕ} {ts ns os ps cs : List ℕ} (r : Ready true (length os) a b
         rw (← part-rest, ← highs-high, eK)
         (beginning.tail-few max-neighbours a b g os (is-valid r) (r .allowed) (take first os) e rest cut (pick .end) no-end)
 
-    pub site : Walk-site a b k first size ts ns tail ps
+    pub site : Walk-site (rise-of a b k) (part-of first size) ts ns tail ps
     site = record {
       small = omega (arith, all-radios, r .small);
       numbers-length = r .numbers-length ∙ sym all-radios;
@@ -276,7 +258,7 @@ module _ {a b : ℕ} {ts ns os ps cs : List ℕ} (r : Ready true (length os) a b
 
     -- ---- what a walk comes to
 
-    module _ (front taken : ℕ) (list : List ℕ) (done : Walk-done a b k first size ts tail front taken list) where
+    module _ (front taken : ℕ) (list : List ℕ) (done : Walk-done (rise-of a b k) (part-of first size) ts tail front taken list) where
       abbrev old : List ℕ
       old = drop front part
 
@@ -323,13 +305,15 @@ module _ {a b : ℕ} {ts ns os ps cs : List ℕ} (r : Ready true (length os) a b
         where
           moved : (stuck ≡ []) ⊎ (old ≡ []) → take first os ++ (new ++ stuck) ++ (old ++ high) ≡ take first os ++ ((new ++ old) ++ (stuck ++ high))
           moved (inl q) =
-              rw (q, append-nil new) (append-assoc (take first os) new (old ++ high) ∙ ap (λ (z : List ℕ). take first os ++ z) (sym (append-assoc new old high)))
+              rw (q, append-nil new) (append-assoc (take first os) new (old ++ high) ∙ ap (λ (z : List ℕ). take first os ++ z)
+              (sym (append-assoc new old high)))
           moved (inr q) =
               rw (q, append-nil new)
               (append-assoc (take first os) (new ++ stuck) high ∙ ap (λ (z : List ℕ). take first os ++ z) (append-assoc new stuck high))
 
       walked-in : (v : ℕ) → In v (new ++ stuck) → v < n
-      walked-in v m = part-below v (permutation-in ((new ++ old) ++ stuck) part (λ h. sym (takes-permutation (linked after) k high (peels .takes) h)) v (go (in-cases v new stuck m)))
+      walked-in v m = part-below v (permutation-in ((new ++ old) ++ stuck) part (λ h. sym (takes-permutation (linked after) k high (peels .takes) h)) v
+          (go (in-cases v new stuck m)))
         where
           go : In v new ⊎ In v stuck → In v ((new ++ old) ++ stuck)
           go (inl i) = in-left v (new ++ old) stuck (in-left v new old i)
@@ -340,7 +324,7 @@ module _ {a b : ℕ} {ts ns os ps cs : List ℕ} (r : Ready true (length os) a b
           let is : getD (new ++ stuck) i 0 ≡ getD list i 0 = ap (λ (z : List ℕ). getD z i 0) (sym listed) ∙ getD-take front list i 0 l in
           rw is at (walked-in (getD (new ++ stuck) i 0) (in-getD (new ++ stuck) i (omega (arith, ap length listed, front-long))))
 
-      pub walked-plan : Planned true a b g os first front taken list
+      pub walked-plan : Planned true a b g os (plan-of first front taken) list
       unfolding changed-part graph-in
       walked-plan = record {
         fits = omega (arith, done .fits, sizes, stretch-fits r k);
@@ -349,7 +333,8 @@ module _ {a b : ℕ} {ts ns os ps cs : List ℕ} (r : Ready true (length os) a b
         taken-fits = done .passed;
         laid = laid;
         changed-is = λ v l.
-            beginning.changed-walked max-neighbours a b g os (is-valid r) (r .allowed) (take first os) e rest cut (pick .end) no-end (new ++ old) stuck peels-level v l;
+            beginning.changed-walked max-neighbours a b g os (is-valid r) (r .allowed) (take first os) e rest cut (pick .end) no-end (new ++ old) stuck
+            peels-level v l;
         radios = entry-below;
       }
 
@@ -359,7 +344,7 @@ module _ {a b : ℕ} {ts ns os ps cs : List ℕ} (r : Ready true (length os) a b
     abbrev Few-later : Type 0
     Few-later = count (linked after e) (drop 1 part) + count (linked after e) high ≤ k
 
-    unmoved-plan : Few-later → (list : List ℕ) → length list ≡ max-radios → Planned true a b g os first 0 0 list
+    unmoved-plan : Few-later → (list : List ℕ) → length list ≡ max-radios → Planned true a b g os (plan-of first 0 0) list
     unfolding changed-part graph-in member
     unmoved-plan h list room = record {
       fits = omega (arith, inside);
@@ -378,7 +363,7 @@ module _ {a b : ℕ} {ts ns os ps cs : List ℕ} (r : Ready true (length os) a b
 
     -- as a row tells it
     pub settled-plan : leb (count (joined a b first ts tail (getD tail 0 0)) (drop 1 tail)) k ≡ true → (list : List ℕ) → length list ≡ max-radios
-        → Planned true a b g os first 0 0 list
+        → Planned true a b g os (plan-of first 0 0) list
     settled-plan h =
         unmoved-plan (omega (arith, few-later, ap (count (linked after e)) behind, count-append (linked after e) (drop 1 part) high))
       where
@@ -400,20 +385,20 @@ module _ {a b : ℕ} {ts ns os ps cs : List ℕ} (r : Ready true (length os) a b
       lent-is : lent ≡ tail
       lent-is = el ∙ take-all (length os - from) (drop from os) (omega (arith, length-drop from os)) ∙ ap (λ (x : ℕ). drop x os) ef
 
-      pub site-lent : Walk-site a b k from size ts ns lent ps
+      pub site-lent : Walk-site (rise-of a b k) (part-of from size) ts ns lent ps
       site-lent = rw (lent-is, ef) site
 
       pub settled-lent : (t : Bool) (list : List ℕ) → t ≡ leb (count (joined a b from ts lent (getD lent 0 0)) (drop 1 lent)) k → t ≡ true
-          → length list ≡ max-radios → Planned true a b g os from 0 0 list
+          → length list ≡ max-radios → Planned true a b g os (plan-of from 0 0) list
       settled-lent t list e h room = rw ef (settled-plan (rw (lent-is, ef) at (sym e ∙ h)) list room)
 
-      pub walked-lent : (at front taken : ℕ) (list : List ℕ) → at ≡ from → Walk-done a b k from size ts lent front taken list
-          → Planned true a b g os at front taken list
+      pub walked-lent : (at front taken : ℕ) (list : List ℕ) → at ≡ from → Walk-done (rise-of a b k) (part-of from size) ts lent front taken list
+          → Planned true a b g os (plan-of at front taken) list
       walked-lent at front taken list e done = rw (e, ef) (walked-plan front taken list (rw (lent-is, ef) at done))
 
 -- a plan that moves nothing, as the code names its values
 pub planned-as : {a b from at front taken : ℕ} {g : Graph} {os list : List ℕ} → (at ≡ from) × (front ≡ 0) × (taken ≡ 0)
-    → Planned true a b g os from 0 0 list → Planned true a b g os at front taken list
+    → Planned true a b g os (plan-of from 0 0) list → Planned true a b g os (plan-of at front taken) list
 planned-as e p = rw (e .0, e .1, e .2) p
 
 -- ends that have an entry in both tables

@@ -1,41 +1,22 @@
 -- What a turn of the walk that takes a radio writes into its tables, as the turns of crate walks ask it: `turn::release` has the table of
 -- candidates in the place of the numbers.
-use mathlib.Core.Path.{_≡_, refl, sym, ap, _∙_}
-use mathlib.Core.Logic.{_⊎_, inl, inr}
-use mathlib.Core.Bool.{Bool, true, false, _&&_, _||_, cond, or-true}
-use mathlib.Core.List.{List, [], _∷_}
-use Prim.Native.Nat.{ℕ, _+_, _*_, _-_, _/_, _%_, _≤_, _<_}
-use native.Mathlib.Omega.{arith}
-use lib.Dec.{ltb, eqb}
-use lib.ListN.{length, getD, List·getD-eq-default}
-use borrow.Author.Tests.{eqb-true, eqb-false, eq-eqb, ne-eqb, ltb-true, ltb-false}
-use Rattle.mesh.specs.Limits.{max-radios, row-bytes}
-use Rattle.lists.specs.Lists.{member, In}
-use Rattle.mesh.specs.Tables.{digit, byte-at, marked, put-bit}
-use Rattle.lists.proofs.Tests.{bool-cases, never, and-left, and-right, or-cases}
-use Rattle.lists.proofs.Member.{member-in, in-member}
-use Rattle.mesh.proofs.Tables.Digits.{digit-nothing}
-use Rattle.mesh.proofs.Tables.Laws.{length-put-bit}
-use Rattle.rows.specs.Rows.{neighbours-of}
-use Rattle.rows.proofs.RowListLaws.{in-neighbours-of, member-neighbours-of}
+use Rattle.lists.{specs.Kit.{_≡_, refl, sym, ap, _∙_, _⊎_, inl, inr, Bool, true, false, _&&_, _||_, cond, or-true, List, [], _∷_, ℕ, _+_, _-_, _≤_, _<_}}
+use Rattle.lists.{specs.Kit.{arith, eqb, length, getD, eqb-true, eq-eqb, ne-eqb}, specs.Lists.{member, In}}
+use Rattle.lists.{proofs.Tests.{bool-cases, never, and-left, and-right, or-cases}, proofs.Member.{member-in, in-member}}
+use Rattle.mesh.{specs.Limits.{max-radios}, specs.Tables.{marked}}
+use Rattle.rows.{specs.Rows.{neighbours-of}, proofs.RowListLaws.{in-neighbours-of, member-neighbours-of}}
 use Rattle.plan.specs.Turns.{counter-less, released, place-marked, places-released, Releasable}
-use Rattle.plan.proofs.TurnLoops.{length-place-marked, length-places-released, releasable-tail}
-use Rattle.plan.proofs.TurnLaws.{marked-put, cleared-other, getD-released, marked-released, marked-released-place}
+use Rattle.plan.proofs.{TurnLoops.{length-place-marked, length-places-released, releasable-tail}, TurnLaws.{cleared-other, getD-released}}
+use Rattle.plan.proofs.{TurnLaws.{marked-released, marked-released-place}}
 use Rattle.walks.proofs.Turns.{Released}
-
--- a row has no bit past its bytes
-pub marked-small : (ts : List ℕ) (q : ℕ) → length ts ≡ row-bytes → marked ts 0 q ≡ true → q < max-radios
-unfolding marked byte-at
-marked-small ts q e t = go (bool-cases (ltb q max-radios))
-  where
-    go : (ltb q max-radios ≡ true) ⊎ (ltb q max-radios ≡ false) → q < max-radios
-    go (inl h) = ltb-true q max-radios h
-    go (inr h) = never (digit (getD ts (byte-at 0 q) 0) (q % 8)) t (rw (List·getD-eq-default ts 0 {n = byte-at 0 q} (omega (arith, ltb-false q max-radios h))) (digit-nothing (q % 8)))
+use Rattle.plan.proofs.TurnLaws.{place-put, place-out}
+use Rattle.rows.proofs.SetLaws.{length-take-out, in-set-radio}
+use Rattle.rows.specs.Sets.{in-set, put-in, take-out}
 
 module _ (ns ps : List ℕ) (k m : ℕ) (small : (v : ℕ) → v < length ns → getD ns v 0 ≡ k → getD ps v 0 < max-radios) where
   -- marks are only added
-  released-keeps : (near cs fs : List ℕ) → length fs ≡ row-bytes → Releasable ns ps k near cs → (q : ℕ) → q < max-radios
-      → marked fs 0 q ≡ true → marked (places-released ns ps k m near cs fs) 0 q ≡ true
+  released-keeps : (near cs fs : List ℕ) → length fs ≡ 8 → Releasable ns ps k near cs → (q : ℕ) → q < max-radios
+      → in-set fs q ≡ true → in-set (places-released ns ps k m near cs fs) q ≡ true
   unfolding places-released place-marked
   released-keeps [] cs fs e h q lq t = t
   released-keeps (v ∷ vs) cs fs e h q lq t =
@@ -43,14 +24,14 @@ module _ (ns ps : List ℕ) (k m : ℕ) (small : (v : ℕ) → v < length ns →
       released-keeps vs less (place-marked ns ps k m v less fs) (length-place-marked ns ps k m v less fs ∙ e) (releasable-tail ns ps k v vs cs h) q lq
       (one (eqb (getD ns v 0) k && eqb (getD less v 0) m) refl)
     where
-      put : (b : Bool) → cond b true (marked fs 0 q) ≡ true
+      put : (b : Bool) → cond b true (in-set fs q) ≡ true
       put true = refl
       put false = t
 
-      one : (b : Bool) → (eqb (getD ns v 0) k && eqb (getD (counter-less ns k v cs) v 0) m) ≡ b → marked (cond b (put-bit true 0 (getD ps v 0) fs) fs) 0 q ≡ true
+      one : (b : Bool) → (eqb (getD ns v 0) k && eqb (getD (counter-less ns k v cs) v 0) m) ≡ b → in-set (cond b (put-in (getD ps v 0) fs) fs) q ≡ true
       one true s =
           let at-level = eqb-true (getD ns v 0) k (and-left (eqb (getD ns v 0) k) (eqb (getD (counter-less ns k v cs) v 0) m) s) in
-          marked-put true (getD ps v 0) q fs e (small v (h .known v (inl refl) .0) at-level) lq ∙ put (eqb (getD ps v 0) q)
+          place-put (getD ps v 0) q fs e (small v (h .known v (inl refl) .0) at-level) ∙ put (eqb (getD ps v 0) q)
       one false s = t
 
 -- hs marks the candidates by 1; the part starts at place `first`
@@ -58,7 +39,7 @@ module _ (f : ℕ → ℕ → Bool) (most first : ℕ) (above part hs ps : List 
     (stands : (v : ℕ) → v < length hs → getD hs v 0 ≡ 1 → (first ≤ getD ps v 0) × (getD ps v 0 < max-radios))
     (apart : (v w : ℕ) → v < length hs → w < length hs → getD hs v 0 ≡ 1 → getD hs w 0 ≡ 1 → getD ps v 0 ≡ getD ps w 0 → v ≡ w)
     (x : ℕ) (us : List ℕ) (row-is : (w : ℕ) → w < max-radios → marked us x w ≡ f x w) (within : (w : ℕ) → f x w ≡ true → w < max-radios)
-    (cs fs : List ℕ) (long : length fs ≡ row-bytes) (ready : Releasable hs ps 1 (neighbours-of us x) cs) (p : ℕ) (lp : first + p < max-radios) where
+    (cs fs : List ℕ) (long : length fs ≡ 8) (ready : Releasable hs ps 1 (neighbours-of us x) cs) (p : ℕ) (lp : first + p < max-radios) where
   abbrev near : List ℕ
   near = neighbours-of us x
 
@@ -72,13 +53,13 @@ module _ (f : ℕ → ℕ → Bool) (most first : ℕ) (above part hs ps : List 
   cs1 = released hs 1 near cs
 
   abbrev fs0 : List ℕ
-  fs0 = put-bit false 0 (first + p) fs
+  fs0 = take-out (first + p) fs
 
   abbrev fs1 : List ℕ
   fs1 = places-released hs ps 1 most near cs fs0
 
-  long0 : length fs0 ≡ row-bytes
-  long0 = length-put-bit false 0 (first + p) fs ∙ long
+  long0 : length fs0 ≡ 8
+  long0 = length-take-out (first + p) fs ∙ long
 
   small : (v : ℕ) → v < length hs → getD hs v 0 ≡ 1 → getD ps v 0 < max-radios
   small v l e = stands v l e .1
@@ -92,14 +73,15 @@ module _ (f : ℕ → ℕ → Bool) (most first : ℕ) (above part hs ps : List 
   place-is : (w : ℕ) → f x w ≡ true → mark w ≡ true → first + pos w ≡ getD ps w 0
   place-is w e a = omega (arith, stands w (ready .known w (near-in w e) .0) (eqb-true (getD hs w 0) 1 a) .0)
 
-  at-place : (w : ℕ) → w < length hs → mark w ≡ true → marked fs1 0 (getD ps w 0) ≡ (marked fs0 0 (getD ps w 0) || (member w near && eqb (getD cs1 w 0) most))
+  at-place : (w : ℕ) → w < length hs → mark w ≡ true → in-set fs1 (getD ps w 0) ≡ (in-set fs0 (getD ps w 0) || (member w near && eqb (getD cs1 w 0) most))
   at-place w l a = marked-released-place hs ps 1 most small apart near cs fs0 long0 ready w l (eqb-true (getD hs w 0) 1 a)
 
-  pub released-is : Released f most above part pos x p mark (λ v. getD cs v 0) (λ v. getD cs1 v 0) (λ q. marked fs 0 (first + q)) (λ q. marked fs1 0 (first + q))
+  pub released-is : Released f most above part pos x p mark (λ v. getD cs v 0) (λ v. getD cs1 v 0) (λ q. in-set fs (first + q)) (λ q. in-set fs1 (first + q))
   released-is = record {
     less = λ w a e. omega (arith, getD-released hs 1 ps near cs ready w, bit w (in-member w near (near-in w e)) a);
     same = λ w e. omega (arith, getD-released hs 1 ps near cs ready w, no-bit w e);
-    falls = λ w a e z. rw (place-is w e a) (at-place w (ready .known w (near-in w e) .0) a ∙ rw (in-member w near (near-in w e), eq-eqb (getD cs1 w 0) most z) (or-true (marked fs0 0 (getD ps w 0))));
+    falls = λ w a e z. rw (place-is w e a) (at-place w (ready .known w (near-in w e) .0) a ∙ rw
+        (in-member w near (near-in w e), eq-eqb (getD cs1 w 0) most z) (or-true (in-set fs0 (getD ps w 0))));
     kept = kept;
     only = only;
   }
@@ -122,30 +104,30 @@ module _ (f : ℕ → ℕ → Bool) (most first : ℕ) (above part hs ps : List 
               linked m = let r = in-neighbours-of us x w m in sym (row-is w (r .0)) ∙ r .1
           go (inr e) = rw e
 
-      kept : (q : ℕ) → (q ≡ p → ⊥) → marked fs 0 (first + q) ≡ true → marked fs1 0 (first + q) ≡ true
+      kept : (q : ℕ) → (q ≡ p → ⊥) → in-set fs (first + q) ≡ true → in-set fs1 (first + q) ≡ true
       kept q ne t =
-          let l = marked-small fs (first + q) long t in
+          let l = in-set-radio fs (first + q) long t in
           released-keeps hs ps 1 most small near cs fs0 long0 ready (first + q) l
-          (marked-put false (first + p) (first + q) fs long lp l ∙ rw (ne-eqb (first + p) (first + q) (λ s. ne (omega arith))) t)
+          (place-out (first + p) (first + q) fs long lp ∙ rw (ne-eqb (first + p) (first + q) (λ s. ne (omega arith))) t)
 
-      only : (q : ℕ) → marked fs1 0 (first + q) ≡ true
-          → ((q ≡ p → ⊥) × (marked fs 0 (first + q) ≡ true)) ⊎ ((w : ℕ) × (mark w ≡ true) × (f x w ≡ true) × (getD cs1 w 0 ≡ most) × (pos w ≡ q))
+      only : (q : ℕ) → in-set fs1 (first + q) ≡ true
+          → ((q ≡ p → ⊥) × (in-set fs (first + q) ≡ true)) ⊎ ((w : ℕ) × (mark w ≡ true) × (f x w ≡ true) × (getD cs1 w 0 ≡ most) × (pos w ≡ q))
       only q t = go (marked-released hs ps 1 most small near cs fs0 long0 ready (first + q) l t)
         where
           l : first + q < max-radios
-          l = marked-small fs1 (first + q) (length-places-released hs ps 1 most near cs fs0 ∙ long0) t
+          l = in-set-radio fs1 (first + q) (length-places-released hs ps 1 most near cs fs0 ∙ long0) t
 
           new : (w : ℕ) → w < length hs → mark w ≡ true → getD ps w 0 ≡ first + q
-              → (marked fs0 0 (getD ps w 0) ≡ true) ⊎ ((member w near && eqb (getD cs1 w 0) most) ≡ true)
-              → ((q ≡ p → ⊥) × (marked fs 0 (first + q) ≡ true)) ⊎ ((w : ℕ) × (mark w ≡ true) × (f x w ≡ true) × (getD cs1 w 0 ≡ most) × (pos w ≡ q))
+              → (in-set fs0 (getD ps w 0) ≡ true) ⊎ ((member w near && eqb (getD cs1 w 0) most) ≡ true)
+              → ((q ≡ p → ⊥) × (in-set fs (first + q) ≡ true)) ⊎ ((w : ℕ) × (mark w ≡ true) × (f x w ≡ true) × (getD cs1 w 0 ≡ most) × (pos w ≡ q))
           new w lw a e (inl u) = inl (cleared-other first p q fs long lp l (rw e at u))
           new w lw a e (inr u) =
               let m = in-neighbours-of us x w (member-in w near (and-left (member w near) (eqb (getD cs1 w 0) most) u)) in
               inr (w, a, sym (row-is w (m .0)) ∙ m .1, eqb-true (getD cs1 w 0) most (and-right (member w near) (eqb (getD cs1 w 0) most) u), omega arith)
 
-          go : (marked fs0 0 (first + q) ≡ true) ⊎ ((w : ℕ) × (w < length hs) × (getD hs w 0 ≡ 1) × (getD ps w 0 ≡ first + q))
-              → ((q ≡ p → ⊥) × (marked fs 0 (first + q) ≡ true)) ⊎ ((w : ℕ) × (mark w ≡ true) × (f x w ≡ true) × (getD cs1 w 0 ≡ most) × (pos w ≡ q))
+          go : (in-set fs0 (first + q) ≡ true) ⊎ ((w : ℕ) × (w < length hs) × (getD hs w 0 ≡ 1) × (getD ps w 0 ≡ first + q))
+              → ((q ≡ p → ⊥) × (in-set fs (first + q) ≡ true)) ⊎ ((w : ℕ) × (mark w ≡ true) × (f x w ≡ true) × (getD cs1 w 0 ≡ most) × (pos w ≡ q))
           go (inl u) = inl (cleared-other first p q fs long lp l u)
           go (inr (w, lw, a, e)) =
               let b : mark w ≡ true = eq-eqb (getD hs w 0) 1 a in
-              new w lw b e (or-cases (marked fs0 0 (getD ps w 0)) (member w near && eqb (getD cs1 w 0) most) (sym (at-place w lw b) ∙ ap (marked fs1 0) e ∙ t))
+              new w lw b e (or-cases (in-set fs0 (getD ps w 0)) (member w near && eqb (getD cs1 w 0) most) (sym (at-place w lw b) ∙ ap (in-set fs1) e ∙ t))

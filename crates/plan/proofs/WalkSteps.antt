@@ -3,54 +3,28 @@
 --   settled-is    the quick path's count
 --   Walk-from     the loop's invariant
 --   walk-end      what the loop and the listing of the candidates leave
-use mathlib.Core.Path.{_≡_, refl, sym, ap, _∙_}
-use mathlib.Core.Logic.{_⊎_, inl, inr}
-use mathlib.Core.Bool.{Bool, true, false, cond}
-use mathlib.Core.List.{List, [], _∷_, _++_, append-nil}
-use Prim.Native.Nat.{ℕ, zero, suc, _+_, _*_, _-_, _≤_, _<_, min}
-use native.Mathlib.Omega.{arith}
-use native.Mathlib.Nat.{add-zero}
-use lib.Dec.{ltb, leb, eqb}
-use lib.ListN.{length, getD, take, drop, replicate, length-replicate, length-append, drop-of-length-le, take-append-drop}
-use lib.Seq.{length-take-le, sets, sets-eq, length-sets, take-take, take-at, drop-at, drop-cons, paste}
-use borrow.Author.Tests.{leb-true, leb-false, ltb-true, ltb-false, le-ltb}
-use Rattle.mesh.specs.Limits.{max-radios, max-neighbours, row-bytes}
-use Rattle.lists.specs.Lists.{count, head-or, In}
-use Rattle.mesh.specs.Tables.{byte-at, marked, put-link}
-use Rattle.mesh.specs.Peel.{Peels}
-use Rattle.lists.proofs.Tests.{bool-cases, never}
-use Rattle.lists.proofs.Parts.{getD-zeros}
-use Rattle.lists.proofs.Count.{count-append}
-use Rattle.lists.proofs.Member.{in-getD}
-use Rattle.mesh.proofs.Tables.Laws.{marked-replicate}
-use Rattle.rows.specs.Rows.{neighbours-of}
-use Rattle.rows.proofs.RowListLaws.{in-neighbours-of}
-use Rattle.walks.specs.Walk.{Walking}
+use Rattle.lists.{specs.Kit.{_≡_, refl, sym, ap, _∙_, _⊎_, inl, inr, Bool, true, false, List, [], _∷_, _++_, append-nil, ℕ, _+_, _-_, _≤_, _<_, min, arith}}
+use Rattle.lists.{specs.Kit.{add-zero, ltb, leb, eqb, length, getD, take, drop, replicate, length-replicate, length-append, drop-of-length-le}}
+use Rattle.lists.{specs.Kit.{take-append-drop, length-take-le, sets, sets-eq, length-sets, take-take, take-at, drop-at, drop-cons, paste, leb-true, leb-false}}
+use Rattle.lists.{specs.Kit.{ltb-true, ltb-false}, specs.Lists.{count, head-or}, proofs.Tests.{bool-cases, never}, proofs.Parts.{getD-zeros}}
+use Rattle.lists.{proofs.Count.{count-append}}
+use Rattle.mesh.{specs.Limits.{max-radios}, specs.Tables.{put-link}, specs.Peel.{Peels}}
+use Rattle.rows.{specs.Rows.{neighbours-of}}
+use Rattle.walks.{specs.Walk.{Walking}, proofs.Front.{few-from-one}}
+use Rattle.plan.specs.{Turns.{Lists-neighbours}, Places.{stop-place, next-place, set-places, entries-at, Stands, Marked-places}, Walks.{is-left}}
+use Rattle.plan.specs.{Walks.{radios-of, joined, Walk-site, Walk-state, Walk-done, rise-of, part-of, written}}
+use Rattle.plan.proofs.{EntryLists.{marked-none, marked-stand, marked-listed}, LevelLaws.{first-marked-least}}
+use Rattle.rows.proofs.SetLaws.{in-set-zeros}
+use Rattle.rows.specs.Sets.{in-set, common}
+use Rattle.plan.proofs.WordLaws.{lowest-small}
 use Rattle.walks.proofs.Turns as turns
-use Rattle.walks.proofs.Front.{few-from-one}
-use Rattle.plan.specs.Turns.{Lists-neighbours}
-use Rattle.plan.specs.Places.{stop-place, next-place, set-places, entries-at, Stands, Marked-places}
-use Rattle.plan.proofs.EntryLists.{marked-none, marked-stand, marked-listed}
-use Rattle.plan.specs.Walks.{is-left, radios-of, joined, Walk-site, Walk-state, Walk-done}
-use Rattle.plan.proofs.LevelLaws.{first-marked-least}
-use Rattle.plan.proofs.WalkReleased.{marked-small}
 use Rattle.plan.proofs.WalkTurns as turned
-
--- a row of zeros marks nothing
-zero-marked : (q : ℕ) → marked (replicate row-bytes 0) 0 q ≡ false
-unfolding byte-at
-zero-marked q = go (bool-cases (marked (replicate row-bytes 0) 0 q))
-  where
-    go : (marked (replicate row-bytes 0) 0 q ≡ true) ⊎ (marked (replicate row-bytes 0) 0 q ≡ false) → marked (replicate row-bytes 0) 0 q ≡ false
-    go (inl t) =
-        let l = marked-small (replicate row-bytes 0) q (length-replicate {A = ℕ} row-bytes 0) t in marked-replicate row-bytes 0 q (omega arith)
-    go (inr t) = t
 
 -- ---- where a turn is
 
 module _ (first size front taken : ℕ) (ds : List ℕ) where
   abbrev lowest : ℕ
-  lowest = head-or max-radios (neighbours-of ds 0)
+  lowest = head-or max-radios (common ds ds)
 
   abbrev Turn : ℕ → Type 0
   Turn p = (taken < front) × (p ≡ lowest) × ((p < first + front) ⊎ ((first + front ≤ p) × (front < size)))
@@ -82,18 +56,13 @@ module _ (first size front taken : ℕ) (ds : List ℕ) where
       go (inr a) (inr b) (inl d) = inr (ltb-false lowest (first + front) b, leb-true size front d)
       go (inr a) (inr b) (inr d) = let is : p ≡ lowest = rw (a, b, d) at e in absurd (omega arith)
 
-lowest-small : (xs : List ℕ) → ((v : ℕ) → In v xs → v < max-radios) → head-or max-radios xs ≤ max-radios
-unfolding head-or
-lowest-small [] h = omega arith
-lowest-small (x ∷ xs) h = omega (arith, h x (inl refl))
-
 -- the loop's invariant: so far a state of the walk, and p is where its next turn is
 pub record Walk-from (a b k first size : ℕ) (ts tail ps hs cs ds ss list : List ℕ) (taken front p : ℕ) : Type 0 where
   pub some : 1 ≤ front
   pub next : p ≡ next-place first size front taken ds
-  pub state : Walk-state a b k first size ts tail ps front taken hs cs ds ss list
+  pub state : Walk-state (rise-of a b k) (part-of first size) ts tail ps front taken (written hs cs ds ss list)
 
-module _ {a b k first size : ℕ} {ts ns tail ps : List ℕ} (s : Walk-site a b k first size ts ns tail ps) where
+module _ {a b k first size : ℕ} {ts ns tail ps : List ℕ} (s : Walk-site (rise-of a b k) (part-of first size) ts ns tail ps) where
   abbrev f : ℕ → ℕ → Bool
   f = joined a b first ts tail
 
@@ -112,22 +81,23 @@ module _ {a b k first size : ℕ} {ts ns tail ps : List ℕ} (s : Walk-site a b 
   -- ---- before the first turn
 
   pub start-state : (list : List ℕ) → length list ≡ max-radios
-      → Walk-state a b k first size ts tail ps 0 0 (replicate max-radios 0) (replicate max-radios 0) (replicate row-bytes 0) (replicate 8 0) list
+      → Walk-state (rise-of a b k) (part-of first size) ts tail ps 0 0
+      (written (replicate max-radios 0) (replicate max-radios 0) (replicate 8 0) (replicate 8 0) list)
   start-state list room = record {
     held-long = omega (arith, s .small, length-replicate {A = ℕ} max-radios 0);
     counters-long = omega (arith, s .small, length-replicate {A = ℕ} max-radios 0);
-    due-long = length-replicate {A = ℕ} row-bytes 0;
+    due-long = length-replicate {A = ℕ} 8 0;
     room = room;
     passed = omega arith;
-    low = λ p t. absurd (never (marked (replicate row-bytes 0) 0 p) t (zero-marked p));
+    low = λ p t. absurd (never (in-set (replicate 8 0) p) t (in-set-zeros 8 p));
     stays = marked-none first size tail (λ v. eqb (getD (replicate max-radios 0) v 0) 1) (λ v. ap (λ (x : ℕ). eqb x 1) (getD-zeros max-radios v));
     walking = turns.turns-none f k above part pos (turned.is-part s) (λ v. eqb (getD (replicate max-radios 0) v 0) 1) (λ v. getD (replicate max-radios 0) v 0)
-        (λ q. marked (replicate row-bytes 0) 0 (first + q)) (λ v. ap (λ (x : ℕ). eqb x 1) (getD-zeros max-radios v))
+        (λ q. in-set (replicate 8 0) (first + q)) (λ v. ap (λ (x : ℕ). eqb x 1) (getD-zeros max-radios v))
         (λ v. omega (arith, getD-zeros max-radios v))
-        (λ p. zero-marked (first + p));
+        (λ p. in-set-zeros 8 (first + p));
   }
 
-  pub start-free : (0 < size) × ((q : ℕ) → q < 0 → marked (replicate row-bytes 0) 0 (first + q) ≡ false)
+  pub start-free : (0 < size) × ((q : ℕ) → q < 0 → in-set (replicate 8 0) (first + q) ≡ false)
   start-free = (s .some, λ q l. absurd (omega arith))
 
   -- ---- the quick path
@@ -175,7 +145,8 @@ module _ {a b k first size : ℕ} {ts ns tail ps : List ℕ} (s : Walk-site a b 
           ∙ ap (λ (x : ℕ). count (is-left k x ns ps (replicate max-radios 0)) (neighbours-of us e)) (sym (add-zero first))
           ∙ left ∙ sym (ap (count (f e)) tail-cut ∙ count-append (f e) (drop 1 part) above)
 
-  module _ {front taken : ℕ} {hs cs ds ss list : List ℕ} (st : Walk-state a b k first size ts tail ps front taken hs cs ds ss list) where
+  module _ {front taken : ℕ} {hs cs ds ss list : List ℕ} (st : Walk-state (rise-of a b k) (part-of first size) ts tail ps front taken
+      (written hs cs ds ss list)) where
     pub front-fits : (front ≤ size) × (first + front ≤ max-radios)
     front-fits = (omega (arith, st .walking .room, turned.part-length s), omega (arith, st .walking .room, turned.part-length s, s .fits, s .small))
 
@@ -184,13 +155,13 @@ module _ {a b k first size : ℕ} {ts ns tail ps : List ℕ} (s : Walk-site a b 
     walk-entries = (omega (arith, st .passed, front-fits .1), marked-stand first size tail (st .stays) (s .fits))
 
     module _ (p : ℕ) (turn : (p ≡ next-place first size front taken ds) × (p ≤ max-radios)) where
-      at : (taken < front) × (p ≡ head-or max-radios (neighbours-of ds 0)) × ((p < first + front) ⊎ ((first + front ≤ p) × (front < size)))
+      at : (taken < front) × (p ≡ head-or max-radios (common ds ds)) × ((p < first + front) ⊎ ((first + front ≤ p) × (front < size)))
       at = turn-at first size front taken ds p (turn .0) (turn .1)
 
       pub step-some : taken < front
       step-some = at .0
 
-      pub step-back : p < first + front → (p ≡ head-or max-radios (neighbours-of ds 0)) × (p < first + front)
+      pub step-back : p < first + front → (p ≡ head-or max-radios (common ds ds)) × (p < first + front)
       step-back l = (at .1, l)
 
       pub step-ahead : first + front ≤ p → front < size
@@ -200,10 +171,10 @@ module _ {a b k first size : ℕ} {ts ns tail ps : List ℕ} (s : Walk-site a b 
           go (inl h) = absurd (omega arith)
           go (inr h) = h .1
 
-      undue : (until : ℕ) → first + until ≤ p → (q : ℕ) → q < until → marked ds 0 (first + q) ≡ false
+      undue : (until : ℕ) → first + until ≤ p → (q : ℕ) → q < until → in-set ds (first + q) ≡ false
       undue until h q l = first-marked-least ds p (at .1) (first + q) (omega arith) (omega (arith, turn .1))
 
-      pub step-look : p ≡ first + front → (front < size) × ((q : ℕ) → q < front → marked ds 0 (first + q) ≡ false)
+      pub step-look : p ≡ first + front → (front < size) × ((q : ℕ) → q < front → in-set ds (first + q) ≡ false)
       step-look e = (step-ahead (omega arith), undue front (omega arith))
 
       module _ (until : ℕ) (u : until ≡ min (p - first) size) (l : first + front ≤ p) (ne : p ≡ first + front → ⊥) where
@@ -215,7 +186,7 @@ module _ {a b k first size : ℕ} {ts ns tail ps : List ℕ} (s : Walk-site a b 
             (ahead, inside, omega (arith, s .fits), omega (arith, st .passed, st .room, s .fits, s .small))
 
         pub step-pass : (list1 : List ℕ) → list1 ≡ paste list taken (drop front tail) (until - front)
-            → Walk-state a b k first size ts tail ps until (taken + (until - front)) hs cs ds ss list1
+            → Walk-state (rise-of a b k) (part-of first size) ts tail ps until (taken + (until - front)) (written hs cs ds ss list1)
         step-pass list1 made =
             turned.pass-done s st until (until - front) (omega (arith, pass-place .0)) (pass-place .1) (omega (arith, step-some))
             (undue until (omega (arith, l))) list1 made
@@ -256,7 +227,7 @@ module _ {a b k first size : ℕ} {ts ns tail ps : List ℕ} (s : Walk-site a b 
       listed-held = ap (drop taken) listed ∙ drop-at (take taken list) held taken taken-length
 
       done : (taken ≡ front) ⊎ (front ≡ size) → Peels f k above part (take taken list ++ drop front part) held
-          → Walk-done a b k first size ts tail front taken list1
+          → Walk-done (rise-of a b k) (part-of first size) ts tail front taken list1
       done way peels = record {
         room = omega (arith, room, ap length made, length-sets list taken held);
         passed = passed;
@@ -265,7 +236,7 @@ module _ {a b k first size : ℕ} {ts ns tail ps : List ℕ} (s : Walk-site a b 
         peels = rw (listed-taken, listed-held) peels;
       }
 
-      none-left : front ≤ taken → Walk-done a b k first size ts tail front taken list1
+      none-left : front ≤ taken → Walk-done (rise-of a b k) (part-of first size) ts tail front taken list1
       none-left l =
           let same : taken ≡ front = omega (arith, passed) in
           done (inl same)
@@ -276,7 +247,7 @@ module _ {a b k first size : ℕ} {ts ns tail ps : List ℕ} (s : Walk-site a b 
           none [] q = refl
           none (z ∷ zs) q = absurd (omega arith)
 
-      all-walked : ((q : ℕ) → q < front → due q ≡ false) × (size ≤ front) → Walk-done a b k first size ts tail front taken list1
+      all-walked : ((q : ℕ) → q < front → due q ≡ false) × (size ≤ front) → Walk-done (rise-of a b k) (part-of first size) ts tail front taken list1
       all-walked h =
           let same : front ≡ size = omega (arith, h .1, fits .0) in
           done (inr same)
@@ -287,28 +258,30 @@ module _ {a b k first size : ℕ} {ts ns tail ps : List ℕ} (s : Walk-site a b 
           gone = drop-of-length-le part {i = front} (omega (arith, h .1, turned.part-length s))
 
     pub walk-over : (front ≤ taken) ⊎ (((q : ℕ) → q < front → due q ≡ false) × (size ≤ front)) → (list1 : List ℕ)
-        → list1 ≡ sets list taken (entries-at first tail (set-places ss)) → Walk-done a b k first size ts tail front taken list1
+        → list1 ≡ sets list taken (entries-at first tail (set-places ss)) → Walk-done (rise-of a b k) (part-of first size) ts tail front taken list1
     walk-over (inl l) list1 made = none-left list1 (made ∙ ap (sets list taken) held-entries) l
     walk-over (inr h) list1 made = all-walked list1 (made ∙ ap (sets list taken) held-entries) h
 
-  pub walk-end : {front taken : ℕ} {hs cs ds ss list : List ℕ} → Walk-state a b k first size ts tail ps front taken hs cs ds ss list → 1 ≤ front
+  pub walk-end : {front taken : ℕ} {hs cs ds ss list : List ℕ}
+      → Walk-state (rise-of a b k) (part-of first size) ts tail ps front taken (written hs cs ds ss list) → 1 ≤ front
       → (p : ℕ) → stop-place ≤ p → p ≡ next-place first size front taken ds → (list1 : List ℕ)
-      → list1 ≡ sets list taken (entries-at first tail (set-places ss)) → Walk-done a b k first size ts tail front taken list1
+      → list1 ≡ sets list taken (entries-at first tail (set-places ss)) → Walk-done (rise-of a b k) (part-of first size) ts tail front taken list1
   walk-end {front} {taken} {hs} {cs} {ds} {ss} {list} st some p stop next list1 made =
       walk-over front taken list (st .walking) (st .room) (st .passed) some (st .stays)
-      (go (stop-at first size front taken ds p next stop (lowest-small (neighbours-of ds 0) (λ v m. in-neighbours-of ds 0 v m .0)))) list1 made
+      (go (stop-at first size front taken ds p next stop (lowest-small ds (st .due-long)))) list1 made
     where
-      go : (front ≤ taken) ⊎ ((first + front ≤ head-or max-radios (neighbours-of ds 0)) × (size ≤ front))
-          → (front ≤ taken) ⊎ (((q : ℕ) → q < front → marked ds 0 (first + q) ≡ false) × (size ≤ front))
+      go : (front ≤ taken) ⊎ ((first + front ≤ head-or max-radios (common ds ds)) × (size ≤ front))
+          → (front ≤ taken) ⊎ (((q : ℕ) → q < front → in-set ds (first + q) ≡ false) × (size ≤ front))
       go (inl l) = inl l
       go (inr h) =
           inr (
-            λ q l. first-marked-least ds (head-or max-radios (neighbours-of ds 0)) refl (first + q) (omega (arith, h .0)) (omega (arith, front-fits st .1)),
+            λ q l. first-marked-least ds (head-or max-radios (common ds ds)) refl (first + q) (omega (arith, h .0)) (omega (arith, front-fits st .1)),
             h .1,
           )
 
 -- as the code names its values
-pub done-as : {a b k first size front taken at many : ℕ} {ts tail list : List ℕ} → at ≡ front → many ≡ taken → Walk-done a b k first size ts tail front taken
+pub done-as : {a b k first size front taken at many : ℕ} {ts tail list : List ℕ} → at ≡ front → many ≡ taken
+    → Walk-done (rise-of a b k) (part-of first size) ts tail front taken
     list
-    → Walk-done a b k first size ts tail at many list
+    → Walk-done (rise-of a b k) (part-of first size) ts tail at many list
 done-as e f d = rw (e, f) d

@@ -3,45 +3,27 @@
 --   look-held, look-taken   the front is looked at
 --   back-done     a candidate is taken back
 --   pass-done     radios are passed
-use mathlib.Core.Path.{_≡_, refl, sym, ap, _∙_}
-use mathlib.Core.Logic.{_⊎_, inl, inr}
-use mathlib.Core.Bool.{Bool, true, false, cond, or-true}
-use mathlib.Core.List.{List, [], _∷_, _++_, append-assoc}
-use Prim.Native.Nat.{ℕ, suc, _+_, _-_, _≤_, _<_}
-use native.Mathlib.Omega.{arith}
-use native.Mathlib.Numerals.{add-one}
-use native.Mathlib.Nat.{le-antisymm}
-use lib.Dec.{ltb, eqb}
-use lib.ListN.{length, getD, set, take, drop, length-set, length-drop, take-append-drop}
-use lib.Seq.{length-take-le, getD-take, getD-drop, getD-set-same, getD-set-other, take-suc-set, drop-cons, paste, take-paste, length-paste}
-use borrow.Author.Tests.{eqb-true, eqb-false, eq-eqb, ne-eqb, lt-ltb, ltb-true}
-use Rattle.mesh.specs.Limits.{max-radios, max-neighbours, row-bytes}
-use Rattle.lists.specs.Lists.{count, head-or, In}
-use Rattle.lists.specs.Facts.{Distinct}
-use Rattle.mesh.specs.Tables.{marked, put-bit, put-link}
-use Rattle.lists.proofs.Tests.{bool-cases, never, and-left, and-right, or-cases}
-use Rattle.lists.proofs.Member.{in-left, in-right, in-cases, in-member, member-in, in-getD, getD-of-in}
-use Rattle.lists.proofs.Count.{count-append, count-pos}
-use Rattle.lists.proofs.Distinct.{count-sub, distinct-left, distinct-right, distinct-mid, permutation-distinct}
-use Rattle.lists.proofs.Ascending.{rising-index}
-use Rattle.lists.proofs.Parts.{take-drop-take}
-use Rattle.mesh.proofs.Tables.Laws.{length-put-bit}
-use Rattle.mesh.proofs.Links.Peel.{takes-permutation}
-use Rattle.rows.specs.Rows.{neighbours-of}
-use Rattle.rows.proofs.RowListLaws.{in-neighbours-of, member-neighbours-of, distinct-neighbours-of}
-use Rattle.rows.specs.Sets.{put-in, take-out}
+use Rattle.lists.{specs.Kit.{_≡_, refl, sym, ap, _∙_, _⊎_, inl, inr, Bool, true, false, cond, or-true, List, [], _∷_, _++_, append-assoc, ℕ, suc, _+_, _-_}}
+use Rattle.lists.{specs.Kit.{_≤_, _<_, arith, add-one, le-antisymm, ltb, eqb, length, getD, set, take, drop, length-set, length-drop, take-append-drop}}
+use Rattle.lists.{specs.Kit.{length-take-le, getD-take, getD-drop, getD-set-same, getD-set-other, take-suc-set, drop-cons, paste, take-paste, length-paste}}
+use Rattle.lists.{specs.Kit.{eqb-true, eqb-false, eq-eqb, ne-eqb, lt-ltb, ltb-true}, specs.Lists.{count, head-or, In}, specs.Facts.{Distinct}}
+use Rattle.lists.{proofs.Tests.{bool-cases, never, and-left, and-right, or-cases}, proofs.Member.{in-left, in-right, in-cases, in-member, member-in, in-getD}}
+use Rattle.lists.{proofs.Member.{getD-of-in}, proofs.Count.{count-append, count-pos}, proofs.Distinct.{count-sub, distinct-left, distinct-right, distinct-mid}}
+use Rattle.lists.{proofs.Distinct.{permutation-distinct}, proofs.Ascending.{rising-index}, proofs.Parts.{take-drop-take}}
+use Rattle.mesh.{specs.Limits.{max-radios, max-neighbours}, specs.Tables.{marked, put-link}}
+use Rattle.mesh.{proofs.Links.Peel.{takes-permutation}}
+use Rattle.rows.{specs.Rows.{neighbours-of}, proofs.RowListLaws.{in-neighbours-of, member-neighbours-of, distinct-neighbours-of}, specs.Sets.{put-in, take-out}}
+use Rattle.walks.{specs.Walk.{Part, Walking}, proofs.Front.{few-front-head, few-from-one}}
+use Rattle.plan.specs.{Turns.{released, places-released, Releasable, Row-ready, Near-ready}, Walks.{is-left, is-later, places-touched, radios-of, joined}}
+use Rattle.plan.specs.{Walks.{Known, Walk-site, Walk-state, rise-of, part-of, written}}
+use Rattle.plan.proofs.{TurnLoops.{length-released, length-places-released}, TurnLaws.{marked-released}, LevelLaws.{first-marked-in}}
+use Rattle.plan.proofs.{LevelLaws.{first-marked-least}, WalkLoops.{length-touched, touched-only}, WalkReleased.{released-is}}
+use Rattle.plan.proofs.{WalkHeld.{held-is}}
+use Rattle.plan.proofs.TurnLaws.{place-out}
+use Rattle.rows.proofs.SetLaws.{length-take-out, in-set-radio}
+use Rattle.rows.specs.Sets.{in-set, common}
 use Rattle.plan.proofs.EntryLists as entries
-use Rattle.walks.specs.Walk.{Part, Walking}
 use Rattle.walks.proofs.Turns as turns
-use Rattle.walks.proofs.Front.{few-front-head, few-from-one}
-use Rattle.plan.specs.Turns.{released, places-released, Releasable, Row-ready, Near-ready}
-use Rattle.plan.specs.Walks.{is-left, is-later, places-touched, radios-of, joined, Known, Walk-site, Walk-state}
-use Rattle.plan.proofs.TurnLoops.{length-released, length-places-released}
-use Rattle.plan.proofs.TurnLaws.{marked-put, marked-released}
-use Rattle.plan.proofs.LevelLaws.{first-marked-in, first-marked-least}
-use Rattle.plan.proofs.WalkLoops.{length-touched, touched-only}
-use Rattle.plan.proofs.WalkReleased.{marked-small, released-is}
-use Rattle.plan.proofs.WalkHeld.{held-is}
 
 -- ---- what counts
 
@@ -79,7 +61,7 @@ module _ (k p : ℕ) (ns ps hs : List ℕ) (w : ℕ) where
   unfolding is-later
   later-of e l = rw (eq-eqb (getD ns w 0) k e, lt-ltb p (getD ps w 0) l)
 
-module _ {a b k first size : ℕ} {ts ns tail ps : List ℕ} (s : Walk-site a b k first size ts ns tail ps) where
+module _ {a b k first size : ℕ} {ts ns tail ps : List ℕ} (s : Walk-site (rise-of a b k) (part-of first size) ts ns tail ps) where
   abbrev n : ℕ
   n = radios-of first tail
 
@@ -185,7 +167,8 @@ module _ {a b k first size : ℕ} {ts ns tail ps : List ℕ} (s : Walk-site a b 
     pub near-ready : (nears : ℕ) → nears ≡ max-neighbours → Near-ready true a b x ts nears
     near-ready nears en = record { ready = row-ready; near-long = omega (arith, s .row-few x lx) }
 
-  module _ {front taken : ℕ} {hs cs ds ss list : List ℕ} (st : Walk-state a b k first size ts tail ps front taken hs cs ds ss list) where
+  module _ {front taken : ℕ} {hs cs ds ss list : List ℕ} (st : Walk-state (rise-of a b k) (part-of first size) ts tail ps front taken
+      (written hs cs ds ss list)) where
     abbrev held : List ℕ
     held = st .walking .held
 
@@ -225,29 +208,29 @@ module _ {a b k first size : ℕ} {ts ns tail ps : List ℕ} (s : Walk-site a b 
 
         -- the places due after x at place p was taken
         module _ (p : ℕ) (lp : p < max-radios) where
-          low-released : (q : ℕ) → marked (places-released hs1 ps 1 k (neighbours-of us x) cs (put-bit false 0 p ds)) 0 q ≡ true → first ≤ q
+          low-released : (q : ℕ) → in-set (places-released hs1 ps 1 k (neighbours-of us x) cs (take-out p ds)) q ≡ true → first ≤ q
           low-released q t =
-              go (marked-released hs1 ps 1 k (λ v l e. candidate-stands v l e .1) (neighbours-of us x) cs (put-bit false 0 p ds) long0 releasable q lq t)
+              go (marked-released hs1 ps 1 k (λ v l e. candidate-stands v l e .1) (neighbours-of us x) cs (take-out p ds) long0 releasable q lq t)
             where
-              long0 : length (put-bit false 0 p ds) ≡ row-bytes
-              long0 = length-put-bit false 0 p ds ∙ st .due-long
+              long0 : length (take-out p ds) ≡ 8
+              long0 = length-take-out p ds ∙ st .due-long
 
               lq : q < max-radios
-              lq = marked-small (places-released hs1 ps 1 k (neighbours-of us x) cs (put-bit false 0 p ds)) q
-                  (length-places-released hs1 ps 1 k (neighbours-of us x) cs (put-bit false 0 p ds) ∙ long0) t
+              lq = in-set-radio (places-released hs1 ps 1 k (neighbours-of us x) cs (take-out p ds)) q
+                  (length-places-released hs1 ps 1 k (neighbours-of us x) cs (take-out p ds) ∙ long0) t
 
-              old : (eqb p q ≡ true) ⊎ (eqb p q ≡ false) → marked (put-bit false 0 p ds) 0 q ≡ true → marked ds 0 q ≡ true
-              old (inl e) u = never (marked (put-bit false 0 p ds) 0 q) u
-                  (marked-put false p q ds (st .due-long) lp lq ∙ ap (λ (b : Bool). cond b false (marked ds 0 q)) e)
-              old (inr e) u = sym (marked-put false p q ds (st .due-long) lp lq ∙ ap (λ (b : Bool). cond b false (marked ds 0 q)) e) ∙ u
+              old : (eqb p q ≡ true) ⊎ (eqb p q ≡ false) → in-set (take-out p ds) q ≡ true → in-set ds q ≡ true
+              old (inl e) u = never (in-set (take-out p ds) q) u
+                  (place-out p q ds (st .due-long) lp ∙ ap (λ (b : Bool). cond b false (in-set ds q)) e)
+              old (inr e) u = sym (place-out p q ds (st .due-long) lp ∙ ap (λ (b : Bool). cond b false (in-set ds q)) e) ∙ u
 
-              go : (marked (put-bit false 0 p ds) 0 q ≡ true) ⊎ ((w : ℕ) × (w < length hs1) × (getD hs1 w 0 ≡ 1) × (getD ps w 0 ≡ q)) → first ≤ q
+              go : (in-set (take-out p ds) q ≡ true) ⊎ ((w : ℕ) × (w < length hs1) × (getD hs1 w 0 ≡ 1) × (getD ps w 0 ≡ q)) → first ≤ q
               go (inl u) = st .low q (old (bool-cases (eqb p q)) u)
               go (inr (w, lw, e, is)) = omega (arith, candidate-stands w lw e .0, is)
 
     -- ---- the radio at the front
 
-    module _ (v : ℕ) (v-is : v ≡ getD part front 0) (front-inside : front < size) (undue : (q : ℕ) → q < front → marked ds 0 (first + q) ≡ false) where
+    module _ (v : ℕ) (v-is : v ≡ getD part front 0) (front-inside : front < size) (undue : (q : ℕ) → q < front → in-set ds (first + q) ≡ false) where
       abbrev later : List ℕ
       later = drop (suc front) part
 
@@ -342,7 +325,7 @@ module _ {a b k first size : ℕ} {ts ns tail ps : List ℕ} (s : Walk-site a b 
 
       module _ (c : ℕ) (c-is : c ≡ count (is-left k (first + front) ns ps hs) (neighbours-of us v)) where
         abbrev touched : List ℕ
-        touched = places-touched k (first + front) ns ps (neighbours-of us v) (put-bit false 0 (first + front) ds)
+        touched = places-touched k (first + front) ns ps (neighbours-of us v) (take-out (first + front) ds)
 
         marks-own : eqb (getD (set hs v 1) v 0) 1 ≡ true
         marks-own = ap (λ (x : ℕ). eqb x 1) (getD-set-same hs v 1 0 (omega (arith, front-below, st .held-long)))
@@ -350,37 +333,38 @@ module _ {a b k first size : ℕ} {ts ns tail ps : List ℕ} (s : Walk-site a b 
         marks-other : (w : ℕ) → (w ≡ v → ⊥) → eqb (getD (set hs v 1) w 0) 1 ≡ eqb (getD hs w 0) 1
         marks-other w ne = ap (λ (x : ℕ). eqb x 1) (getD-set-other hs v w 1 0 ne)
 
-        low-touched : (q : ℕ) → marked touched 0 q ≡ true → first ≤ q
-        low-touched q t = go (touched-only k (first + front) ns ps (neighbours-of us v) (put-bit false 0 (first + front) ds) small long0 q lq t)
+        low-touched : (q : ℕ) → in-set touched q ≡ true → first ≤ q
+        low-touched q t = go (touched-only k (first + front) ns ps (neighbours-of us v) (take-out (first + front) ds) small long0 q lq t)
           where
             small : (w : ℕ) → In w (neighbours-of us v) → is-later k (first + front) ns ps w ≡ true → getD ps w 0 < max-radios
             small w m t = place-small w (later-stands w (later-back w (near-joined v front-below w m) t) .0)
 
-            long0 : length (put-bit false 0 (first + front) ds) ≡ row-bytes
-            long0 = length-put-bit false 0 (first + front) ds ∙ st .due-long
+            long0 : length (take-out (first + front) ds) ≡ 8
+            long0 = length-take-out (first + front) ds ∙ st .due-long
 
             lq : q < max-radios
-            lq = marked-small touched q (length-touched k (first + front) ns ps (neighbours-of us v) (put-bit false 0 (first + front) ds) ∙ long0) t
+            lq = in-set-radio touched q (length-touched k (first + front) ns ps (neighbours-of us v) (take-out (first + front) ds) ∙ long0) t
 
-            old : (eqb (first + front) q ≡ true) ⊎ (eqb (first + front) q ≡ false) → marked (put-bit false 0 (first + front) ds) 0 q ≡ true → marked ds 0 q ≡
+            old : (eqb (first + front) q ≡ true) ⊎ (eqb (first + front) q ≡ false) → in-set (take-out (first + front) ds) q ≡ true → in-set ds q ≡
                 true
             old (inl e) u =
-                never (marked (put-bit false 0 (first + front) ds) 0 q) u
-                (marked-put false (first + front) q ds (st .due-long) place-low lq ∙ ap (λ (b : Bool). cond b false (marked ds 0 q)) e)
-            old (inr e) u = sym (marked-put false (first + front) q ds (st .due-long) place-low lq ∙ ap (λ (b : Bool). cond b false (marked ds 0 q)) e) ∙ u
+                never (in-set (take-out (first + front) ds) q) u
+                (place-out (first + front) q ds (st .due-long) place-low ∙ ap (λ (b : Bool). cond b false (in-set ds q)) e)
+            old (inr e) u = sym (place-out (first + front) q ds (st .due-long) place-low ∙ ap (λ (b : Bool). cond b false (in-set ds q)) e) ∙ u
 
-            go : (marked (put-bit false 0 (first + front) ds) 0 q ≡ true) ⊎
+            go : (in-set (take-out (first + front) ds) q ≡ true) ⊎
                 ((w : ℕ) × In w (neighbours-of us v) × (is-later k (first + front) ns ps w ≡ true) × (getD ps w 0 ≡ q))
                 → first ≤ q
             go (inl u) = st .low q (old (bool-cases (eqb (first + front) q)) u)
             go (inr (w, m, u, e)) = omega (arith, later-cases k (first + front) ns ps hs w u .1, e)
 
-        pub look-held : k < c → Walk-state a b k first size ts tail ps (front + 1) taken (set hs v 1) (set cs v c) touched (put-in (first + front) ss) list
+        pub look-held : k < c → Walk-state (rise-of a b k) (part-of first size) ts tail ps (front + 1) taken
+            (written (set hs v 1) (set cs v c) touched (put-in (first + front) ss) list)
         look-held big = record {
           held-long = omega (arith, st .held-long, length-set hs v 1);
           counters-long = omega (arith, st .counters-long, length-set cs v c);
-          due-long = length-touched k (first + front) ns ps (neighbours-of us v) (put-bit false 0 (first + front) ds) ∙ length-put-bit false 0 (first + front)
-              ds ∙ st .due-long;
+          due-long = length-touched k (first + front) ns ps (neighbours-of us v) (take-out (first + front) ds) ∙ length-take-out
+              (first + front) ds ∙ st .due-long;
           room = st .room;
           passed = omega (arith, st .passed);
           low = low-touched;
@@ -390,8 +374,8 @@ module _ {a b k first size : ℕ} {ts ns tail ps : List ℕ} (s : Walk-site a b 
           walking = rw (add-one front) turned;
         }
           where
-            written : turns.Held f k above part pos v front c later (λ w. getD cs w 0) (λ w. getD (set cs v c) w 0) (λ q. marked ds 0 (first + q))
-                (λ q. marked touched 0 (first + q))
+            written : turns.Held f k above part pos v front c later (λ w. getD cs w 0) (λ w. getD (set cs v c) w 0) (λ q. in-set ds (first + q))
+                (λ q. in-set touched (first + q))
             written =
                 held-is f k first above part ns ps v front c us (row-marks v front-below) (joined-small v front-below) cs ds
                 (omega (arith, front-below, st .counters-long)) (st .due-long) place-low later
@@ -399,7 +383,7 @@ module _ {a b k first size : ℕ} {ts ns tail ps : List ℕ} (s : Walk-site a b 
                 later-back (λ w m. place-small w (later-stands w m .0))
 
             turned : Walking f k above part pos (take taken list) (suc front) (λ w. eqb (getD (set hs v 1) w 0) 1) (λ w. getD (set cs v c) w 0)
-                (λ q. marked touched 0 (first + q))
+                (λ q. in-set touched (first + q))
             turned =
                 rw v-is (turns.turn-hold f k above part pos is-part (st .walking) in-part undue c (rw v-is at written) (rw v-is at (c-is ∙ look-count)) big
                 (rw v-is at marks-own) (rw v-is at marks-other))
@@ -407,18 +391,18 @@ module _ {a b k first size : ℕ} {ts ns tail ps : List ℕ} (s : Walk-site a b 
       -- ---- v is taken where it stands
 
       abbrev freed : List ℕ
-      freed = places-released hs ps 1 k (neighbours-of us v) cs (put-bit false 0 (first + front) ds)
+      freed = places-released hs ps 1 k (neighbours-of us v) cs (take-out (first + front) ds)
 
       pub look-releasable : Releasable hs ps 1 (neighbours-of us v) cs
       look-releasable = releasable hs candidate-held (st .held-long) v front-below v-left
 
       pub look-taken : count (is-left k (first + front) ns ps hs) (neighbours-of us v) ≤ k
-          → Walk-state a b k first size ts tail ps (front + 1) (taken + 1) hs (released hs 1 (neighbours-of us v) cs) freed ss (set list taken v)
+          → Walk-state (rise-of a b k) (part-of first size) ts tail ps (front + 1) (taken + 1)
+          (written hs (released hs 1 (neighbours-of us v) cs) freed ss (set list taken v))
       look-taken fit = record {
         held-long = st .held-long;
         counters-long = omega (arith, st .counters-long, length-released hs 1 (neighbours-of us v) cs);
-        due-long = length-places-released hs ps 1 k (neighbours-of us v) cs (put-bit false 0 (first + front) ds) ∙ length-put-bit false 0 (first + front)
-            ds ∙ st .due-long;
+        due-long = length-places-released hs ps 1 k (neighbours-of us v) cs (take-out (first + front) ds) ∙ length-take-out (first + front) ds ∙ st .due-long;
         room = omega (arith, st .room, length-set list taken v);
         passed = omega (arith, st .passed);
         low = low-released hs candidate-held (st .held-long) v front-below v-left (first + front) place-low;
@@ -432,24 +416,24 @@ module _ {a b k first size : ℕ} {ts ns tail ps : List ℕ} (s : Walk-site a b 
 
           written : turns.Released f k above part pos v front (λ w. eqb (getD hs w 0) 1) (λ w. getD cs w 0)
               (λ w. getD (released hs 1 (neighbours-of us v) cs) w 0)
-              (λ q. marked ds 0 (first + q)) (λ q. marked freed 0 (first + q))
+              (λ q. in-set ds (first + q)) (λ q. in-set freed (first + q))
           written =
               released-is f k first above part hs ps (candidate-stands hs candidate-held) (candidate-apart hs candidate-held) v us (row-marks v front-below)
               (joined-small v front-below) cs ds (st .due-long) look-releasable front place-low
 
           turned : Walking f k above part pos (take taken list ++ (v ∷ [])) (suc front) (λ w. eqb (getD hs w 0) 1)
-              (λ w. getD (released hs 1 (neighbours-of us v) cs) w 0) (λ q. marked freed 0 (first + q))
+              (λ w. getD (released hs 1 (neighbours-of us v) cs) w 0) (λ q. in-set freed (first + q))
           turned =
               let few : count (f v) (held ++ later) + count (f v) above ≤ k = omega (arith, fit, look-count) in
               rw v-is (turns.turn-take f k above part pos is-part (st .walking) in-part undue (rw v-is at written) (rw v-is at few))
 
     -- ---- a candidate is taken back
 
-    module _ (p : ℕ) (p-first : p ≡ head-or max-radios (neighbours-of ds 0)) (p-low : p < first + front) where
+    module _ (p : ℕ) (p-first : p ≡ head-or max-radios (common ds ds)) (p-low : p < first + front) where
       p-small : p < max-radios
       p-small = omega (arith, st .walking .room, part-length, s .fits, s .small)
 
-      p-due : marked ds 0 p ≡ true
+      p-due : in-set ds p ≡ true
       p-due = first-marked-in ds p p-first p-small
 
       pub back-low : first ≤ p
@@ -464,8 +448,8 @@ module _ {a b k first size : ℕ} {ts ns tail ps : List ℕ} (s : Walk-site a b 
       j-front : j < front
       j-front = omega (arith, back-low)
 
-      j-due : marked ds 0 (first + j) ≡ true
-      j-due = ap (marked ds 0) j-is ∙ p-due
+      j-due : in-set ds (first + j) ≡ true
+      j-due = ap (in-set ds) j-is ∙ p-due
 
       pub back-part : j < size
       back-part = omega (arith, j-front, st .walking .room, part-length)
@@ -519,14 +503,14 @@ module _ {a b k first size : ℕ} {ts ns tail ps : List ℕ} (s : Walk-site a b 
             in-length x (y ∷ ys) m = omega arith
 
         abbrev freed-back : List ℕ
-        freed-back = places-released hs1 ps 1 k (neighbours-of us v) cs (put-bit false 0 p ds)
+        freed-back = places-released hs1 ps 1 k (neighbours-of us v) cs (take-out p ds)
 
-        pub back-done : Walk-state a b k first size ts tail ps front (taken + 1) hs1 (released hs1 1 (neighbours-of us v) cs) freed-back (take-out p ss)
-            (set list taken v)
+        pub back-done : Walk-state (rise-of a b k) (part-of first size) ts tail ps front (taken + 1)
+            (written hs1 (released hs1 1 (neighbours-of us v) cs) freed-back (take-out p ss) (set list taken v))
         back-done = record {
           held-long = long1;
           counters-long = omega (arith, st .counters-long, length-released hs1 1 (neighbours-of us v) cs);
-          due-long = length-places-released hs1 ps 1 k (neighbours-of us v) cs (put-bit false 0 p ds) ∙ length-put-bit false 0 p ds ∙ st .due-long;
+          due-long = length-places-released hs1 ps 1 k (neighbours-of us v) cs (take-out p ds) ∙ length-take-out p ds ∙ st .due-long;
           room = omega (arith, st .room, length-set list taken v);
           passed = omega (arith, back-room);
           low = low-released hs1 fewer long1 v back-below back-left p p-small;
@@ -543,23 +527,23 @@ module _ {a b k first size : ℕ} {ts ns tail ps : List ℕ} (s : Walk-site a b 
 
             written : turns.Released f k above part pos v j (λ w. eqb (getD hs1 w 0) 1) (λ w. getD cs w 0)
                 (λ w. getD (released hs1 1 (neighbours-of us v) cs) w 0)
-                (λ q. marked ds 0 (first + q)) (λ q. marked freed-back 0 (first + q))
+                (λ q. in-set ds (first + q)) (λ q. in-set freed-back (first + q))
             written =
                 rw j-is at (released-is f k first above part hs1 ps (candidate-stands hs1 fewer) (candidate-apart hs1 fewer) v us (row-marks v back-below)
                 (joined-small v back-below) cs ds (st .due-long) back-releasable j (omega (arith, j-is, p-small)))
 
-            undue : (q : ℕ) → q < j → marked ds 0 (first + q) ≡ false
+            undue : (q : ℕ) → q < j → in-set ds (first + q) ≡ false
             undue q l = first-marked-least ds p p-first (first + q) (omega (arith, j-is)) (omega (arith, j-is, p-small))
 
             turned : Walking f k above part pos (take taken list ++ (v ∷ [])) front (λ w. eqb (getD hs1 w 0) 1)
-                (λ w. getD (released hs1 1 (neighbours-of us v) cs) w 0) (λ q. marked freed-back 0 (first + q))
+                (λ w. getD (released hs1 1 (neighbours-of us v) cs) w 0) (λ q. in-set freed-back (first + q))
             turned =
                 rw v-is (turns.turn-back f k above part pos is-part (st .walking) j j-front j-due undue (rw v-is at written) (rw v-is at own)
                 (rw v-is at other))
 
     -- ---- radios are passed
 
-    module _ (until m : ℕ) (ends : until ≡ front + m) (inside : until ≤ size) (some : 1 ≤ front) (undue : (q : ℕ) → q < until → marked ds 0 (first + q) ≡ false)
+    module _ (until m : ℕ) (ends : until ≡ front + m) (inside : until ≤ size) (some : 1 ≤ front) (undue : (q : ℕ) → q < until → in-set ds (first + q) ≡ false)
       where
         few-from : (i : ℕ) → front ≤ i → i < length part → count (f (getD part i 0)) (drop (suc i) part) + count (f (getD part i 0)) above ≤ k
         few-from i l h = few-front-head f k above part i h (few-from-one f k above part i (omega arith) (s .few))
@@ -567,8 +551,8 @@ module _ {a b k first size : ℕ} {ts ns tail ps : List ℕ} (s : Walk-site a b 
         pub pass-room : taken + m ≤ length list
         pass-room = omega (arith, st .passed, st .room, ends, s .fits, s .small)
 
-        pub pass-done : (list1 : List ℕ) → list1 ≡ paste list taken (drop front tail) m → Walk-state a b k first size ts tail ps until (taken + m) hs cs ds ss
-            list1
+        pub pass-done : (list1 : List ℕ) → list1 ≡ paste list taken (drop front tail) m
+            → Walk-state (rise-of a b k) (part-of first size) ts tail ps until (taken + m) (written hs cs ds ss list1)
         pass-done list1 e = record {
           held-long = st .held-long;
           counters-long = st .counters-long;
@@ -589,8 +573,8 @@ module _ {a b k first size : ℕ} {ts ns tail ps : List ℕ} (s : Walk-site a b 
                 ∙ ap (λ (z : List ℕ). take taken list ++ z) (sym (take-drop-take front m size tail (omega (arith, ends))))
 
             turned : Walking f k above part pos (take taken list ++ take m (drop front part)) (front + m) (λ w. eqb (getD hs w 0) 1) (λ w. getD cs w 0)
-                (λ q. marked ds 0 (first + q))
+                (λ q. in-set ds (first + q))
             turned =
-                turns.turns-pass f k above part pos is-part (λ w. eqb (getD hs w 0) 1) (λ w. getD cs w 0) (λ q. marked ds 0 (first + q)) front (take taken list) m
+                turns.turns-pass f k above part pos is-part (λ w. eqb (getD hs w 0) 1) (λ w. getD cs w 0) (λ q. in-set ds (first + q)) front (take taken list) m
                 (st .walking)
                 (omega (arith, ends, part-length)) (λ q l. undue q (omega (arith, ends))) few-from

@@ -1,40 +1,18 @@
 -- The leaves of the walk by words.
 -- In order: counters lowered, one by one and list by list; the neighbours after the call put into a set; listed radios as a set; where the next
 -- turn is.
-use mathlib.Core.Path.{_≡_, refl, sym, ap, subst, _∙_}
-use mathlib.Core.Logic.{_⊎_, inl, inr}
-use mathlib.Core.Bool.{Bool, true, false, not, _&&_, _||_, cond}
-use mathlib.Core.List.{List, [], _∷_, _++_}
-use Prim.Native.Nat.{ℕ, suc, _+_, _*_, _-_, _/_, _%_, _^_, _≤_, _<_}
-use native.Mathlib.Omega.{arith}
-use native.Mathlib.Numerals.{add-one}
-use lib.Bits.{bitAnd, and-le-l, and-lt}
-use lib.Count.{trailingZeros}
-use lib.Dec.{ltb, leb, eqb}
-use lib.ListN.{length, getD, set, take, drop, replicate, length-set, length-replicate}
-use lib.Seq.{getD-set-same, getD-set-other, take-suc, take-all}
-use borrow.Author.Tests.{leb-true, leb-false, ltb-true, ltb-false, eqb-true, eqb-false, lt-ltb, le-ltb, le-leb, lt-leb, eq-eqb, ne-eqb}
-use Rattle.mesh.specs.Limits.{max-radios, row-bytes}
-use Rattle.lists.specs.Facts.{Distinct}
-use Rattle.lists.specs.Lists.{range, filter, count, member, head-or, In}
-use Rattle.lists.proofs.Ascending.{head-or-lowest, ascending-filter, ascending-range}
-use Rattle.lists.proofs.Count.{count-append, count-none}
-use Rattle.lists.proofs.Distinct.{distinct-left, distinct-right, distinct-apart}
-use Rattle.lists.proofs.Filter.{in-filter, filter-in, distinct-filter}
-use Rattle.lists.proofs.Member.{in-left, in-right, in-cases, in-member, member-in, member-append, head-or-below}
-use Rattle.lists.proofs.Range.{in-range, range-in, distinct-range}
-use Rattle.lists.proofs.Tests.{bool-cases, never, and-left, and-both}
-use Rattle.mesh.proofs.GraphLaws.{ends}
-use Rattle.mesh.specs.Tables.{digit, marked, put-link}
-use Rattle.mesh.proofs.Tables.Laws.{marked-put-link}
-use Rattle.rows.specs.Rows.{neighbours-of, row-listed, set-bits}
-use Rattle.rows.proofs.RowListLaws.{member-neighbours-of}
-use Rattle.rows.proofs.RowWords.{row-listed-whole, words-from, words-end}
-use Rattle.rows.proofs.WordLaws.{set-bits-lowest, set-bits-nothing}
-use Rattle.rows.specs.Sets.{in-set, put-in, take-out, common, Row-joined}
-use Rattle.rows.proofs.SetLaws.{in-set-zeros, in-set-past, in-put-in, length-put-in, put-in-past, both-from, both-word, common-filter}
-use Rattle.plan.specs.Places.{other-end, stop-place}
-use Rattle.plan.specs.WideSteps.{Ends-known, Joined-after, Lowerable, Lowered, next-turn}
+use Rattle.lists.{specs.Kit.{_≡_, refl, sym, ap, subst, _∙_, _⊎_, inl, inr, Bool, true, false, _&&_, _||_, cond, List, [], _∷_, _++_, ℕ, _+_, _*_, _-_, _^_}}
+use Rattle.lists.{specs.Kit.{_≤_, _<_, arith, add-one, bitAnd, and-le-l, trailingZeros, ltb, leb, eqb, length, getD, set, take, replicate, length-set}}
+use Rattle.lists.{specs.Kit.{length-replicate, getD-set-same, getD-set-other, take-suc, take-all, leb-true, leb-false, ltb-true, ltb-false, eqb-true}}
+use Rattle.lists.{specs.Kit.{eqb-false, lt-ltb, le-ltb, le-leb, lt-leb, eq-eqb, ne-eqb}, specs.Lists.{range, count, member, head-or, In}}
+use Rattle.lists.{proofs.Ascending.{head-or-lowest, ascending-filter, ascending-range}, proofs.Count.{count-append, count-none}}
+use Rattle.lists.{proofs.Distinct.{distinct-left, distinct-right, distinct-apart}, proofs.Filter.{in-filter, filter-in}, proofs.Member.{in-left, in-right}}
+use Rattle.lists.{proofs.Member.{in-cases, member-append, head-or-below}, proofs.Range.{in-range, range-in}, proofs.Tests.{bool-cases, and-both}}
+use Rattle.mesh.{specs.Limits.{max-radios}, proofs.GraphLaws.{ends}, specs.Tables.{marked, put-link}, proofs.Tables.Laws.{marked-put-link}}
+use Rattle.rows.{specs.Rows.{set-bits}, proofs.RowListLaws.{member-neighbours-of}, proofs.RowWords.{row-listed-whole, words-from, words-end}}
+use Rattle.rows.{proofs.WordLaws.{set-bits-lowest}, specs.Sets.{in-set, put-in, common, Row-joined}, proofs.SetLaws.{in-set-zeros, in-set-past, in-put-in}}
+use Rattle.rows.{proofs.SetLaws.{length-put-in, put-in-past, both-from, both-word, common-filter}}
+use Rattle.plan.specs.{Places.{other-end, stop-place}, WideSteps.{Ends-known, Joined-after, Lowerable, Lowered, next-turn}}
 
 -- ---- counters lowered
 

@@ -4,45 +4,24 @@
 --   back-done     a candidate is taken back
 --   pass-done     the radio at the front is passed
 --   words-end     what the loop and the listing of the candidates leave
-use mathlib.Core.Path.{_≡_, refl, sym, ap, _∙_}
-use mathlib.Core.Logic.{_⊎_, inl, inr}
-use mathlib.Core.Bool.{Bool, true, false, not, _&&_, _||_, cond}
-use mathlib.Core.List.{List, [], _∷_, _++_, append-nil}
-use Prim.Native.Nat.{ℕ, suc, _+_, _*_, _-_, _/_, _≤_, _<_}
-use native.Mathlib.Omega.{arith}
-use native.Mathlib.Numerals.{add-one}
-use lib.Dec.{ltb, leb, eqb}
-use lib.ListN.{length, getD, set, take, drop, replicate, length-set, length-replicate, length-append, take-append-drop, drop-of-length-le}
-use lib.Seq.{length-take-le, getD-set-same, getD-set-other, take-suc-set, drop-cons, sets, sets-eq, length-sets, take-at, drop-at, take-take}
-use borrow.Author.Tests.{eqb-true, eqb-false, eq-eqb, ne-eqb, lt-ltb, le-ltb, ltb-true, ltb-false}
-use Rattle.mesh.specs.Limits.{max-radios, max-neighbours, row-bytes}
-use Rattle.lists.specs.Facts.{Distinct}
-use Rattle.lists.specs.Lists.{range, filter, count, member, head-or, In}
-use Rattle.lists.proofs.Count.{count-ext, count-mono, count-pos}
-use Rattle.lists.proofs.Distinct.{distinct-one}
-use Rattle.lists.proofs.Filter.{in-filter, filter-in, distinct-filter, length-filter}
-use Rattle.lists.proofs.Member.{in-left, in-right, in-cases, in-member, member-in, in-getD, member-append}
-use Rattle.lists.proofs.Parts.{getD-zeros}
-use Rattle.lists.proofs.Range.{in-range, range-in, distinct-range}
-use Rattle.lists.proofs.Tests.{bool-cases, never, and-left, and-right, and-both, or-cases, or-left, or-right}
-use Rattle.mesh.specs.Tables.{marked, put-link}
-use Rattle.mesh.specs.Peel.{Peels}
-use Rattle.rows.specs.Rows.{neighbours-of}
-use Rattle.rows.specs.Sets.{in-set, put-in, take-out, common}
-use Rattle.rows.proofs.SetLaws.{in-set-zeros, in-put-in, in-take-out, length-put-in, length-take-out, common-filter}
-use Rattle.walks.specs.Walk.{Walking}
+use Rattle.lists.{specs.Kit.{_≡_, refl, sym, ap, _∙_, _⊎_, inl, inr, Bool, true, false, not, _&&_, _||_, cond, List, [], _∷_, _++_, ℕ, suc, _+_, _-_, _≤_, _<_}}
+use Rattle.lists.{specs.Kit.{arith, add-one, ltb, eqb, length, getD, set, take, drop, replicate, length-set, length-replicate, take-append-drop}}
+use Rattle.lists.{specs.Kit.{length-take-le, getD-set-same, getD-set-other, take-suc-set, drop-cons, sets, eqb-true, eqb-false, eq-eqb, ne-eqb, lt-ltb, le-ltb}}
+use Rattle.lists.{specs.Kit.{ltb-true, ltb-false}, specs.Facts.{Distinct}, specs.Lists.{range, count, member, head-or, In}, proofs.Count.{count-ext}}
+use Rattle.lists.{proofs.Count.{count-mono, count-pos}, proofs.Distinct.{distinct-one}, proofs.Filter.{in-filter, filter-in, distinct-filter, length-filter}}
+use Rattle.lists.{proofs.Member.{in-left, in-right, member-in, in-getD, member-append}, proofs.Parts.{getD-zeros}, proofs.Range.{in-range, range-in}}
+use Rattle.lists.{proofs.Range.{distinct-range}, proofs.Tests.{bool-cases, never, and-left, and-right, and-both, or-cases, or-left, or-right}}
+use Rattle.mesh.specs.{Limits.{max-radios, max-neighbours}, Tables.{marked, put-link}}
+use Rattle.rows.{specs.Rows.{neighbours-of}, specs.Sets.{in-set, put-in, take-out, common}, proofs.SetLaws.{in-set-zeros, in-put-in, in-take-out}}
+use Rattle.rows.{proofs.SetLaws.{length-put-in, length-take-out, common-filter}}
+use Rattle.walks.{specs.Walk.{Walking}, proofs.Front.{few-front-head, few-from-one}}
+use Rattle.plan.specs.{Places.{stop-place, set-places, entries-at, Stands}, WideSteps.{Ends-known, Joined-after, Lowerable, Lowered, next-turn}}
+use Rattle.plan.specs.{Walks.{radios-of, joined, Walk-site, Walk-done}, WideWalk.{words-due, Work, work, Words-state}, declared.walk.Rise.{Rise}}
+use Rattle.plan.specs.{declared.walk.Part.{Part}}
+use Rattle.plan.proofs.{WordLaws.{no-count, lowest-in, lowest-least, lowest-small, lowest-none, turn-at, stop-at}, WalkSteps.{walk-over}}
 use Rattle.walks.proofs.Turns as turns
-use Rattle.walks.proofs.Front.{few-front-head, few-from-one}
-use Rattle.plan.specs.Places.{stop-place, set-places, entries-at, Stands}
 use Rattle.plan.proofs.EntryLists as entries
-use Rattle.plan.specs.WideSteps.{Ends-known, Joined-after, Lowerable, Lowered, next-turn}
-use Rattle.plan.proofs.WordLaws.{no-count, lowest-in, lowest-least, lowest-small, lowest-none, turn-at, stop-at}
-use Rattle.plan.specs.Walks.{radios-of, joined, Walk-site, Walk-done}
-use Rattle.plan.specs.WideWalk.{words-due, Work, work, Words-state}
-use Rattle.plan.specs.declared.walk.Rise.{Rise}
-use Rattle.plan.specs.declared.walk.Part.{Part}
 use Rattle.plan.proofs.WalkTurns as turned
-use Rattle.plan.proofs.WalkSteps.{walk-over}
 
 -- ---- the places due
 
@@ -90,7 +69,7 @@ put-other : (v w : ℕ) (ws : List ℕ) → length ws ≡ 8 → v < max-radios �
 put-other v w ws long l ne = in-put-in v w ws (omega arith) ∙ rw (ne-eqb v w (λ e. ne (sym e)))
 
 module _ {rise : Rise} {span : Part} {ts ns tail ps : List ℕ}
-    (s : Walk-site (rise .a) (rise .b) (rise .most) (span .first) (span .size) ts ns tail ps) where
+    (s : Walk-site rise span ts ns tail ps) where
   abbrev a : ℕ
   a = rise .a
 
@@ -712,7 +691,7 @@ module _ {rise : Rise} {span : Part} {ts ns tail ps : List ℕ}
     words-entries = (omega (arith, st .passed, front-fits .1), entries.marked-stand first size tail (st .stays) (s .fits))
 
     pub words-end : 1 ≤ front → (p : ℕ) → stop-place ≤ p → p ≡ next-turn size front taken due → (list1 : List ℕ)
-        → list1 ≡ sets list taken (entries-at first tail (set-places stay)) → Walk-done a b k first size ts tail front taken list1
+        → list1 ≡ sets list taken (entries-at first tail (set-places stay)) → Walk-done rise span ts tail front taken list1
     words-end some p stop next list1 made = walk-over s front taken list (st .walking) (st .room) (st .passed) some (st .stays) way list1 made
       where
         way : (front ≤ taken) ⊎ (((q : ℕ) → q < front → due-at q ≡ false) × (size ≤ front))

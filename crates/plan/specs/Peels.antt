@@ -3,25 +3,17 @@
 --   above order start size     the entries after it
 --   linked-after               neighbours after the call
 --   Level                      what the peel is made from: numbers, order and places that fit together, and neighbours after the call
+--   stretch-at start size      where a stretch stands
 --   Turning                    so many radios are taken, what is left, its counters and the fitting places
---   Whole-counted              the counters of all radios of the level, taken or not: as the peel of a thin level keeps them
 --   Left-set                   a set that has all radios but the taken
 --   Peel-ready                 the same before the first turn, with rows and room for the loop
 --   Peel-done                  what the loop comes back with: the taken in front of the list, the stuck by their counters
 -- Laws are in proofs/LevelLaws.antt and proofs/PeelTurns.antt. Definitions only.
-use mathlib.Core.Path.{_≡_}
-use mathlib.Core.Bool.{Bool, true, false, not, _&&_}
-use mathlib.Core.List.{List, []}
-use Prim.Native.Nat.{ℕ, _+_, _*_, _≤_, _<_}
-use lib.Dec.{ltb, leb}
-use lib.ListN.{length, getD, take, drop}
-use Rattle.mesh.specs.Limits.{max-radios, row-bytes}
-use Rattle.lists.specs.Lists.{count, filter, member, In}
-use Rattle.mesh.specs.Graph.{linked, relinked}
-use Rattle.mesh.specs.Tables.{marked, put-link, graph-in}
-use Rattle.mesh.specs.Peel.{Takes, Peels}
+use Rattle.lists.specs.{Kit.{_≡_, Bool, true, false, not, _&&_, List, [], ℕ, _+_, _*_, _≤_, _<_, ltb, leb, length, getD, take, drop}, Lists.{count, filter}}
+use Rattle.lists.specs.{Lists.{member, In}}
+use Rattle.mesh.specs.{Limits.{max-radios, row-bytes}, Graph.{linked, relinked}, Tables.{marked, put-link, graph-in}, Peel.{Takes, Peels}}
 use Rattle.rows.specs.Sets.{in-set}
-use Rattle.plan.specs.Places.{level-start, level-size}
+use Rattle.plan.specs.{Places.{level-start, level-size}, declared.turn.Call.{Call}, declared.stretch.Stretch.{Stretch}}
 
 abbrev pub stretch : (order : List ℕ) → (start size : ℕ) → List ℕ
 stretch os start size = take size (drop start os)
@@ -47,41 +39,43 @@ pub record Level (f : ℕ → ℕ → Bool) (numbers order places : List ℕ) (k
   pub irreflexive : (v : ℕ) → f v v ≡ false
   pub symmetric : (v w : ℕ) → f v w ≡ f w v
 
-pub record Turning (f : ℕ → ℕ → Bool) (most : ℕ) (order places : List ℕ) (start size : ℕ) (taken counters fits : List ℕ) : Type 0 where
+abbrev pub stretch-at : (start size : ℕ) → Stretch
+stretch-at start size = record { start = start; size = size }
+
+pub record Turning (f : ℕ → ℕ → Bool) (most : ℕ) (order places : List ℕ) (at : Stretch) (taken counters fits : List ℕ) : Type 0 where
   pub rest : List ℕ
-  pub takes : Takes f most (above order start size) (stretch order start size) taken rest
+  pub takes : Takes f most (above order (at .start) (at .size)) (stretch order (at .start) (at .size)) taken rest
   pub counted :
-      (v : ℕ) → In v rest → getD counters v 0 ≡ count (f v) rest + count (f v) (above order start size)
+      (v : ℕ) → In v rest → getD counters v 0 ≡ count (f v) rest + count (f v) (above order (at .start) (at .size))
   pub fitting :
-      (v : ℕ) → In v (stretch order start size) → marked fits 0 (getD places v 0) ≡ (member v rest && leb (getD counters v 0) most)
-  pub standing : (p : ℕ) → p < max-radios → marked fits 0 p ≡ true → (start ≤ p) × (p < start + size)
+      (v : ℕ) → In v (stretch order (at .start) (at .size)) → in-set fits (getD places v 0) ≡ (member v rest && leb (getD counters v 0) most)
+  pub standing : (p : ℕ) → p < max-radios → in-set fits p ≡ true → (at .start ≤ p) × (p < at .start + at .size)
   pub spent : (v : ℕ) → In v taken → getD counters v 0 ≤ most
   pub counters-long : length order ≤ length counters
-  pub fits-long : length fits ≡ row-bytes
-
-abbrev pub Whole-counted : (f : ℕ → ℕ → Bool) → (order : List ℕ) → (start size : ℕ) → (taken counters : List ℕ) → Type 0
-Whole-counted f os start size ts cs =
-    (v : ℕ) → In v (stretch os start size) →
-    getD cs v 0 + count (f v) ts ≡ count (f v) (stretch os start size) + count (f v) (above os start size)
+  pub fits-long : length fits ≡ 8
 
 pub record Left-set (taken left : List ℕ) : Type 0 where
   pub long : length left ≡ 8
   pub has : (v : ℕ) → v < max-radios → in-set left v ≡ not (member v taken)
 
-pub record Peel-ready (up : Bool) (a b k most : ℕ) (links numbers order places counters fits : List ℕ) (list-room : ℕ) : Type 0 where
-  pub level : Level (linked-after up a b (length order) links) numbers order places k (level-start numbers k) (level-size numbers k)
-  pub differ : a ≡ b → ⊥
-  pub ends : (a < length order) × (b < length order)
+pub record Peel-ready (call : Call) (links numbers order places counters fits : List ℕ) (list-room : ℕ) : Type 0 where
+  pub level : Level (linked-after (call .up) (call .a) (call .b) (length order) links) numbers order places (call .level)
+      (level-start numbers (call .level)) (level-size numbers (call .level))
+  pub differ : call .a ≡ call .b → ⊥
+  pub ends : (call .a < length order) × (call .b < length order)
   pub links-length : length links ≡ row-bytes * length order
   pub row-is :
-      (v w : ℕ) → v < length order → w < max-radios → marked (put-link up a b links) v w ≡ linked-after up a b (length order) links v w
-  pub list-long : level-size numbers k ≤ list-room
+      (v w : ℕ) → v < length order → w < max-radios → marked (put-link (call .up) (call .a) (call .b) links) v w
+      ≡ linked-after (call .up) (call .a) (call .b) (length order) links v w
+  pub list-long : level-size numbers (call .level) ≤ list-room
   pub turning :
-      Turning (linked-after up a b (length order) links) most order places (level-start numbers k) (level-size numbers k) [] counters fits
+      Turning (linked-after (call .up) (call .a) (call .b) (length order) links) (call .most) order places
+      (stretch-at (level-start numbers (call .level)) (level-size numbers (call .level))) [] counters fits
 
-pub record Peel-done (up : Bool) (a b k most : ℕ) (links numbers order : List ℕ) (taken : ℕ) (counters list : List ℕ) : Type 0 where
-  pub fits : taken ≤ level-size numbers k
+pub record Peel-done (call : Call) (links numbers order : List ℕ) (taken : ℕ) (counters list : List ℕ) : Type 0 where
+  pub fits : taken ≤ level-size numbers (call .level)
   pub peels :
-      Peels (linked-after up a b (length order) links) most (above order (level-start numbers k) (level-size numbers k))
-      (stretch order (level-start numbers k) (level-size numbers k)) (take taken list)
-      (filter (λ v. ltb most (getD counters v 0)) (stretch order (level-start numbers k) (level-size numbers k)))
+      Peels (linked-after (call .up) (call .a) (call .b) (length order) links) (call .most)
+      (above order (level-start numbers (call .level)) (level-size numbers (call .level)))
+      (stretch order (level-start numbers (call .level)) (level-size numbers (call .level))) (take taken list)
+      (filter (λ v. ltb (call .most) (getD counters v 0)) (stretch order (level-start numbers (call .level)) (level-size numbers (call .level))))

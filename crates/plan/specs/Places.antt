@@ -10,16 +10,11 @@
 --   Stands first size ps       all of ps are places of it
 --   Marked-places              a set of words that tells the places of marked entries
 -- Laws are in proofs/PlaceLaws.antt. Definitions only.
-use mathlib.Core.Path.{_≡_}
-use mathlib.Core.Bool.{Bool, true, cond}
-use mathlib.Core.List.{List, map}
-use Prim.Native.Nat.{ℕ, suc, _+_, _-_, _≤_, _<_}
-use lib.Dec.{ltb, leb, eqb}
-use lib.ListN.{length, getD}
+use Rattle.lists.specs.{Kit.{_≡_, Bool, true, cond, List, map, ℕ, suc, _+_, _-_, _≤_, _<_, ltb, leb, eqb, length, getD}, Lists.{count, filter, head-or, range}}
+use Rattle.lists.specs.{Lists.{In}}
 use Rattle.mesh.specs.Limits.{max-radios}
-use Rattle.lists.specs.Lists.{count, filter, head-or, range, In}
-use Rattle.rows.specs.Rows.{neighbours-of}
-use Rattle.rows.specs.Sets.{in-set}
+use Rattle.rows.specs.{Sets.{in-set}}
+use Rattle.rows.specs.Sets.{common}
 
 abbrev pub level-start : (numbers : List ℕ) → (k : ℕ) → ℕ
 level-start ns k = count (λ x. ltb x k) ns
@@ -38,7 +33,7 @@ beginning-end a b ns ps =
 unfoldable pub stands-first : (first k : ℕ) → (numbers order : List ℕ) → Bool
 stands-first first k ns os = cond (eqb first 0) true (ltb (getD ns (getD os (first - 1) 0) 0) k)
 
--- past every place, and past what `first_marked` gives where nothing is marked
+-- past every place, and past what `lowest` gives where nothing is marked
 abbrev pub stop-place : ℕ
 stop-place = suc max-radios
 
@@ -46,7 +41,7 @@ stop-place = suc max-radios
 -- end, and goes on there when neither is so
 unfoldable pub next-place : (first size front taken : ℕ) → (due : List ℕ) → ℕ
 next-place first size front taken ds =
-    let p = head-or max-radios (neighbours-of ds 0) in
+    let p = head-or max-radios (common ds ds) in
     cond (leb front taken) stop-place (cond (ltb p (first + front)) p (cond (leb size front) stop-place p))
 
 abbrev pub set-places : (words : List ℕ) → List ℕ

@@ -1,4 +1,4 @@
--- The turns of the peel, on the tables that they change: counters, one a radio, and the fitting places, a set kept as one row.
+-- The turns of the peel, on the tables that they change: counters, one a radio, and the fitting places, a set of words.
 --   end-counted up k ns v cs      the counters cs after the end v of the link got a neighbour or lost one, where v is of level k
 --   ends-counted                  the same for both ends
 --   counter-less ns k v cs        the counters after v lost a neighbour, where v is of level k
@@ -10,24 +10,18 @@
 --   fits-linked a b m v c         v has at most m neighbours once the link a-b is up, where it has c without it
 --   stays-linked a b m cs v       it has more, by the counters cs
 --   Releasable                    listed radios that can lose a neighbour: no repeats, and counters of the level above 0
+--   call-of                       a link call at its level, from its parts
 --   Begin-ready                   ends and places for the first turn
 --   Row-ready                     ends of the link a-b and their rows, and the row of v
 --   Near-ready                    the same, and room for the neighbours of v after the link a-b went up or down
 --   Lists-neighbours ts v r xs    the first r entries of xs are the radios that row v of ts marks
 -- Laws are in proofs/TurnLaws.antt. Definitions only.
-use mathlib.Core.Path.{_≡_}
-use mathlib.Core.Logic.{_⊎_}
-use mathlib.Core.Bool.{Bool, true, false, not, _&&_, _||_, cond}
-use mathlib.Core.List.{List, [], _∷_}
-use Prim.Native.Nat.{ℕ, suc, _+_, _*_, _-_, _≤_, _<_, min}
-use lib.Dec.{leb, eqb}
-use lib.ListN.{length, getD, set, take}
-use Rattle.mesh.specs.Limits.{max-radios, max-neighbours, row-bytes}
-use Rattle.mesh.specs.Tables.{put-bit, put-link}
-use Rattle.lists.specs.Lists.{filter, In}
-use Rattle.lists.specs.Facts.{Distinct}
-use Rattle.rows.specs.Rows.{neighbours-of}
-use Rattle.rows.specs.Sets.{in-set}
+use Rattle.lists.specs.{Kit.{_≡_, _⊎_, Bool, false, not, _&&_, _||_, cond, List, [], _∷_, ℕ, suc, _+_, _*_, _-_, _≤_, _<_, min, leb, eqb, length, getD}}
+use Rattle.lists.specs.{Kit.{set, take}, Lists.{filter, In}, Facts.{Distinct}}
+use Rattle.mesh.specs.{Limits.{max-radios, max-neighbours, row-bytes}, Tables.{put-link}}
+use Rattle.rows.specs.{Rows.{neighbours-of}, Sets.{in-set}}
+use Rattle.plan.specs.declared.turn.Call.{Call}
+use Rattle.rows.specs.Sets.{put-in}
 
 unfoldable pub end-counted : (up : Bool) → (k : ℕ) → (numbers : List ℕ) → (v : ℕ) → (counters : List ℕ) → List ℕ
 end-counted up k ns v cs = cond (eqb (getD ns v 0) k) (set cs v (cond up (getD cs v 0 + 1) (getD cs v 0 - 1))) cs
@@ -43,7 +37,7 @@ released ns k [] cs = cs
 released ns k (v ∷ vs) cs = released ns k vs (counter-less ns k v cs)
 
 unfoldable pub place-marked : (numbers places : List ℕ) → (k most v : ℕ) → (counters fits : List ℕ) → List ℕ
-place-marked ns ps k m v cs fs = cond (eqb (getD ns v 0) k && eqb (getD cs v 0) m) (put-bit true 0 (getD ps v 0) fs) fs
+place-marked ns ps k m v cs fs = cond (eqb (getD ns v 0) k && eqb (getD cs v 0) m) (put-in (getD ps v 0) fs) fs
 
 unfoldable pub places-released : (numbers places : List ℕ) → (k most : ℕ) → (near counters fits : List ℕ) → List ℕ
 places-released ns ps k m [] cs fs = fs
@@ -53,7 +47,7 @@ places-released ns ps k m (v ∷ vs) cs fs =
 unfoldable pub places-fitting : (order counters : List ℕ) → (most : ℕ) → (places fits : List ℕ) → List ℕ
 places-fitting os cs m [] fs = fs
 places-fitting os cs m (i ∷ is) fs =
-    places-fitting os cs m is (cond (leb (getD cs (getD os i 0) 0) m) (put-bit true 0 i fs) fs)
+    places-fitting os cs m is (cond (leb (getD cs (getD os i 0) 0) m) (put-in i fs) fs)
 
 unfoldable pub near-left : (links : List ℕ) → (v : ℕ) → (left : List ℕ) → List ℕ
 near-left ts v ws = filter (in-set ws) (neighbours-of ts v)
@@ -69,12 +63,15 @@ pub record Releasable (numbers places : List ℕ) (k : ℕ) (near counters : Lis
   pub known : (v : ℕ) → In v near → (v < length numbers) × (v < length places) × (v < length counters) × (v < max-radios)
   pub above-zero : (v : ℕ) → In v near → getD numbers v 0 ≡ k → 1 ≤ getD counters v 0
 
-pub record Begin-ready (up : Bool) (a b k start size : ℕ) (numbers order counters : List ℕ) : Type 0 where
-  pub differ : a ≡ b → ⊥
-  pub known-a : (a < length numbers) × (a < max-radios)
-  pub known-b : (b < length numbers) × (b < max-radios)
-  pub above-zero : (v : ℕ) → (v ≡ a) ⊎ (v ≡ b) → up ≡ false → getD numbers v 0 ≡ k → 1 ≤ getD counters v 0
-  pub small : (v : ℕ) → v < length numbers → getD numbers v 0 ≡ k → getD counters v 0 < 255
+abbrev pub call-of : (up : Bool) → (a b level most : ℕ) → Call
+call-of up a b level most = record { up = up; a = a; b = b; level = level; most = most }
+
+pub record Begin-ready (call : Call) (start size : ℕ) (numbers order counters : List ℕ) : Type 0 where
+  pub differ : call .a ≡ call .b → ⊥
+  pub known-a : (call .a < length numbers) × (call .a < max-radios)
+  pub known-b : (call .b < length numbers) × (call .b < max-radios)
+  pub above-zero : (v : ℕ) → (v ≡ call .a) ⊎ (v ≡ call .b) → call .up ≡ false → getD numbers v 0 ≡ call .level → 1 ≤ getD counters v 0
+  pub small : (v : ℕ) → v < length numbers → getD numbers v 0 ≡ call .level → getD counters v 0 < 255
   pub fits : (start + size ≤ length order) × (start + size ≤ max-radios)
   pub radios : (p : ℕ) → p < length order → getD order p 0 < max-radios
 

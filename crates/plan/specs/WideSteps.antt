@@ -5,17 +5,9 @@
 --   Lowered         their counters are one less, and the places due are with the place of each whose counter came down to the bound
 --   next-turn       where the next turn is: a place due, `max-radios` for the front, `stop-place` when the walk is at its end
 -- Laws are in proofs/WordLaws.antt. Definitions only.
-use mathlib.Core.Path.{_≡_}
-use mathlib.Core.Logic.{_⊎_}
-use mathlib.Core.Bool.{true, _||_, cond}
-use mathlib.Core.List.{List}
-use Prim.Native.Nat.{ℕ, _+_, _*_, _≤_, _<_}
-use lib.Dec.{ltb, leb, eqb}
-use lib.ListN.{length, getD}
-use Rattle.mesh.specs.Limits.{max-radios, row-bytes}
-use Rattle.lists.specs.Facts.{Distinct}
-use Rattle.lists.specs.Lists.{count, head-or, In}
-use Rattle.mesh.specs.Tables.{marked, put-link}
+use Rattle.lists.specs.{Kit.{_≡_, _⊎_, true, _||_, cond, List, ℕ, _+_, _*_, _≤_, _<_, ltb, leb, eqb, length, getD}, Facts.{Distinct}, Lists.{count, head-or}}
+use Rattle.lists.specs.{Lists.{In}}
+use Rattle.mesh.specs.{Limits.{max-radios, row-bytes}, Tables.{marked, put-link}}
 use Rattle.rows.specs.Sets.{in-set, common}
 use Rattle.plan.specs.Places.{stop-place}
 

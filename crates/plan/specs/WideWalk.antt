@@ -4,20 +4,11 @@
 --   Work            what the walk writes
 --   Words-state     so many radios are taken, how far the front is, what is left, the candidates
 -- Laws are in proofs/WordTurns.antt. Definitions only.
-use mathlib.Core.Path.{_≡_}
-use mathlib.Core.Bool.{Bool, true, not, _&&_, cond}
-use mathlib.Core.List.{List}
-use Prim.Native.Nat.{ℕ, _+_, _-_, _≤_, _<_}
-use lib.Dec.{ltb}
-use lib.ListN.{length, getD, take, drop}
+use Rattle.lists.specs.{Kit.{_≡_, Bool, true, not, _&&_, cond, List, ℕ, _+_, _-_, _≤_, _<_, ltb, length, getD, take, drop}, Lists.{member}}
 use Rattle.mesh.specs.Limits.{max-radios}
-use Rattle.lists.specs.Lists.{member}
 use Rattle.rows.specs.Sets.{in-set}
 use Rattle.walks.specs.Walk.{Walking}
-use Rattle.plan.specs.Places.{Marked-places}
-use Rattle.plan.specs.Walks.{radios-of, joined}
-use Rattle.plan.specs.declared.walk.Rise.{Rise}
-use Rattle.plan.specs.declared.walk.Part.{Part}
+use Rattle.plan.specs.{Places.{Marked-places}, Walks.{radios-of, joined}, declared.walk.Rise.{Rise}, declared.walk.Part.{Part}}
 
 unfoldable pub words-due : (first size front : ℕ) → (tail touched due : List ℕ) → (q : ℕ) → Bool
 words-due first size front tail touched ds q = cond (ltb q front) (in-set ds (first + q)) (ltb q size && in-set touched (getD tail q 0))

@@ -1,27 +1,16 @@
 // The plan of a link call: its questions, and the lower end's stretch laid out anew, by one peel up and down alike, or going up by the walk.
 // Nothing of the tables is written.
-ghost use mathlib.Core.Path.{_≡_};
-ghost use mathlib.Core.Bool.{true, false};
-ghost use Prim.Native.Nat.{_≤_, _<_, _+_, min};
-ghost use lib.ListN.{length, getD};
-ghost use Rattle.lists.specs.Lists.{range};
+ghost use Rattle.lists.specs.Kit.{_≡_, length};
 ghost use Rattle.mesh.specs.Limits.{max-radios};
 ghost use Rattle.mesh.specs.Tables.{tables, graph-in};
 ghost use Rattle.mesh.specs.Lent.{lent};
-ghost use Rattle.mesh.specs.Peel.{bound};
-ghost use Rattle.plan.specs.Turns.{places-fitting, ends-counted, Begin-ready};
-ghost use Rattle.plan.specs.Peels.{Peel-ready, Peel-done};
 ghost use Rattle.plan.specs.Plans.{Ready, Planned};
 ghost use Rattle.plan.specs.Asked.{Plan-contract};
-use super::ends;
+use super::end_questions;
 use super::fall;
 use super::planned::Plan;
-use super::questions;
 use super::rise;
-use super::stretch;
-use super::turn::Call;
 use mesh::Site;
-use tables::fill;
 
 // Plans the link a-b going up or down: writes what stands in the order from the plan's start on after, in front of `stretch`; later
 // entries and the counters hold anything.
@@ -33,18 +22,18 @@ pub fn plan_link(
     numbers: &[u8],
     order: &[u16],
     places: &[u16; Site::RADIOS as usize],
-    highs: &mut [u8; Site::RADIOS as usize],
+    not_lower: &mut [u8; Site::RADIOS as usize],
     stretch: &mut [u16; Site::RADIOS as usize],
 ) -> Plan
-    requires ready { ⌜ Ready up (length (now order)) a b (tables (now links) (now numbers) (now order)) (now places) (now highs) ⌝ }
+    requires ready { ⌜ Ready up (length (now order)) a b (tables (now links) (now numbers) (now order)) (now places) (now «not_lower») ⌝ }
     requires room { ⌜ length (now stretch) ≡ max-radios ⌝ }
-    ensures { λ r. ⌜ Planned up a b (graph-in (length (now (order .entry))) (now (links .entry))) (now (order .entry)) (r .start)
-        (r .size) (r .taken) (now (stretch .exit)) ⌝ }
+    ensures { λ r. ⌜ Planned up a b (graph-in (length (now (order .entry))) (now (links .entry))) (now (order .entry)) r
+        (now (stretch .exit)) ⌝ }
 {
     if up {
-        return rise::plan_up(a, b, links, numbers, order, places, highs, stretch);
+        return rise::plan_up(a, b, links, numbers, order, places, not_lower, stretch);
     }
-    fall::plan_down(a, b, links, numbers, order, places, highs, stretch)
+    fall::plan_down(a, b, links, numbers, order, places, not_lower, stretch)
 }
 
 // A refusal number, and where it is 0 a plan.
@@ -54,8 +43,8 @@ pub struct Decision {
 }
 
 // Plans the link a-b going up or down: the refusal number of its questions, 1 to 7 or 1 to 6, and at 0 the plan, with what it lays out
-// anew of the lower end's stretch in front of `stretch`, whose later entries hold anything. `answer` is the answer table's length; `stretch`
-// must be as long. A refusal leaves `stretch` as it was.
+// anew of the lower end's stretch in front of `stretch`, whose later entries hold anything. `answer` is the answer table's length. A
+// refusal leaves `stretch` as it was.
 pub fn plan(
     up: bool,
     n: u32,
@@ -67,34 +56,32 @@ pub fn plan(
     answer: usize,
     stretch: &mut [u16; Site::RADIOS as usize],
 ) -> Decision
+    requires { ⌜ length (now stretch) ≡ max-radios ⌝ }
     ensures { λ r. ⌜ Plan-contract up n a b (lent (links .entry) (numbers .entry) (order .entry)) answer (now (stretch .entry))
         (r .number) (r .plan .start) (r .plan .size) (r .plan .taken) (now (stretch .exit)) ⌝ }
 {
+    let none = Plan {
+        start: 0,
+        size: 0,
+        taken: 0,
+    };
     let mut places = [0u16; Site::RADIOS as usize];
-    let mut highs = [0u8; Site::RADIOS as usize];
-    let lent: &[u16] = stretch;
-    let room = fill::least(answer, lent.len());
-    let number = questions::refusal(
-        up,
+    let mut not_lower = [0u8; Site::RADIOS as usize];
+    let number = soundness::asked(
         n,
-        a,
-        b,
         links,
         numbers,
         order,
-        room,
+        n as usize <= answer,
         &mut places,
-        &mut highs,
+        &mut not_lower,
     );
     if number != 0 {
-        return Decision {
-            number,
-            plan: Plan {
-                start: 0,
-                size: 0,
-                taken: 0,
-            },
-        };
+        return Decision { number, plan: none };
+    }
+    let number = end_questions::ends_refusal(up, n, a, b, links);
+    if number != 0 {
+        return Decision { number, plan: none };
     }
     let plan = plan_link(
         up,
@@ -104,7 +91,7 @@ pub fn plan(
         numbers,
         order,
         &places,
-        &mut highs,
+        &mut not_lower,
         stretch,
     );
     Decision { number, plan }

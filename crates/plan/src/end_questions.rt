@@ -1,8 +1,5 @@
 // Questions 4 to 7 of a link call, put to the rows of its ends. Nothing is written. Rows that are not proper have no graph to ask.
-ghost use mathlib.Core.Path.{_≡_};
-ghost use mathlib.Core.Bool.{true};
-ghost use Prim.Native.Nat.{_*_, _≤_};
-ghost use lib.ListN.{length};
+ghost use Rattle.lists.specs.Kit.{_≡_, true, _*_, _≤_, length};
 ghost use Rattle.mesh.specs.Limits.{max-radios, max-neighbours, row-bytes};
 ghost use Rattle.mesh.specs.Tables.{graph-in};
 ghost use Rattle.mesh.specs.Sound.{rows-proper};

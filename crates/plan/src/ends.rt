@@ -1,8 +1,5 @@
 // The ends of a link, which of them the walk begins at, and whether a radio leads its level.
-ghost use mathlib.Core.Path.{_≡_};
-ghost use mathlib.Core.List.{[], _∷_};
-ghost use Prim.Native.Nat.{min};
-ghost use lib.ListN.{getD};
+ghost use Rattle.lists.specs.Kit.{_≡_, [], _∷_, min, getD};
 ghost use Rattle.plan.specs.Places.{other-end, beginning-end, stands-first};
 
 // The number of radio v.

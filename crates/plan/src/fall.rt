@@ -1,7 +1,5 @@
 // The plan of a link going down: both ends lose a neighbour, and where one of them then falls short its level is peeled.
-ghost use mathlib.Core.Path.{_≡_};
-ghost use mathlib.Core.Bool.{false};
-ghost use lib.ListN.{length};
+ghost use Rattle.lists.specs.Kit.{_≡_, false, length};
 ghost use Rattle.mesh.specs.Limits.{max-radios};
 ghost use Rattle.mesh.specs.Tables.{tables, graph-in};
 ghost use Rattle.plan.specs.Plans.{Ready, Planned};
@@ -22,16 +20,16 @@ pub(crate) fn plan_down(
     numbers: &[u8],
     order: &[u16],
     places: &[u16],
-    highs: &mut [u8; Site::RADIOS as usize],
+    not_lower: &mut [u8; Site::RADIOS as usize],
     stretch: &mut [u16; Site::RADIOS as usize],
 ) -> Plan
-    requires ready { ⌜ Ready false (length (now order)) a b (tables (now links) (now numbers) (now order)) (now places) (now highs) ⌝ }
+    requires ready { ⌜ Ready false (length (now order)) a b (tables (now links) (now numbers) (now order)) (now places) (now «not_lower») ⌝ }
     requires room { ⌜ length (now stretch) ≡ max-radios ⌝ }
-    ensures { λ r. ⌜ Planned false a b (graph-in (length (now (order .entry))) (now (links .entry))) (now (order .entry)) (r .start)
-        (r .size) (r .taken) (now (stretch .exit)) ⌝ }
+    ensures { λ r. ⌜ Planned false a b (graph-in (length (now (order .entry))) (now (links .entry))) (now (order .entry)) r
+        (now (stretch .exit)) ⌝ }
 {
     let call = peel::call_at(false, a, b, numbers);
-    let mut fits = [0u8; Site::ROW_BYTES];
+    let mut fits = [0u64; 8];
     let ends = ends::both(a as u16, b as u16);
     turn::release(
         &ends,
@@ -40,7 +38,7 @@ pub(crate) fn plan_down(
         call.most,
         numbers,
         places,
-        highs,
+        not_lower,
         &mut fits,
     );
     let taken = peel::peel(
@@ -49,7 +47,7 @@ pub(crate) fn plan_down(
         numbers,
         order,
         places,
-        highs,
+        not_lower,
         &mut fits,
         stretch,
     );
@@ -61,7 +59,15 @@ pub(crate) fn plan_down(
         };
     }
     let at = stretch::stretch_of(numbers, call.level);
-    stuck::list_stuck(at.start, at.size, call.most, taken, order, highs, stretch);
+    stuck::list_stuck(
+        at.start,
+        at.size,
+        call.most,
+        taken,
+        order,
+        not_lower,
+        stretch,
+    );
     Plan {
         start: at.start,
         size: at.size,

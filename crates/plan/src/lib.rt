@@ -8,7 +8,6 @@ mod fall;
 mod peel;
 mod places;
 pub mod planned;
-mod questions;
 mod rise;
 mod stretch;
 mod stuck;

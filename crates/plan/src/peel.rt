@@ -1,8 +1,5 @@
 // The peel of a level: the radios that have too few neighbours are taken in turn, up and down alike.
-ghost use mathlib.Core.Path.{_≡_};
-ghost use mathlib.Core.Bool.{true, false};
-ghost use Prim.Native.Nat.{_≤_, _<_, _+_, min};
-ghost use lib.ListN.{length, getD};
+ghost use Rattle.lists.specs.Kit.{_≡_, true, false, _≤_, _<_, _+_, min, length, getD};
 ghost use Rattle.lists.specs.Lists.{range};
 ghost use Rattle.mesh.specs.Limits.{max-radios};
 ghost use Rattle.mesh.specs.Tables.{tables, graph-in};
@@ -11,16 +8,14 @@ ghost use Rattle.plan.specs.Turns.{places-fitting, ends-counted, Begin-r
 ghost use Rattle.plan.specs.Peels.{Peel-ready, Peel-done};
 ghost use Rattle.plan.specs.Plans.{Ready, Planned};
 use super::ends;
+use super::places;
 use super::planned::Plan;
 use super::stretch;
 use super::stuck;
 use super::turn;
 use super::turn::Call;
 use mesh::Site;
-
-// From this level on a set of what is left masks the rows: half of the neighbours of a taken radio are taken already. On thin levels
-// the set costs more than it saves.
-const MASKED: u8 = 8;
+use rows::sets;
 
 // The call at the lower end's level K: the peel takes radios with at most K neighbours going up, K - 1 going down.
 pub(crate) fn call_at(up: bool, a: u32, b: u32, numbers: &[u8]) -> Call
@@ -57,9 +52,9 @@ fn begin(
     numbers: &[u8],
     order: &[u16],
     counters: &mut [u8; Site::RADIOS as usize],
-    fits: &mut [u8; Site::ROW_BYTES],
+    fits: &mut [u64; 8],
 )
-    requires { ⌜ Begin-ready (call .up) (call .a) (call .b) (call .level) start size (now numbers) (now order) (now counters) ⌝ }
+    requires { ⌜ Begin-ready call start size (now numbers) (now order) (now counters) ⌝ }
     ensures counted { λ _. ⌜ now (counters .exit)
         ≡ ends-counted (call .up) (call .a) (call .b) (call .level) (now (numbers .entry)) (now (counters .entry)) ⌝ }
     ensures marked { λ _. ⌜ now (fits .exit) ≡ places-fitting (now (order .entry))
@@ -71,55 +66,29 @@ fn begin(
     turn::mark_fitting(start, size, call.most, order, counters, fits);
 }
 
-// The peel of a thin level: a taken radio releases all its neighbours in the level, taken or not.
-fn peel_thin(
+// Takes radios of the level in turn, always the first of the stretch that has at most `most` neighbours among what is left and
+// above, until none fits. Writes them in front of the list and comes back with their count; later entries keep their content.
+// A stuck radio then has a counter above `most`, a taken one has not. Fitting places are scratch.
+// A taken radio releases its neighbours that are left, so that the counters of the taken stand still.
+pub(crate) fn peel(
     call: Call,
     links: &[u8],
     numbers: &[u8],
     order: &[u16],
     places: &[u16],
     counters: &mut [u8; Site::RADIOS as usize],
-    fits: &mut [u8; Site::ROW_BYTES],
+    fits: &mut [u64; 8],
     list: &mut [u16; Site::RADIOS as usize],
 ) -> usize
-    requires { ⌜ Peel-ready (call .up) (call .a) (call .b) (call .level) (call .most) (now links) (now numbers) (now order)
+    requires { ⌜ Peel-ready call (now links) (now numbers) (now order)
         (now places) (now counters) (now fits) (length (now list)) ⌝ }
-    ensures done { λ r. ⌜ Peel-done (call .up) (call .a) (call .b) (call .level) (call .most) (now (links .entry)) (now (numbers .entry))
-        (now (order .entry)) r (now (counters .exit)) (now (list .exit)) ⌝ }
-    ensures long { λ r. ⌜ length (now (list .exit)) ≡ length (now (list .entry)) ⌝ }
-{
-    let mut taken: usize = 0;
-    let mut p = rows::first_marked(fits, 0);
-    while p < Site::RADIOS {
-        let v = order[p as usize];
-        list[taken] = v;
-        taken += 1;
-        turn::take_radio(call, p, v as u32, links, numbers, places, counters, fits);
-        p = rows::first_marked(fits, 0);
-    }
-    taken
-}
-
-// The peel of any other level: a taken radio releases its neighbours that are left, so that the counters of the taken stand still.
-fn peel_masked(
-    call: Call,
-    links: &[u8],
-    numbers: &[u8],
-    order: &[u16],
-    places: &[u16],
-    counters: &mut [u8; Site::RADIOS as usize],
-    fits: &mut [u8; Site::ROW_BYTES],
-    list: &mut [u16; Site::RADIOS as usize],
-) -> usize
-    requires { ⌜ Peel-ready (call .up) (call .a) (call .b) (call .level) (call .most) (now links) (now numbers) (now order)
-        (now places) (now counters) (now fits) (length (now list)) ⌝ }
-    ensures done { λ r. ⌜ Peel-done (call .up) (call .a) (call .b) (call .level) (call .most) (now (links .entry)) (now (numbers .entry))
+    ensures done { λ r. ⌜ Peel-done call (now (links .entry)) (now (numbers .entry))
         (now (order .entry)) r (now (counters .exit)) (now (list .exit)) ⌝ }
     ensures long { λ r. ⌜ length (now (list .exit)) ≡ length (now (list .entry)) ⌝ }
 {
     let mut left = [u64::MAX; rows::ROW_WORDS as usize];
     let mut taken: usize = 0;
-    let mut p = rows::first_marked(fits, 0);
+    let mut p = places::lowest(fits);
     while p < Site::RADIOS {
         let v = order[p as usize];
         list[taken] = v;
@@ -131,38 +100,14 @@ fn peel_masked(
             links,
             numbers,
             places,
-            &mut left,
+            &left,
             counters,
             fits,
         );
-        p = rows::first_marked(fits, 0);
+        sets::take_out(&mut left, v as u32);
+        p = places::lowest(fits);
     }
     taken
-}
-
-// Takes radios of the level in turn, always the first of the stretch that has at most `most` neighbours among what is left and
-// above, until none fits. Writes them in front of the list and comes back with their count; later entries keep their content.
-// A stuck radio then has a counter above `most`, a taken one has not. Fitting places are scratch.
-pub(crate) fn peel(
-    call: Call,
-    links: &[u8],
-    numbers: &[u8],
-    order: &[u16],
-    places: &[u16],
-    counters: &mut [u8; Site::RADIOS as usize],
-    fits: &mut [u8; Site::ROW_BYTES],
-    list: &mut [u16; Site::RADIOS as usize],
-) -> usize
-    requires { ⌜ Peel-ready (call .up) (call .a) (call .b) (call .level) (call .most) (now links) (now numbers) (now order)
-        (now places) (now counters) (now fits) (length (now list)) ⌝ }
-    ensures done { λ r. ⌜ Peel-done (call .up) (call .a) (call .b) (call .level) (call .most) (now (links .entry)) (now (numbers .entry))
-        (now (order .entry)) r (now (counters .exit)) (now (list .exit)) ⌝ }
-    ensures long { λ r. ⌜ length (now (list .exit)) ≡ length (now (list .entry)) ⌝ }
-{
-    if call.level < MASKED {
-        return peel_thin(call, links, numbers, order, places, counters, fits, list);
-    }
-    peel_masked(call, links, numbers, order, places, counters, fits, list)
 }
 
 // Plans the link a-b going up by the peel: writes the lower end's stretch, laid out anew, in front of `stretch`; later entries and the
@@ -174,29 +119,45 @@ pub(crate) fn plan_peel(
     numbers: &[u8],
     order: &[u16],
     places: &[u16],
-    highs: &mut [u8; Site::RADIOS as usize],
+    not_lower: &mut [u8; Site::RADIOS as usize],
     stretch: &mut [u16; Site::RADIOS as usize],
 ) -> Plan
-    requires ready { ⌜ Ready true (length (now order)) a b (tables (now links) (now numbers) (now order)) (now places) (now highs) ⌝ }
+    requires ready { ⌜ Ready true (length (now order)) a b (tables (now links) (now numbers) (now order)) (now places) (now «not_lower») ⌝ }
     requires room { ⌜ length (now stretch) ≡ max-radios ⌝ }
-    ensures { λ r. ⌜ Planned true a b (graph-in (length (now (order .entry))) (now (links .entry))) (now (order .entry)) (r .start)
-        (r .size) (r .taken) (now (stretch .exit)) ⌝ }
+    ensures { λ r. ⌜ Planned true a b (graph-in (length (now (order .entry))) (now (links .entry))) (now (order .entry)) r
+        (now (stretch .exit)) ⌝ }
 {
     let call = call_at(true, a, b, numbers);
     let at = stretch::stretch_of(numbers, call.level);
-    let mut fits = [0u8; Site::ROW_BYTES];
-    begin(call, at.start, at.size, numbers, order, highs, &mut fits);
+    let mut fits = [0u64; 8];
+    begin(
+        call,
+        at.start,
+        at.size,
+        numbers,
+        order,
+        not_lower,
+        &mut fits,
+    );
     let taken = peel(
         call,
         links,
         numbers,
         order,
         places,
-        highs,
+        not_lower,
         &mut fits,
         stretch,
     );
-    stuck::list_stuck(at.start, at.size, call.most, taken, order, highs, stretch);
+    stuck::list_stuck(
+        at.start,
+        at.size,
+        call.most,
+        taken,
+        order,
+        not_lower,
+        stretch,
+    );
     Plan {
         start: at.start,
         size: at.size,

@@ -1,41 +1,31 @@
-// Sets of places, kept as one row, and where the next turn of a walk is.
-ghost use mathlib.Core.Path.{_≡_};
-ghost use mathlib.Core.Bool.{true};
-ghost use Prim.Native.Nat.{ℕ, _+_, _*_, _≤_, _<_};
-ghost use lib.ListN.{length};
-ghost use lib.Seq.{sets};
+// Sets of places, eight words each, and where the next turn of a walk is.
+ghost use Rattle.lists.specs.Kit.{_≡_, ℕ, _+_, _*_, _≤_, _<_, length, sets};
 ghost use Rattle.mesh.specs.Limits.{max-radios};
-ghost use Rattle.lists.specs.Lists.{In};
-ghost use Rattle.mesh.specs.Tables.{put-bit};
+ghost use Rattle.lists.specs.Lists.{In, head-or};
 ghost use Rattle.rows.specs.Rows.{set-bits};
-ghost use Rattle.rows.specs.Sets.{in-set};
+ghost use Rattle.rows.specs.Sets.{common};
 ghost use Rattle.plan.specs.Places.{next-place, Stands, entries-at, set-places};
 use mesh::Site;
+use rows::sets;
 
-// Where no turn is: past every place, and past what `first_marked` gives where nothing is marked.
+// Where no turn is: past every place, and past what `lowest` gives where nothing is marked.
 pub const STOP: usize = Site::RADIOS as usize + 1;
 
-// Puts place p into the set, or takes it out; past the set nothing changes.
-pub fn put(set: &mut [u8; Site::ROW_BYTES], on: bool, p: u32)
-    ensures { λ _. ⌜ now (set .exit) ≡ put-bit on 0 p (now (set .entry)) ⌝ }
+// The lowest place of the set; where there is none, the most radios that a site may have.
+pub fn lowest(set: &[u64; 8]) -> u32
+    ensures { λ r. ⌜ r ≡ head-or max-radios (common (now (set .entry)) (now (set .entry))) ⌝ }
 {
-    rows::put_bit(set, on, 0, p);
+    sets::first_common(set, set)
 }
 
 // Where the next turn is, `STOP` when the walk is at its end.
-pub fn next(
-    first: usize,
-    size: usize,
-    front: usize,
-    taken: usize,
-    due: &[u8; Site::ROW_BYTES],
-) -> usize
+pub fn next(first: usize, size: usize, front: usize, taken: usize, due: &[u64; 8]) -> usize
     ensures { λ r. ⌜ r ≡ next-place first size front taken (now (due .entry)) ⌝ }
 {
     if front <= taken {
         return STOP;
     }
-    let p = rows::first_marked(due, 0) as usize;
+    let p = lowest(due) as usize;
     if p < first {
         return p;
     }

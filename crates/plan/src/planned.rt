@@ -1,5 +1,5 @@
 // A plan of a link call: what becomes of the lower end's stretch of the order.
-ghost use mathlib.Core.Path.{_≡_};
+ghost use Rattle.lists.specs.Kit.{_≡_};
 
 // What a plan comes back with: where the stretch stands, how long it is, and how many of its radios the peel took.
 pub struct Plan {

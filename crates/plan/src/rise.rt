@@ -1,8 +1,5 @@
 // The plan of a link going up: nothing, the whole level as it stands, a walk from the beginning end on, or the peel of a small level.
-ghost use mathlib.Core.Path.{_≡_};
-ghost use mathlib.Core.Bool.{true};
-ghost use Prim.Native.Nat.{ℕ, _≤_, _<_, _+_};
-ghost use lib.ListN.{length, getD};
+ghost use Rattle.lists.specs.Kit.{_≡_, true, ℕ, _≤_, _<_, _+_, length, getD};
 ghost use Rattle.lists.specs.Lists.{all};
 ghost use Rattle.mesh.specs.Limits.{max-radios};
 ghost use Rattle.mesh.specs.Tables.{tables, graph-in};
@@ -25,7 +22,7 @@ use mesh::Site;
 const SMALL: usize = 16;
 
 // From this level on radios have so many neighbours that the walk goes by words.
-const WIDE: u8 = 8;
+const WIDE: u8 = 6;
 
 // Plans the link from the beginning end, at place `first`, on. Where that end has at most K later neighbours with the link, nothing moves
 // and nothing rises. A small level is peeled; elsewhere the walk goes from that end on.
@@ -36,14 +33,14 @@ fn plan_on(
     numbers: &[u8],
     order: &[u16],
     places: &[u16],
-    highs: &mut [u8; Site::RADIOS as usize],
+    not_lower: &mut [u8; Site::RADIOS as usize],
     stretch: &mut [u16; Site::RADIOS as usize],
 ) -> Plan
-    requires ready { ⌜ Ready true (length (now order)) (rise .a) (rise .b) (tables (now links) (now numbers) (now order)) (now places) (now highs) ⌝ }
+    requires ready { ⌜ Ready true (length (now order)) (rise .a) (rise .b) (tables (now links) (now numbers) (now order)) (now places) (now «not_lower») ⌝ }
     requires room { ⌜ length (now stretch) ≡ max-radios ⌝ }
     requires begins { ⌜ Begins (rise .a) (rise .b) (rise .most) first (now numbers) (now places) ⌝ }
-    ensures { λ r. ⌜ Planned true (rise .a) (rise .b) (graph-in (length (now (order .entry))) (now (links .entry))) (now (order .entry)) (r .start)
-        (r .size) (r .taken) (now (stretch .exit)) ⌝ }
+    ensures { λ r. ⌜ Planned true (rise .a) (rise .b) (graph-in (length (now (order .entry))) (now (links .entry))) (now (order .entry)) r
+        (now (stretch .exit)) ⌝ }
 {
     let tail = &order[first..];
     if walk::settled(rise, first, links, numbers, tail, places) {
@@ -58,7 +55,7 @@ fn plan_on(
             numbers,
             order,
             places,
-            highs,
+            not_lower,
             stretch,
         );
     }
@@ -89,16 +86,16 @@ fn rises_whole(
     start: usize,
     size: usize,
     order: &[u16],
-    highs: &[u8; Site::RADIOS as usize],
+    not_lower: &[u8; Site::RADIOS as usize],
 ) -> bool
     requires { ⌜ (start + size ≤ length (now order)) × ((p : ℕ) → p < length (now order) → getD (now order) p 0 < max-radios) ⌝ }
-    ensures { λ r. ⌜ r ≡ all (stays-linked (rise .a) (rise .b) (rise .most) (now (highs .entry)))
+    ensures { λ r. ⌜ r ≡ all (stays-linked (rise .a) (rise .b) (rise .most) (now («not_lower» .entry)))
         (stretch (now (order .entry)) start size) ⌝ }
 {
     let mut i: usize = 0;
     while i < size {
         let v = order[start + i];
-        if fits(rise, v as u32, highs[v as usize]) {
+        if fits(rise, v as u32, not_lower[v as usize]) {
             return false;
         }
         i += 1;
@@ -115,13 +112,13 @@ pub(crate) fn plan_up(
     numbers: &[u8],
     order: &[u16],
     places: &[u16],
-    highs: &mut [u8; Site::RADIOS as usize],
+    not_lower: &mut [u8; Site::RADIOS as usize],
     stretch: &mut [u16; Site::RADIOS as usize],
 ) -> Plan
-    requires ready { ⌜ Ready true (length (now order)) a b (tables (now links) (now numbers) (now order)) (now places) (now highs) ⌝ }
+    requires ready { ⌜ Ready true (length (now order)) a b (tables (now links) (now numbers) (now order)) (now places) (now «not_lower») ⌝ }
     requires room { ⌜ length (now stretch) ≡ max-radios ⌝ }
-    ensures { λ r. ⌜ Planned true a b (graph-in (length (now (order .entry))) (now (links .entry))) (now (order .entry)) (r .start)
-        (r .size) (r .taken) (now (stretch .exit)) ⌝ }
+    ensures { λ r. ⌜ Planned true a b (graph-in (length (now (order .entry))) (now (links .entry))) (now (order .entry)) r
+        (now (stretch .exit)) ⌝ }
 {
     let most = ends::lower(numbers[a as usize], numbers[b as usize]);
     let e = ends::beginning(a as usize, b as usize, numbers, places);
@@ -130,7 +127,7 @@ pub(crate) fn plan_up(
     if 0 < most {
         if ends::leads(first, most, numbers, order) {
             let at = stretch::stretch_of(numbers, most);
-            if rises_whole(rise, at.start, at.size, order, highs) {
+            if rises_whole(rise, at.start, at.size, order, not_lower) {
                 walk::pass(at.start, at.start + at.size, 0, order, stretch);
                 return Plan {
                     start: at.start,
@@ -140,5 +137,14 @@ pub(crate) fn plan_up(
             }
         }
     }
-    plan_on(rise, first, links, numbers, order, places, highs, stretch)
+    plan_on(
+        rise,
+        first,
+        links,
+        numbers,
+        order,
+        places,
+        not_lower,
+        stretch,
+    )
 }

@@ -1,7 +1,5 @@
 // The stretch of a level in the order.
-ghost use mathlib.Core.Path.{_≡_};
-ghost use Prim.Native.Nat.{_≤_};
-ghost use lib.ListN.{length};
+ghost use Rattle.lists.specs.Kit.{_≡_, _≤_, length};
 ghost use Rattle.plan.specs.Places.{level-start, level-size};
 use tables::fill;
 

@@ -1,9 +1,5 @@
 // The stretch of a level in the order: the entries of it that the peel does not take.
-ghost use mathlib.Core.Path.{_≡_};
-ghost use Prim.Native.Nat.{ℕ, _≤_, _<_, _+_};
-ghost use lib.Dec.{ltb};
-ghost use lib.ListN.{length, getD};
-ghost use lib.Seq.{sets};
+ghost use Rattle.lists.specs.Kit.{_≡_, ℕ, _≤_, _<_, _+_, ltb, length, getD, sets};
 ghost use Rattle.mesh.specs.Limits.{max-radios};
 ghost use Rattle.lists.specs.Lists.{filter};
 ghost use Rattle.plan.specs.Peels.{stretch};

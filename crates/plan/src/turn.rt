@@ -1,17 +1,13 @@
 // One turn of the peel: a radio is taken, and its neighbours after the call have one neighbour less that can still be taken.
-ghost use mathlib.Core.Path.{_≡_};
-ghost use mathlib.Core.Bool.{false};
-ghost use Prim.Native.Nat.{ℕ, suc, _≤_, _<_, _+_, _*_, min};
-ghost use lib.ListN.{length, getD, take};
+ghost use Rattle.lists.specs.Kit.{_≡_, false, ℕ, suc, _≤_, _<_, _+_, _*_, min, length, getD, take};
 ghost use Rattle.mesh.specs.Limits.{max-radios, max-neighbours, row-bytes};
 ghost use Rattle.lists.specs.Lists.{range};
 ghost use Rattle.mesh.specs.Tables.{put-bit, put-link};
 ghost use Rattle.rows.specs.Rows.{neighbours-of, set-bits};
-ghost use Rattle.plan.specs.Turns.{end-counted, counter-less, released, place-marked, places-released, places-fitting, Releasable};
 ghost use Rattle.rows.specs.Sets.{take-out};
+ghost use Rattle.plan.specs.Turns.{end-counted, counter-less, released, place-marked, places-released, places-fitting, Releasable};
 ghost use Rattle.plan.specs.Turns.{near-left, Row-ready, Near-ready, Lists-neighbours};
 use super::ends;
-use super::places;
 use mesh::Site;
 use rows::sets;
 
@@ -44,7 +40,7 @@ pub(crate) fn mark_fitting(
     most: u8,
     order: &[u16],
     counters: &[u8; Site::RADIOS as usize],
-    fits: &mut [u8; Site::ROW_BYTES],
+    fits: &mut [u64; 8],
 )
     requires { ⌜ (start + size ≤ length (now order)) × (start + size ≤ max-radios) ×
         ((p : ℕ) → p < length (now order) → getD (now order) p 0 < max-radios) ⌝ }
@@ -55,7 +51,7 @@ pub(crate) fn mark_fitting(
     while p < start + size {
         let v = order[p] as usize;
         if counters[v] <= most {
-            places::put(fits, true, p as u32);
+            sets::put_in(fits, p as u32);
         }
         p += 1;
     }
@@ -69,7 +65,7 @@ fn release_one(
     numbers: &[u8],
     places: &[u16],
     counters: &mut [u8; Site::RADIOS as usize],
-    fits: &mut [u8; Site::ROW_BYTES],
+    fits: &mut [u64; 8],
 )
     requires { ⌜ (v < length (now numbers)) × (v < length (now places)) × (v < max-radios) ×
         (getD (now numbers) v 0 ≡ level → 1 ≤ getD (now counters) v 0) ⌝ }
@@ -80,7 +76,7 @@ fn release_one(
     if numbers[v] == level {
         counters[v] -= 1;
         if counters[v] == most {
-            places::put(fits, true, places[v] as u32);
+            sets::put_in(fits, places[v] as u32);
         }
     }
 }
@@ -94,7 +90,7 @@ pub(crate) fn release(
     numbers: &[u8],
     places: &[u16],
     counters: &mut [u8; Site::RADIOS as usize],
-    fits: &mut [u8; Site::ROW_BYTES],
+    fits: &mut [u64; 8],
 )
     requires { ⌜ (k ≤ length (now near)) × Releasable (now numbers) (now places) level (take k (now near)) (now counters) ⌝ }
     ensures counted { λ _. ⌜ now (counters .exit) ≡ released (now (numbers .entry)) level (take k (now (near .entry))) (now (counters .entry)) ⌝ }
@@ -126,7 +122,7 @@ fn release_word(
     numbers: &[u8],
     places: &[u16],
     counters: &mut [u8; Site::RADIOS as usize],
-    fits: &mut [u8; Site::ROW_BYTES],
+    fits: &mut [u64; 8],
 )
     requires { ⌜ (first ≤ max-radios) × Releasable (now numbers) (now places) level (set-bits 64 first word) (now counters) ⌝ }
     ensures counted { λ _. ⌜ now (counters .exit) ≡ released (now (numbers .entry)) level (set-bits 64 first word) (now (counters .entry)) ⌝ }
@@ -150,7 +146,7 @@ fn release_row(
     numbers: &[u8],
     places: &[u16],
     counters: &mut [u8; Site::RADIOS as usize],
-    fits: &mut [u8; Site::ROW_BYTES],
+    fits: &mut [u64; 8],
 )
     requires { ⌜ (length (now row) ≡ row-bytes) × Releasable (now numbers) (now places) level (neighbours-of (now row) 0) (now counters) ⌝ }
     ensures counted { λ _. ⌜ now (counters .exit)
@@ -226,28 +222,6 @@ pub(crate) struct Call {
     pub(crate) most: u8,
 }
 
-// Releases the radios that row v marks, once its bit w is set or cleared.
-fn release_end(
-    call: Call,
-    v: u32,
-    w: u32,
-    links: &[u8],
-    numbers: &[u8],
-    places: &[u16],
-    counters: &mut [u8; Site::RADIOS as usize],
-    fits: &mut [u8; Site::ROW_BYTES],
-)
-    requires { ⌜ (row-bytes * v + row-bytes ≤ length (now links)) × (w < max-radios) ×
-        Releasable (now numbers) (now places) (call .level) (neighbours-of (put-bit (call .up) v w (now links)) v) (now counters) ⌝ }
-    ensures counted { λ _. ⌜ now (counters .exit) ≡ released (now (numbers .entry)) (call .level)
-        (neighbours-of (put-bit (call .up) v w (now (links .entry))) v) (now (counters .entry)) ⌝ }
-    ensures marked { λ _. ⌜ now (fits .exit) ≡ places-released (now (numbers .entry)) (now (places .entry)) (call .level) (call .most)
-        (neighbours-of (put-bit (call .up) v w (now (links .entry))) v) (now (counters .entry)) (now (fits .entry)) ⌝ }
-{
-    let row = end_row(call.up, v, w, links);
-    release_row(&row, call.level, call.most, numbers, places, counters, fits);
-}
-
 // Takes the radio v at place p: the place fits no more, and the neighbours that v has after the call are released.
 // Its row is walked by words and not listed.
 pub(crate) fn take_radio(
@@ -258,7 +232,7 @@ pub(crate) fn take_radio(
     numbers: &[u8],
     places: &[u16],
     counters: &mut [u8; Site::RADIOS as usize],
-    fits: &mut [u8; Site::ROW_BYTES],
+    fits: &mut [u64; 8],
 )
     requires { ⌜ Row-ready (call .a) (call .b) v (now links) ×
         Releasable (now numbers) (now places) (call .level)
@@ -267,12 +241,13 @@ pub(crate) fn take_radio(
         (neighbours-of (put-link (call .up) (call .a) (call .b) (now (links .entry))) v) (now (counters .entry)) ⌝ }
     ensures marked { λ _. ⌜ now (fits .exit) ≡ places-released (now (numbers .entry)) (now (places .entry)) (call .level) (call .most)
         (neighbours-of (put-link (call .up) (call .a) (call .b) (now (links .entry))) v) (now (counters .entry))
-        (put-bit false 0 p (now (fits .entry))) ⌝ }
+        (take-out p (now (fits .entry))) ⌝ }
 {
-    places::put(fits, false, p);
+    sets::take_out(fits, p);
     let w = ends::other_end(call.a, call.b, v);
     if w != v {
-        release_end(call, v, w, links, numbers, places, counters, fits);
+        let row = end_row(call.up, v, w, links);
+        release_row(&row, call.level, call.most, numbers, places, counters, fits);
         return;
     }
     let start = Site::ROW_BYTES * v as usize;
@@ -297,7 +272,7 @@ fn release_left(
     numbers: &[u8],
     places: &[u16],
     counters: &mut [u8; Site::RADIOS as usize],
-    fits: &mut [u8; Site::ROW_BYTES],
+    fits: &mut [u64; 8],
 )
     requires { ⌜ (length (now row) ≡ row-bytes) × Releasable (now numbers) (now places) level (near-left (now row) 0 (now left)) (now counters) ⌝ }
     ensures counted { λ _. ⌜ now (counters .exit)
@@ -322,8 +297,7 @@ fn release_left(
     }
 }
 
-// Takes the radio v at place p out of what is left: the place fits no more, and of the neighbours that v has after the call the ones that
-// are left are released.
+// Takes the radio v at place p: the place fits no more, and of the neighbours that v has after the call the ones that are left are released.
 pub(crate) fn take_left(
     call: Call,
     p: u32,
@@ -331,22 +305,20 @@ pub(crate) fn take_left(
     links: &[u8],
     numbers: &[u8],
     places: &[u16],
-    left: &mut [u64; rows::ROW_WORDS as usize],
+    left: &[u64; rows::ROW_WORDS as usize],
     counters: &mut [u8; Site::RADIOS as usize],
-    fits: &mut [u8; Site::ROW_BYTES],
+    fits: &mut [u64; 8],
 )
     requires { ⌜ Row-ready (call .a) (call .b) v (now links) ×
         Releasable (now numbers) (now places) (call .level)
-        (near-left (put-link (call .up) (call .a) (call .b) (now links)) v (take-out v (now left))) (now counters) ⌝ }
+        (near-left (put-link (call .up) (call .a) (call .b) (now links)) v (now left)) (now counters) ⌝ }
     ensures counted { λ _. ⌜ now (counters .exit) ≡ released (now (numbers .entry)) (call .level)
-        (near-left (put-link (call .up) (call .a) (call .b) (now (links .entry))) v (take-out v (now (left .entry)))) (now (counters .entry)) ⌝ }
+        (near-left (put-link (call .up) (call .a) (call .b) (now (links .entry))) v (now (left .entry))) (now (counters .entry)) ⌝ }
     ensures marked { λ _. ⌜ now (fits .exit) ≡ places-released (now (numbers .entry)) (now (places .entry)) (call .level) (call .most)
-        (near-left (put-link (call .up) (call .a) (call .b) (now (links .entry))) v (take-out v (now (left .entry)))) (now (counters .entry))
-        (put-bit false 0 p (now (fits .entry))) ⌝ }
-    ensures less { λ _. ⌜ now (left .exit) ≡ take-out v (now (left .entry)) ⌝ }
+        (near-left (put-link (call .up) (call .a) (call .b) (now (links .entry))) v (now (left .entry))) (now (counters .entry))
+        (take-out p (now (fits .entry))) ⌝ }
 {
-    places::put(fits, false, p);
-    sets::take_out(left, v);
+    sets::take_out(fits, p);
     let w = ends::other_end(call.a, call.b, v);
     if w != v {
         let row = end_row(call.up, v, w, links);

@@ -2,19 +2,13 @@
 // forward through its level. A radio that has more than `most` neighbours among what is above, what stands later in the level and the
 // candidates becomes a candidate; one that has not is taken, and a candidate that then falls short is taken back, the first in the order
 // first. What is no candidate's neighbour is passed without a look at its row. The order is lent from the beginning end's place on.
-ghost use mathlib.Core.Path.{_≡_};
-ghost use mathlib.Core.Bool.{false};
-ghost use Prim.Native.Nat.{ℕ, _≤_, _<_, _+_, _-_};
-ghost use lib.ListN.{length, getD, take, drop};
-ghost use lib.Seq.{paste};
-ghost use lib.Dec.{leb};
+ghost use Rattle.lists.specs.Kit.{_≡_, false, ℕ, _≤_, _<_, _+_, _-_, length, getD, take, drop, paste, leb};
 ghost use Rattle.mesh.specs.Limits.{max-radios, max-neighbours, row-bytes};
 ghost use Rattle.lists.specs.Lists.{count, head-or};
-ghost use Rattle.mesh.specs.Tables.{marked};
-ghost use Rattle.rows.specs.Rows.{neighbours-of};
+ghost use Rattle.rows.specs.Sets.{in-set, common};
 ghost use Rattle.plan.specs.Places.{next-place};
 ghost use Rattle.plan.specs.Walks.{is-left, place-touched, places-touched, joined, Known};
-ghost use Rattle.plan.specs.Walks.{Walk-site, Walk-state, Walk-done};
+ghost use Rattle.plan.specs.Walks.{part-of, Walk-site, written, Walk-state, Walk-done};
 use super::places;
 use super::places::STOP;
 use super::planned::Plan;
@@ -91,20 +85,13 @@ fn count_left(
 }
 
 // Makes the place of w due, where w stands in the level later than place p.
-fn touch_one(
-    w: usize,
-    level: u8,
-    p: u16,
-    numbers: &[u8],
-    places: &[u16],
-    due: &mut [u8; Site::ROW_BYTES],
-)
+fn touch_one(w: usize, level: u8, p: u16, numbers: &[u8], places: &[u16], due: &mut [u64; 8])
     requires { ⌜ (w < length (now numbers)) × (w < length (now places)) ⌝ }
     ensures { λ _. ⌜ now (due .exit) ≡ place-touched level p (now (numbers .entry)) (now (places .entry)) w (now (due .entry)) ⌝ }
 {
     if numbers[w] == level {
         if p < places[w] {
-            places::put(due, true, places[w] as u32);
+            sets::put_in(due, places[w] as u32);
         }
     }
 }
@@ -117,7 +104,7 @@ fn touch(
     p: u16,
     numbers: &[u8],
     places: &[u16],
-    due: &mut [u8; Site::ROW_BYTES],
+    due: &mut [u64; 8],
 )
     requires { ⌜ (k ≤ length (now near)) × Known (length (now numbers)) (length (now places)) (length (now numbers)) (take k (now near)) ⌝ }
     ensures { λ _. ⌜ now (due .exit)
@@ -142,16 +129,17 @@ fn look(
     places: &[u16],
     held: &mut [u8; Site::RADIOS as usize],
     counters: &mut [u8; Site::RADIOS as usize],
-    due: &mut [u8; Site::ROW_BYTES],
+    due: &mut [u64; 8],
     stay: &mut [u64; 8],
     list: &mut [u16; Site::RADIOS as usize],
 ) -> Reached
-    requires { ⌜ Walk-site (rise .a) (rise .b) (rise .most) (part .first) (part .size) (now links) (now numbers) (now tail) (now places) ×
-        Walk-state (rise .a) (rise .b) (rise .most) (part .first) (part .size) (now links) (now tail) (now places) (at .front) (at .taken)
-        (now held) (now counters) (now due) (now stay) (now list) ×
-        ((at .front < part .size) × ((q : ℕ) → q < at .front → marked (now due) 0 (part .first + q) ≡ false)) ⌝ }
-    ensures state { λ r. ⌜ Walk-state (rise .a) (rise .b) (rise .most) (part .first) (part .size) (now (links .entry)) (now (tail .entry))
-        (now (places .entry)) (r .front) (r .taken) (now (held .exit)) (now (counters .exit)) (now (due .exit)) (now (stay .exit)) (now (list .exit)) ⌝ }
+    requires { ⌜ Walk-site rise part (now links) (now numbers) (now tail) (now places) ×
+        Walk-state rise part (now links) (now tail) (now places) (at .front) (at .taken)
+        (written (now held) (now counters) (now due) (now stay) (now list)) ×
+        ((at .front < part .size) × ((q : ℕ) → q < at .front → in-set (now due) (part .first + q) ≡ false)) ⌝ }
+    ensures state { λ r. ⌜ Walk-state rise part (now (links .entry)) (now (tail .entry))
+        (now (places .entry)) (r .front) (r .taken)
+        (written (now (held .exit)) (now (counters .exit)) (now (due .exit)) (now (stay .exit)) (now (list .exit))) ⌝ }
     ensures further { λ r. ⌜ (r .front ≡ at .front + 1) × (at .taken ≤ r .taken) ⌝ }
 {
     let mut near = [0u16; Site::NEIGHBOURS as usize];
@@ -159,7 +147,7 @@ fn look(
     let taken = at.taken;
     let v = tail[front];
     let p = part.first + front;
-    places::put(due, false, p as u32);
+    sets::take_out(due, p as u32);
     let k = turn::neighbours_after(true, rise.a, rise.b, v as u32, links, &mut near) as usize;
     let c = count_left(&near, k, rise.most, p as u16, numbers, places, held);
     if rise.most < c {
@@ -192,16 +180,17 @@ fn back(
     places: &[u16],
     held: &mut [u8; Site::RADIOS as usize],
     counters: &mut [u8; Site::RADIOS as usize],
-    due: &mut [u8; Site::ROW_BYTES],
+    due: &mut [u64; 8],
     stay: &mut [u64; 8],
     list: &mut [u16; Site::RADIOS as usize],
 ) -> Reached
-    requires { ⌜ Walk-site (rise .a) (rise .b) (rise .most) (part .first) (part .size) (now links) (now numbers) (now tail) (now places) ×
-        Walk-state (rise .a) (rise .b) (rise .most) (part .first) (part .size) (now links) (now tail) (now places) (at .front) (at .taken)
-        (now held) (now counters) (now due) (now stay) (now list) ×
-        ((p ≡ head-or max-radios (neighbours-of (now due) 0)) × (p < part .first + at .front)) ⌝ }
-    ensures state { λ r. ⌜ Walk-state (rise .a) (rise .b) (rise .most) (part .first) (part .size) (now (links .entry)) (now (tail .entry))
-        (now (places .entry)) (r .front) (r .taken) (now (held .exit)) (now (counters .exit)) (now (due .exit)) (now (stay .exit)) (now (list .exit)) ⌝ }
+    requires { ⌜ Walk-site rise part (now links) (now numbers) (now tail) (now places) ×
+        Walk-state rise part (now links) (now tail) (now places) (at .front) (at .taken)
+        (written (now held) (now counters) (now due) (now stay) (now list)) ×
+        ((p ≡ head-or max-radios (common (now due) (now due))) × (p < part .first + at .front)) ⌝ }
+    ensures state { λ r. ⌜ Walk-state rise part (now (links .entry)) (now (tail .entry))
+        (now (places .entry)) (r .front) (r .taken)
+        (written (now (held .exit)) (now (counters .exit)) (now (due .exit)) (now (stay .exit)) (now (list .exit))) ⌝ }
     ensures further { λ r. ⌜ (r .front ≡ at .front) × (r .taken ≡ at .taken + 1) ⌝ }
 {
     let v = tail[p - part.first];
@@ -244,16 +233,17 @@ fn step(
     places: &[u16],
     held: &mut [u8; Site::RADIOS as usize],
     counters: &mut [u8; Site::RADIOS as usize],
-    due: &mut [u8; Site::ROW_BYTES],
+    due: &mut [u64; 8],
     stay: &mut [u64; 8],
     list: &mut [u16; Site::RADIOS as usize],
 ) -> Reached
-    requires { ⌜ Walk-site (rise .a) (rise .b) (rise .most) (part .first) (part .size) (now links) (now numbers) (now tail) (now places) ×
-        Walk-state (rise .a) (rise .b) (rise .most) (part .first) (part .size) (now links) (now tail) (now places) (at .front) (at .taken)
-        (now held) (now counters) (now due) (now stay) (now list) ×
+    requires { ⌜ Walk-site rise part (now links) (now numbers) (now tail) (now places) ×
+        Walk-state rise part (now links) (now tail) (now places) (at .front) (at .taken)
+        (written (now held) (now counters) (now due) (now stay) (now list)) ×
         ((p ≡ next-place (part .first) (part .size) (at .front) (at .taken) (now due)) × (p ≤ max-radios)) ⌝ }
-    ensures state { λ r. ⌜ Walk-state (rise .a) (rise .b) (rise .most) (part .first) (part .size) (now (links .entry)) (now (tail .entry))
-        (now (places .entry)) (r .front) (r .taken) (now (held .exit)) (now (counters .exit)) (now (due .exit)) (now (stay .exit)) (now (list .exit)) ⌝ }
+    ensures state { λ r. ⌜ Walk-state rise part (now (links .entry)) (now (tail .entry))
+        (now (places .entry)) (r .front) (r .taken)
+        (written (now (held .exit)) (now (counters .exit)) (now (due .exit)) (now (stay .exit)) (now (list .exit))) ⌝ }
     ensures further { λ r. ⌜ (1 ≤ r .front) × (at .front + at .taken < r .front + r .taken) ⌝ }
 {
     if p < part.first + at.front {
@@ -319,15 +309,15 @@ pub(crate) fn walk(
     places: &[u16],
     list: &mut [u16; Site::RADIOS as usize],
 ) -> Plan
-    requires site { ⌜ Walk-site (rise .a) (rise .b) (rise .most) (part .first) (part .size) (now links) (now numbers) (now tail) (now places) ⌝ }
+    requires site { ⌜ Walk-site rise part (now links) (now numbers) (now tail) (now places) ⌝ }
     requires room { ⌜ length (now list) ≡ max-radios ⌝ }
     ensures start { λ r. ⌜ r .start ≡ part .first ⌝ }
-    ensures walked { λ r. ⌜ Walk-done (rise .a) (rise .b) (rise .most) (part .first) (part .size) (now (links .entry)) (now (tail .entry)) (r .size)
+    ensures walked { λ r. ⌜ Walk-done rise part (now (links .entry)) (now (tail .entry)) (r .size)
         (r .taken) (now (list .exit)) ⌝ }
 {
     let mut held = [0u8; Site::RADIOS as usize];
     let mut counters = [0u8; Site::RADIOS as usize];
-    let mut due = [0u8; Site::ROW_BYTES];
+    let mut due = [0u64; 8];
     let mut stay = [0u64; 8];
     let start = Reached { front: 0, taken: 0 };
     let mut at = look(
@@ -376,7 +366,7 @@ pub(crate) fn settled(
     tail: &[u16],
     places: &[u16],
 ) -> bool
-    requires { ⌜ ((size : ℕ) × Walk-site (rise .a) (rise .b) (rise .most) first size (now links) (now numbers) (now tail) (now places)) ⌝ }
+    requires { ⌜ ((size : ℕ) × Walk-site rise (part-of first size) (now links) (now numbers) (now tail) (now places)) ⌝ }
     ensures { λ r. ⌜ r ≡ leb (count (joined (rise .a) (rise .b) first (now (links .entry)) (now (tail .entry)) (getD (now (tail .entry)) 0 0))
         (drop 1 (now (tail .entry)))) (rise .most) ⌝ }
 {

@@ -1,8 +1,5 @@
 // Leaves of the walk by words: sets of radios and of places, eight words each, and the counters of the candidates.
-ghost use mathlib.Core.Path.{_≡_};
-ghost use mathlib.Core.List.{[], _∷_};
-ghost use Prim.Native.Nat.{ℕ, _≤_, _<_};
-ghost use lib.ListN.{length, getD};
+ghost use Rattle.lists.specs.Kit.{_≡_, [], _∷_, ℕ, _≤_, _<_, length, getD};
 ghost use Rattle.mesh.specs.Limits.{max-radios};
 ghost use Rattle.lists.specs.Lists.{member};
 ghost use Rattle.rows.specs.Rows.{set-bits};

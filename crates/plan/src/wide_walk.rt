@@ -2,11 +2,7 @@
 // radio at the front is what is left: the order from the beginning end on, without the taken. Numbers never fall along the order, so what
 // stands there is above, later in the level, or a candidate. It is counted in eight words. Neighbours of candidates are kept as a set of
 // radios, row joined to row, and only candidates that fell short are due, by place.
-ghost use mathlib.Core.Path.{_≡_};
-ghost use mathlib.Core.Bool.{false};
-ghost use mathlib.Core.List.{List};
-ghost use Prim.Native.Nat.{ℕ, _≤_, _<_, _+_};
-ghost use lib.ListN.{length};
+ghost use Rattle.lists.specs.Kit.{_≡_, false, List, ℕ, _≤_, _<_, _+_, length};
 ghost use Rattle.mesh.specs.Limits.{max-radios};
 ghost use Rattle.lists.specs.Lists.{head-or};
 ghost use Rattle.rows.specs.Sets.{in-set, common};
@@ -41,8 +37,7 @@ fn look(
     counters: &mut [u8; Site::RADIOS as usize],
     list: &mut [u16; Site::RADIOS as usize],
 ) -> Reached
-    requires site { ⌜ ((numbers : List ℕ) ×
-        Walk-site (rise .a) (rise .b) (rise .most) (part .first) (part .size) (now links) numbers (now tail) (now places)) ⌝ }
+    requires site { ⌜ ((numbers : List ℕ) × Walk-site rise part (now links) numbers (now tail) (now places)) ⌝ }
     requires state { ⌜ Words-state rise part (now links) (now tail) (now places) (at .front) (at .taken)
         (work (now left) (now held) (now touched) (now due) (now stay) (now counters) (now list)) ⌝ }
     requires free { ⌜ (at .front < part .size) × ((p : ℕ) → in-set (now due) p ≡ false) ⌝ }
@@ -93,8 +88,7 @@ fn back(
     counters: &mut [u8; Site::RADIOS as usize],
     list: &mut [u16; Site::RADIOS as usize],
 ) -> Reached
-    requires site { ⌜ ((numbers : List ℕ) ×
-        Walk-site (rise .a) (rise .b) (rise .most) (part .first) (part .size) (now links) numbers (now tail) (now places)) ⌝ }
+    requires site { ⌜ ((numbers : List ℕ) × Walk-site rise part (now links) numbers (now tail) (now places)) ⌝ }
     requires state { ⌜ Words-state rise part (now links) (now tail) (now places) (at .front) (at .taken)
         (work (now left) (now held) (now touched) (now due) (now stay) (now counters) (now list)) ⌝ }
     requires fallen { ⌜ (p ≡ head-or max-radios (common (now due) (now due))) × (p < max-radios) ⌝ }
@@ -136,8 +130,7 @@ fn step(
     counters: &mut [u8; Site::RADIOS as usize],
     list: &mut [u16; Site::RADIOS as usize],
 ) -> Reached
-    requires site { ⌜ ((numbers : List ℕ) ×
-        Walk-site (rise .a) (rise .b) (rise .most) (part .first) (part .size) (now links) numbers (now tail) (now places)) ⌝ }
+    requires site { ⌜ ((numbers : List ℕ) × Walk-site rise part (now links) numbers (now tail) (now places)) ⌝ }
     requires state { ⌜ Words-state rise part (now links) (now tail) (now places) (at .front) (at .taken)
         (work (now left) (now held) (now touched) (now due) (now stay) (now counters) (now list)) ⌝ }
     requires turn { ⌜ (p ≡ next-turn (part .size) (at .front) (at .taken) (now due)) × (p ≤ max-radios) ⌝ }
@@ -202,11 +195,10 @@ pub(crate) fn walk(
     places: &[u16],
     list: &mut [u16; Site::RADIOS as usize],
 ) -> Plan
-    requires site { ⌜ ((numbers : List ℕ) ×
-        Walk-site (rise .a) (rise .b) (rise .most) (part .first) (part .size) (now links) numbers (now tail) (now places)) ⌝ }
+    requires site { ⌜ ((numbers : List ℕ) × Walk-site rise part (now links) numbers (now tail) (now places)) ⌝ }
     requires room { ⌜ length (now list) ≡ max-radios ⌝ }
     ensures start { λ r. ⌜ r .start ≡ part .first ⌝ }
-    ensures walked { λ r. ⌜ Walk-done (rise .a) (rise .b) (rise .most) (part .first) (part .size) (now (links .entry)) (now (tail .entry)) (r .size)
+    ensures walked { λ r. ⌜ Walk-done rise part (now (links .entry)) (now (tail .entry)) (r .size)
         (r .taken) (now (list .exit)) ⌝ }
 {
     let mut left = wide_steps::set_of(tail);

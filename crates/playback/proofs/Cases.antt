@@ -1,27 +1,13 @@
 -- M1's script, played back, leaves another order than M1: computed.
-use mathlib.Core.Path.{_≡_, refl, sym, ap, subst, _∙_}
-use mathlib.Core.Bool.{true}
-use mathlib.Core.List.{List, [], _∷_, flatMap}
-use Prim.Native.Nat.{ℕ}
-use native.Mathlib.Omega.{arith}
-use Rattle.mesh.specs.Limits.{max-neighbours}
-use Rattle.mesh.specs.Graph.{Link, Graph, graph, link-of, neighbours-in}
-use Rattle.mesh.specs.Tables.{Tables, put-digit, put-bit, put-link, row-links, graph-in, tables-of, Tables-of-size}
-use Rattle.mesh.specs.Sound.{sound}
-use Rattle.mesh.specs.Valid.{Valid}
-use Rattle.mesh.proofs.Tables.Laws.{bytes-links-table}
-use Rattle.mesh.proofs.Images.Tables.{valid-graph-in}
+use Rattle.lists.specs.Kit.{_≡_, refl, sym, ap, subst, _∙_, true, List, [], _∷_, flatMap, ℕ, arith}
+use Rattle.mesh.{specs.Limits.{max-neighbours}, specs.Graph.{Link, Graph, graph, link-of, neighbours-in}, specs.Tables.{Tables, put-digit, put-bit, put-link}}
+use Rattle.mesh.{specs.Tables.{row-links, graph-in, tables-of, Tables-of-size}, specs.Sound.{sound}, specs.Valid.{Valid}}
+use Rattle.mesh.{proofs.Tables.Laws.{bytes-links-table}, proofs.Images.Tables.{valid-graph-in}}
 use Rattle.text.specs.Text.{bytes-of}
-use Rattle.calls.specs.Script.{up-line, script-of}
-use Rattle.calls.specs.Book.{Call}
-use Rattle.calls.specs.Runs.{after}
-use Rattle.calls.specs.Switches.{switched, tables-after}
-use Rattle.calls.specs.Worked.{up, down}
-use Rattle.calls.proofs.WorkedState.{compute}
-use Rattle.calls.proofs.Rebuilt.{ups}
+use Rattle.calls.{specs.Script.{up-line, script-of}, specs.Book.{Call}, specs.Runs.{after}, specs.Switches.{switched, tables-after}, specs.Worked.{up, down}}
+use Rattle.calls.{proofs.WorkedState.{compute}, proofs.Rebuilt.{ups}}
 use Rattle.player.specs.Play.{cleared}
-use Rattle.playback.specs.Plays.{calls-in}
-use Rattle.playback.specs.Cases.{m1-left, m1-script, Order-differs}
+use Rattle.playback.specs.{Plays.{calls-in}, Cases.{m1-left, m1-script, Order-differs}}
 use Rattle.playback.proofs.ScriptPlays.{script-calls, script-came-up}
 
 unfoldable compute-tables : Unit {0}

@@ -3,20 +3,12 @@
 --   lines-first, front-ended, rest-ended   the first line of a text that starts with a line
 --   ended-radios, ended-up   lines of a script
 --   lines-of-ups     the lines after the first of a script
-use mathlib.Core.Path.{_≡_, refl, sym, ap, _∙_}
-use mathlib.Core.Bool.{Bool, true, _&&_, not}
-use mathlib.Core.List.{List, [], _∷_, _++_, map, flatMap, append-assoc}
-use Prim.Native.Nat.{ℕ, zero, suc, _/_, _%_}
-use native.Mathlib.Omega.{arith}
-use lib.Dec.{eqb}
-use borrow.Author.Tests.{ne-eqb, not-true, eqb-false}
-use Rattle.lists.specs.Lists.{all}
-use Rattle.lists.proofs.Tests.{and-left, and-right}
+use Rattle.lists.{specs.Kit.{_≡_, refl, sym, ap, _∙_, Bool, true, not, List, [], _∷_, _++_, map, flatMap, append-assoc, ℕ, zero, suc, _/_, _%_, arith, eqb}}
+use Rattle.lists.{specs.Kit.{ne-eqb, not-true, eqb-false}, specs.Lists.{all}, proofs.Tests.{and-left, and-right}}
 use Rattle.mesh.specs.Graph.{Link}
 use Rattle.text.specs.Text.{bytes-of, space, line-feed, digit-byte, digits-in, decimal, further-fields, printed-line}
 use Rattle.calls.specs.Script.{radios-text, up-text, up-line}
-use Rattle.player.specs.Play.{lines-of, front, rest}
-use Rattle.player.proofs.SplitLaws.{No-feed, no-feed-more, lines-ended}
+use Rattle.player.{specs.Play.{lines-of, front, rest}, proofs.SplitLaws.{No-feed, no-feed-more, lines-ended}}
 
 -- ---- bytes that are no line feed
 

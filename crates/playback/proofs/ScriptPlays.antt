@@ -2,52 +2,26 @@
 --   script-plays    so it is of the script
 --   written-plays   and of the bytes that the call writes
 -- The links of the site come up in their order from a cleared one (calls' `rebuilt`), and the tables hold the pairs after them.
-use mathlib.Core.Path.{_≡_, refl, sym, ap, subst, _∙_}
-use mathlib.Core.Logic.{_⊎_, inl, inr}
-use mathlib.Core.Bool.{true}
-use mathlib.Core.List.{List, [], _∷_, _++_, map, flatMap, append-assoc, List·Memᴰ, List·Memᴰ·cases-cons, List·Memᴰ·not-nil}
-use Prim.Native.Nat.{ℕ, zero, suc, _≤_, _<_, _+_}
-use native.Mathlib.Omega.{arith}
-use lib.ListN.{length, drop, take, replicate, length-append, length-drop, length-replicate}
-use Rattle.lists.specs.Lists.{range, overwrite, Entries-below}
-use Rattle.lists.proofs.Overwrite.{take-overwrite}
-use Rattle.lists.proofs.Map.{length-map}
-use Rattle.mesh.specs.Limits.{max-radios, max-neighbours}
-use Rattle.mesh.specs.Graph.{Link, graph, In-links, Allowed}
-use Rattle.mesh.specs.Levels.{changed, step-of}
-use Rattle.mesh.specs.Tables.{Tables, graph-in, tables-of, Tables-of-size}
-use Rattle.mesh.specs.Sound.{sound}
-use Rattle.mesh.specs.Valid.{Valid}
-use Rattle.mesh.proofs.GraphLaws.{proper-of}
-use Rattle.mesh.proofs.Tables.AscendingLinks.{in-links-proper}
-use Rattle.mesh.proofs.Tables.Laws.{links-table-cleared}
-use Rattle.mesh.proofs.Tables.Sites.{valid-cleared, numbers-cleared}
-use Rattle.mesh.proofs.Images.Tables.{valid-graph-in, tables-of-graph-in}
-use Rattle.calls.specs.Script.{radios-text, up-line, script-of}
-use Rattle.calls.specs.Questions.{link-refusal, lengths-of, script-refusal}
-use Rattle.calls.specs.Switches.{switch, switched, tables-after, All-allowed}
-use Rattle.calls.specs.Outcomes.{by-number, linked-with, reply, link-outcome, script-outcome}
-use Rattle.calls.specs.Book.{Answer, Call, linking, reported}
-use Rattle.calls.specs.Runs.{Done, did, answer-of, done, events, answers, after}
-use Rattle.calls.specs.Replay.{answer-line, lines, closing-lines}
-use Rattle.calls.proofs.ChainLaws.{ends-yes}
-use Rattle.calls.proofs.RecordLaws.{tables-ext}
-use Rattle.calls.proofs.Accepted.{listing-is}
-use Rattle.calls.proofs.Holds.{Holds, read-back, switched-holds, all-holds}
-use Rattle.calls.proofs.ByPairs.{link-asked}
-use Rattle.calls.proofs.ScriptLaws.{script-zero, script-right}
-use Rattle.calls.proofs.Rebuilt.{ups, Rebuilt, rebuilt}
-use Rattle.script.specs.Texts.{text-of, Values}
-use Rattle.script.specs.Lines.{line-of}
-use Rattle.script.specs.declared.lines.Line.{Line}
-use Rattle.script.specs.declared.lines.Line.the-variants.{Radios, Up}
-use Rattle.script.proofs.Texts.{parse-text}
-use Rattle.player.specs.Play.{site-of, radios-of, lines-of, front, rest, cleared}
-use Rattle.player.specs.RunText.{call-text, line-text, lines-text, text-from, run-text}
-use Rattle.player.proofs.PlayLaws.{site-of-radios}
-use Rattle.playback.specs.Plays.{calls-of, calls-in}
-use Rattle.playback.specs.Back.{Rebuilds, Plays-back}
+use Rattle.lists.{specs.Kit.{_≡_, refl, sym, ap, subst, _∙_, _⊎_, inl, inr, true, List, [], _∷_, _++_, map, flatMap, append-assoc, List·Memᴰ}}
+use Rattle.lists.{specs.Kit.{List·Memᴰ·cases-cons, List·Memᴰ·not-nil, ℕ, zero, suc, _≤_, _<_, _+_, arith, length, drop, take, replicate, length-append}}
+use Rattle.lists.{specs.Kit.{length-drop, length-replicate}, specs.Lists.{range, overwrite, Entries-below}, proofs.Overwrite.{take-overwrite}}
+use Rattle.lists.{proofs.Map.{length-map}}
+use Rattle.mesh.{specs.Limits.{max-radios, max-neighbours}, specs.Graph.{Link, graph, In-links, Allowed}, specs.Levels.{changed, step-of}}
+use Rattle.mesh.{specs.Tables.{Tables, graph-in, tables-of, Tables-of-size}, specs.Sound.{sound}, specs.Valid.{Valid}, proofs.GraphLaws.{proper-of}}
+use Rattle.mesh.{proofs.Tables.AscendingLinks.{in-links-proper}, proofs.Tables.Laws.{links-table-cleared}, proofs.Tables.Sites.{valid-cleared, numbers-cleared}}
+use Rattle.mesh.{proofs.Images.Tables.{valid-graph-in, tables-of-graph-in}}
+use Rattle.calls.{specs.Script.{radios-text, up-line, script-of}, specs.Questions.{lengths-of}, specs.Switches.{switch, switched}}
+use Rattle.calls.{specs.Switches.{tables-after, All-allowed}, specs.Outcomes.{linked-with, reply, link-outcome, script-outcome}, specs.Book.{Answer}}
+use Rattle.calls.{specs.Book.{Call, linking, reported}, specs.Runs.{Done, did, answer-of, done, events, answers, after}, specs.Replay.{answer-line, lines}}
+use Rattle.calls.{specs.Replay.{closing-lines}, proofs.ChainLaws.{ends-yes}, proofs.RecordLaws.{tables-ext}, proofs.Accepted.{listing-is}, proofs.Holds.{Holds}}
+use Rattle.calls.{proofs.Holds.{read-back, switched-holds, all-holds}, proofs.ByPairs.{link-asked}, proofs.ScriptLaws.{script-zero, script-right}}
+use Rattle.calls.{proofs.Rebuilt.{ups, Rebuilt, rebuilt}}
+use Rattle.script.{specs.Texts.{text-of, Values}, specs.Lines.{line-of}, specs.declared.lines.Line.the-variants.{Radios, Up}, proofs.Texts.{parse-text}}
+use Rattle.player.{specs.Play.{site-of, radios-of, lines-of, front, rest, cleared}, specs.RunText.{call-text, line-text, lines-text, text-from, run-text}}
+use Rattle.player.{proofs.PlayLaws.{site-of-radios}}
+use Rattle.playback.specs.{Plays.{calls-of, calls-in}, Back.{Rebuilds, Plays-back}}
 use Rattle.playback.proofs.LineLaws.{ended-radios, front-ended, rest-ended, lines-of-ups}
+use Rattle.calls.specs.{Chains.{script-refusal, link-refusal}, Questions.{by-number}}
 
 -- ---- lines
 
@@ -71,7 +45,7 @@ module _ (n : ℕ) (least : 1 ≤ n) (ps : List Link) (u : Tables) (k : Holds n 
 
   outcome-up : (w : List ℕ) → n ≤ length w →
       link-outcome true n (l .low) (l .high) u w ≡ linked-with (reply 0 (step-of true cs) (length cs)) left (overwrite cs w)
-  unfolding link-outcome link-refusal sound by-number
+  unfolding link-outcome sound by-number
   outcome-up w room =
       rw (
         link-asked n ps u k least true (l .low) (l .high) (length w) room ∙ ends-yes max-neighbours true (l .low) (l .high) (graph n ps) ok,
@@ -161,7 +135,13 @@ module _ (n : ℕ) (least : 1 ≤ n) where
       record {
         none-refused = rw said (none-refused-more (reported true changes) _ refl (c .none-refused));
         tables = leaves ∙ c .tables;
-        text = rw (line-of-up l (ends .0) (ends .1), line-up n least ps u k l (ok .0) m w room (λ y z. lines-text n (map up-line ls) (m + 1) y z), said, leaves, c .text)
+        text = rw (
+          line-of-up l (ends .0) (ends .1),
+          line-up n least ps u k l (ok .0) m w room (λ y z. lines-text n (map up-line ls) (m + 1) y z),
+          said,
+          leaves,
+          c .text,
+        )
             (sym (append-assoc (answer-line (reported true changes)) (flatMap answer-line (answers (events (up-calls n ls) v)))
             (closing-lines (after (up-calls n ls) v .numbers) (after (up-calls n ls) v .order))));
       }

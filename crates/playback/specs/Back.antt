@@ -2,16 +2,10 @@
 --   Rebuilds               what its calls answer and leave, and what the replay program prints of it
 --   Plays-back n t input   the input is played to its end, and that rebuilds t
 -- That the script of sound tables does is `script-plays` in proofs/ScriptPlays.antt. Definitions only.
-use mathlib.Core.Path.{_≡_}
-use mathlib.Core.List.{List, List·Memᴰ}
-use Prim.Native.Nat.{ℕ}
-use lib.ListN.{length}
+use Rattle.lists.specs.Kit.{_≡_, List, List·Memᴰ, ℕ, length}
 use Rattle.mesh.specs.Tables.{Tables, graph-in}
-use Rattle.calls.specs.Book.{Answer, Call}
-use Rattle.calls.specs.Runs.{events, after, answers}
-use Rattle.calls.specs.Replay.{lines}
-use Rattle.player.specs.Play.{lines-of, front, rest, radios-of, cleared}
-use Rattle.player.specs.RunText.{run-text}
+use Rattle.calls.specs.{Book.{Answer, Call}, Runs.{events, after, answers}, Replay.{lines}}
+use Rattle.player.specs.{Play.{lines-of, front, rest, radios-of, cleared}, RunText.{run-text}}
 use Rattle.playback.specs.Plays.{calls-in}
 
 -- cs are the calls of the input, made on a cleared site: hs are their answers, v the tables that they leave

@@ -3,19 +3,11 @@
 --   m1-script     their script
 --   Order-differs what holds of them
 -- Definitions only.
-use mathlib.Core.Path.{_≡_}
-use mathlib.Core.Bool.{true}
-use mathlib.Core.List.{List, [], _∷_, flatMap}
-use Prim.Native.Nat.{ℕ}
+use Rattle.lists.specs.Kit.{_≡_, true, List, [], _∷_, flatMap}
 use Prim.Native.String.{String}
-use Rattle.mesh.specs.Graph.{graph, link-of}
-use Rattle.mesh.specs.Tables.{Tables, graph-in, tables-of, Tables-of-size}
-use Rattle.mesh.specs.Sound.{sound}
+use Rattle.mesh.specs.{Graph.{graph, link-of}, Tables.{Tables, graph-in, tables-of, Tables-of-size}, Sound.{sound}}
 use Rattle.text.specs.Text.{bytes-of}
-use Rattle.calls.specs.Script.{script-of}
-use Rattle.calls.specs.Switches.{tables-after}
-use Rattle.calls.specs.Runs.{after}
-use Rattle.calls.specs.Worked.{up, down}
+use Rattle.calls.specs.{Script.{script-of}, Switches.{tables-after}, Runs.{after}, Worked.{up, down}}
 use Rattle.player.specs.Play.{cleared}
 use Rattle.playback.specs.Plays.{calls-in}
 

@@ -2,13 +2,9 @@
 --   calls-of n l        the call of a line on a site of n radios; a line of another form has none
 --   calls-in n input    the calls of the lines after the first, in turn
 -- The answer table has n entries, as the player's. What calls answer and leave is calls' `events` and `after`. Definitions only.
-use mathlib.Core.Bool.{true, false}
-use mathlib.Core.List.{List, [], _∷_, flatMap}
-use Prim.Native.Nat.{ℕ}
+use Rattle.lists.specs.Kit.{true, false, List, [], _∷_, flatMap, ℕ}
 use Rattle.calls.specs.Book.{Call, linking}
-use Rattle.script.specs.Lines.{line-of}
-use Rattle.script.specs.declared.lines.Line.{Line}
-use Rattle.script.specs.declared.lines.Line.the-variants.{Radios, Up, Down, Bad}
+use Rattle.script.specs.{Lines.{line-of}, declared.lines.Line.{Line}, declared.lines.Line.the-variants.{Radios, Up, Down, Bad}}
 use Rattle.player.specs.Play.{lines-of, rest}
 
 -- document 02, W-203: the link call that a line says

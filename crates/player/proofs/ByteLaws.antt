@@ -1,23 +1,13 @@
 -- What the code does with a byte is what the machine does: a law for each way through `machine::take_byte`. In all of them s and
 -- r are the progress before and after, t and w the tables and the answer table before, and line what the line's room holds.
-use mathlib.Core.Path.{_≡_, refl, sym, ap, subst, _∙_}
-use mathlib.Core.Bool.{Bool, true, false, true≢false}
-use mathlib.Core.List.{List, [], _∷_, _++_}
-use Prim.Native.Nat.{ℕ, _+_, _≤_, _<_}
-use native.Mathlib.Omega.{arith}
-use native.Mathlib.Numerals.{add-one}
-use lib.ListN.{length, take, set, length-take}
-use lib.Seq.{take-suc-set}
+use Rattle.lists.specs.Kit.{_≡_, refl, sym, ap, subst, _∙_, Bool, true, false, true≢false, List, [], _∷_, _++_, ℕ, _+_, _≤_, _<_, arith, add-one, length, take}
+use Rattle.lists.specs.Kit.{set, length-take, take-suc-set}
 use Rattle.mesh.specs.Tables.{Tables}
-use Rattle.text.specs.Text.{line-feed}
+use Rattle.text.specs.{Text.{line-feed}, Print.{Buffer, buffer-at, put, Puts}}
 use Rattle.calls.specs.Replay.{bad-line}
-use Rattle.script.specs.Lines.{line-of}
-use Rattle.text.specs.Print.{Buffer, buffer-at, put, Puts}
-use Rattle.script.specs.declared.lines.Line.{Line}
-use Rattle.script.specs.declared.lines.Line.the-variants.{Radios, Up, Down, Bad}
-use Rattle.player.specs.Lines.{is-call, Passed-over, Played, Prints}
-use Rattle.player.specs.Machine.{Spot, spot, Stop-put, Stopped, Line-taken, Line-ends, Takes}
-use Rattle.player.specs.declared.machine.Progress.{Progress}
+use Rattle.script.specs.{Lines.{line-of}, declared.lines.Line.{Line}, declared.lines.Line.the-variants.{Radios, Up, Down, Bad}}
+use Rattle.player.specs.{Lines.{is-call, Passed-over, Played, Prints}, Machine.{Spot, spot, Stop-put, Stopped, Line-taken, Line-ends, Takes}}
+use Rattle.player.specs.{declared.machine.Progress.{Progress}}
 use Rattle.player.proofs.MachineLaws.{takes-long, takes-held, takes-line, takes-none}
 
 -- ---- the line's bytes
@@ -141,7 +131,8 @@ byte-bad n b s r t v w x line {out} {mid} {after} l h f call played stop =
       text = bad-line (s .number);
       holds = takes-line (length line) n b (spot t w line s) (bad-line (s .number)) (spot v x (set line (s .held) b) r) l
           (omega (arith, length-held line (s .held) (omega arith))) f (by-none _ is-none stops);
-      puts = subst (λ (k : List ℕ). Puts (buffer-at k (s .at)) (bad-line (s .number)) (buffer-at after (r .at))) (sym (same-bytes (played .text) (passed .says) (played .puts))) (stop .puts);
+      puts = subst (λ (k : List ℕ). Puts (buffer-at k (s .at)) (bad-line (s .number)) (buffer-at after (r .at)))
+          (sym (same-bytes (played .text) (passed .says) (played .puts))) (stop .puts);
     }
   where
     by-none : {c : Bool} (k : List ℕ) {p q : Spot} {text : List ℕ} → c ≡ false → Stopped p text q → Line-ends c n k p text q

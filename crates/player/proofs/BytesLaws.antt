@@ -1,8 +1,5 @@
 -- Bytes taken in turn: one more at the end, chunk after chunk, and after the end of the run.
-use mathlib.Core.Path.{_≡_, refl, sym, ap, subst, _∙_}
-use mathlib.Core.Bool.{false}
-use mathlib.Core.List.{List, [], _∷_, _++_, append-assoc, append-nil}
-use Prim.Native.Nat.{ℕ}
+use Rattle.lists.specs.Kit.{_≡_, refl, sym, ap, subst, _∙_, false, List, [], _∷_, _++_, append-assoc, append-nil, ℕ}
 use Rattle.player.specs.Machine.{Spot, Ignored, Takes, Takes-all}
 use Rattle.player.proofs.MachineLaws.{takes-none}
 

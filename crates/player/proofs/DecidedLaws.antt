@@ -1,20 +1,10 @@
 -- What a run prints is decided by its input: two texts that meet `Run-prints` are equal.
-use mathlib.Core.Path.{_≡_, sym, ap, subst, _∙_}
-use mathlib.Core.Bool.{Bool, true, false}
-use mathlib.Core.List.{List, [], _∷_, _++_}
-use Prim.Native.Nat.{ℕ, zero, suc, _+_}
-use lib.ListN.{take}
+use Rattle.lists.specs.Kit.{_≡_, sym, ap, subst, _∙_, Bool, true, false, List, [], _∷_, _++_, ℕ, zero, suc, _+_, take}
 use Rattle.mesh.specs.Tables.{Tables}
-use Rattle.calls.specs.Replay.{link-line}
+use Rattle.calls.specs.{Replay.{link-line}, Outcomes.{Linked}, Contracts.{Link-contract}}
+use Rattle.script.specs.{Lines.{line-of}, declared.lines.Line.{Line}, declared.lines.Line.the-variants.{Radios, Up, Down, Bad}}
+use Rattle.player.specs.{Lines.{is-call, Called, Played}, Play.{radios-of, lines-of, front, rest}, Whole.{Line-by, Lines-print, Run-from, Run-prints}}
 use Rattle.calls.specs.declared.Reply.{Reply}
-use Rattle.calls.specs.Outcomes.{Linked}
-use Rattle.calls.specs.Contracts.{Link-contract}
-use Rattle.script.specs.Lines.{line-of}
-use Rattle.script.specs.declared.lines.Line.{Line}
-use Rattle.script.specs.declared.lines.Line.the-variants.{Radios, Up, Down, Bad}
-use Rattle.player.specs.Lines.{is-call, Called, Played}
-use Rattle.player.specs.Play.{radios-of, lines-of, front, rest}
-use Rattle.player.specs.Whole.{Line-by, Lines-print, Run-from, Run-prints}
 
 -- two outcomes of a line are the same
 pub record Same-line (text said : List ℕ) (v u : Tables) (x y : List ℕ) : Type 0 where
@@ -28,9 +18,9 @@ unfolding Link-contract
 called-decided up n a b t v u w x y text said h k =
     let same = h .does ∙ sym (k .does) in
     record {
-      text-same = h .says ∙ ap (λ (z : Linked). link-line (z .reply .number) (z .reply .step) (take (z .reply .count) (z .answer))) same ∙ sym (k .says);
-      tables = ap (λ (z : Linked). z .tables) same;
-      answer = ap (λ (z : Linked). z .answer) same;
+      text-same = h .says ∙ ap (λ (z : Linked Reply). link-line (z .reply .number) (z .reply .step) (take (z .reply .count) (z .lent))) same ∙ sym (k .says);
+      tables = ap (λ (z : Linked Reply). z .tables) same;
+      answer = ap (λ (z : Linked Reply). z .lent) same;
     }
 
 played-decided : (n : ℕ) (l : Line) (t v u : Tables) (w x y text said : List ℕ) → Played n l t w text v x → Played n l t w said u y

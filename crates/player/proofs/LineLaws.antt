@@ -1,18 +1,9 @@
 -- Laws of what a line does and prints.
-use mathlib.Core.Path.{_≡_, refl, sym, ap, subst, _∙_}
-use mathlib.Core.Bool.{Bool, true, false, true≢false}
-use mathlib.Core.List.{List, []}
-use Prim.Native.Nat.{ℕ}
-use lib.IntN.{ℤ}
-use lib.ListN.{take}
+use Rattle.lists.specs.Kit.{_≡_, refl, sym, ap, subst, _∙_, Bool, true, false, true≢false, List, [], ℕ, ℤ, take}
 use Rattle.mesh.specs.Tables.{Tables}
-use Rattle.calls.specs.Replay.{link-line}
-use Rattle.calls.specs.Contracts.{Link-contract}
-use Rattle.calls.specs.declared.Reply.{Reply}
-use Rattle.script.specs.Lines.{line-of}
+use Rattle.calls.specs.{Replay.{link-line}, Contracts.{Link-contract}, declared.Reply.{Reply}}
+use Rattle.script.specs.{Lines.{line-of}, declared.lines.Line.{Line}, declared.lines.Line.the-variants.{Radios, Up, Down, Bad}}
 use Rattle.text.specs.Print.{Buffer, Puts, put}
-use Rattle.script.specs.declared.lines.Line.{Line}
-use Rattle.script.specs.declared.lines.Line.the-variants.{Radios, Up, Down, Bad}
 use Rattle.player.specs.Lines.{is-call, Called, Played, Prints}
 
 -- a call's reply is what its line says; y is the step as the code hands it on

@@ -1,19 +1,10 @@
 -- Laws of the machine that takes bytes: each thing that a byte can do, from what the code has tested; bytes in turn; the end.
-use mathlib.Core.Path.{_≡_, refl, _∙_}
-use mathlib.Core.Bool.{Bool, true, false}
-use mathlib.Core.List.{List, [], _∷_, _++_}
-use Prim.Native.Nat.{ℕ, zero, suc, _+_, _≤_, _<_, min}
-use native.Mathlib.Omega.{arith}
-use lib.Dec.{leb, eqb}
-use lib.ListN.{length, take, length-take}
-use borrow.Author.Tests.{le-leb, lt-leb, eq-eqb, ne-eqb}
-use Rattle.text.specs.Text.{line-feed}
+use Rattle.lists.specs.Kit.{_≡_, refl, _∙_, Bool, true, false, List, [], _∷_, _++_, ℕ, zero, suc, _≤_, _<_, min, arith, leb, eqb, length, take, length-take}
+use Rattle.lists.specs.Kit.{le-leb, lt-leb, eq-eqb, ne-eqb}
+use Rattle.text.{specs.Text.{line-feed}, specs.Print.{Buffer, Puts}, proofs.PrintLaws.{puts-as, puts-append}}
 use Rattle.calls.specs.Replay.{bad-line, numbers-line, order-line, closing-lines}
 use Rattle.script.specs.Lines.{line-of}
-use Rattle.text.specs.Print.{Buffer, Puts}
-use Rattle.text.proofs.PrintLaws.{puts-as, puts-append}
-use Rattle.player.specs.Lines.{is-call}
-use Rattle.player.specs.Machine.{Spot, Stopped, Held-on, Line-ends, Ignored, Step, Takes, closing}
+use Rattle.player.specs.{Lines.{is-call}, Machine.{Spot, Stopped, Held-on, Line-ends, Ignored, Step, Takes, closing}}
 
 -- ---- one byte
 

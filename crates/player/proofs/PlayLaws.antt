@@ -1,17 +1,8 @@
 -- Laws of `radios-of`: what a first line comes to, and its bound.
-use mathlib.Core.Path.{_≡_, sym, ap, _∙_}
-use mathlib.Core.Logic.{_⊎_, inl, inr}
-use mathlib.Core.Bool.{true, false, cond}
-use mathlib.Core.List.{List}
-use Prim.Native.Nat.{ℕ, _≤_, _<_}
-use native.Mathlib.Omega.{arith}
-use lib.Dec.{leb}
-use borrow.Author.Tests.{le-leb, lt-leb, leb-true}
+use Rattle.lists.{specs.Kit.{_≡_, sym, ap, _∙_, _⊎_, inl, inr, true, false, cond, List, ℕ, _≤_, _<_, arith, leb, le-leb, lt-leb, leb-true}}
+use Rattle.lists.{proofs.Tests.{bool-cases}}
 use Rattle.mesh.specs.Limits.{max-radios}
-use Rattle.lists.proofs.Tests.{bool-cases}
-use Rattle.script.specs.Lines.{line-of}
-use Rattle.script.specs.declared.lines.Line.{Line}
-use Rattle.script.specs.declared.lines.Line.the-variants.{Radios, Up, Down, Bad}
+use Rattle.script.specs.{Lines.{line-of}, declared.lines.Line.{Line}, declared.lines.Line.the-variants.{Radios, Up, Down, Bad}}
 use Rattle.player.specs.Play.{site-of, radios-of}
 
 -- l is what the parser answers, m the case it is found to be

@@ -1,23 +1,11 @@
 -- What a read found, and reads one after another.
-use mathlib.Core.Path.{_≡_, refl, sym, ap, subst, _∙_}
-use mathlib.Core.Bool.{Bool, true, false, cond}
-use mathlib.Core.List.{List, [], _∷_, _++_, append-nil}
-use Prim.Native.Nat.{ℕ, zero, suc, _≤_, _<_, _+_, _-_, min}
-use native.Mathlib.Omega.{arith}
-use lib.Dec.{eqb}
-use lib.IntN.{ℤ, pos, negsuc}
-use lib.ListN.{length, take, drop, length-take}
-use lib.Seq.{take-at}
-use mir.Syntax.{w32, w64}
-use mir.Val.{SFits, toZ, ofZ}
-use mir.Facts.{toZ-ofZ}
-use borrow.Author.Tests.{eq-eqb, ne-eqb}
-use Rattle.io.specs.Counts.{Counts, clamped}
-use Rattle.io.proofs.Counting.{counts}
-use Rattle.text.specs.Print.{Buffer, buffer-at, put, Puts, max-place}
-use Rattle.text.proofs.PrintLaws.{puts-append, at-put, length-put, puts-whole}
-use Rattle.player.specs.Reads.{goes-on, at-end, unread, is-error, failure, is-failed, by-count, found, Found, Read, input-of, Going, To-end, Fills-on, Fills}
-use Rattle.player.specs.declared.input.Brought.{Brought}
+use Rattle.lists.specs.Kit.{_≡_, refl, sym, ap, _∙_, Bool, true, false, cond, List, [], _∷_, _++_, ℕ, zero, suc, _≤_, _<_, _+_, min, arith, ℤ, pos, negsuc}
+use Rattle.lists.specs.Kit.{length, take, drop, length-take, take-at, eq-eqb, ne-eqb}
+use mir.{Syntax.{w32, w64}, Val.{SFits, toZ, ofZ}, Facts.{toZ-ofZ}}
+use Rattle.io.{specs.Counts.{Counts, clamped}, proofs.Counting.{counts}}
+use Rattle.text.{specs.Print.{Buffer, buffer-at, put, Puts, max-place}, proofs.PrintLaws.{puts-append, at-put, length-put, puts-whole}}
+use Rattle.player.specs.{Reads.{goes-on, at-end, unread, is-error, failure, is-failed, by-count, found, Found, Read, input-of, Going, To-end, Fills-on}}
+use Rattle.player.specs.{Reads.{Fills}, declared.input.Brought.{Brought}}
 
 -- ---- errors, from the bits that the code compares
 
@@ -54,17 +42,20 @@ unfolding found
 found-nowhere z e zero h = refl
 found-nowhere z e (suc room) h = absurd (omega arith)
 
-pub found-failed : (z e : ℤ) (room s : ℕ) → (room ≡ 0 → ⊥) → SFits w64 z → ofZ w64 z ≡ minus-one → s ≡ failure e → record { count = 0; state = s } ≡ found z e room
+pub found-failed : (z e : ℤ) (room s : ℕ) → (room ≡ 0 → ⊥) → SFits w64 z → ofZ w64 z ≡ minus-one → s ≡ failure e → record { count = 0; state = s } ≡ found z e
+    room
 unfolding found
 found-failed z e zero s some g h f = absurd (some refl)
 found-failed z e (suc room) s some g h f = rw (failed-is z g h, f)
 
-pub found-end : (z e : ℤ) (room k : ℕ) → (room ≡ 0 → ⊥) → (ofZ w64 z ≡ minus-one → ⊥) → SFits w64 z → k ≡ clamped (toZ w64 (ofZ w64 z)) room → k ≡ 0 → record { count = 0; state = at-end } ≡ found z e room
+pub found-end : (z e : ℤ) (room k : ℕ) → (room ≡ 0 → ⊥) → (ofZ w64 z ≡ minus-one → ⊥) → SFits w64 z → k ≡ clamped (toZ w64 (ofZ w64 z)) room → k ≡ 0 → record
+    { count = 0; state = at-end } ≡ found z e room
 unfolding found by-count
 found-end z e zero k some h f c d = absurd (some refl)
 found-end z e (suc room) k some h f c d = rw (failed-other z h, sym (ap (λ (y : ℤ). clamped y (suc room)) (toZ-ofZ f)) ∙ sym c ∙ d)
 
-pub found-bytes : (z e : ℤ) (room k : ℕ) → (room ≡ 0 → ⊥) → (ofZ w64 z ≡ minus-one → ⊥) → SFits w64 z → k ≡ clamped (toZ w64 (ofZ w64 z)) room → (k ≡ 0 → ⊥) → record { count = k; state = goes-on } ≡ found z e room
+pub found-bytes : (z e : ℤ) (room k : ℕ) → (room ≡ 0 → ⊥) → (ofZ w64 z ≡ minus-one → ⊥) → SFits w64 z → k ≡ clamped (toZ w64 (ofZ w64 z)) room → (k ≡ 0 → ⊥) →
+    record { count = k; state = goes-on } ≡ found z e room
 unfolding found by-count
 found-bytes z e zero k some h f c d = absurd (some refl)
 found-bytes z e (suc room) zero some h f c d = absurd (d refl)
@@ -91,7 +82,8 @@ none-found {room} {r} f h =
     ap (λ (x : Brought). x .count) (f .is)
     ∙ found-none (f .got) (f .error) room (λ e. h (ap (λ (x : Brought). x .state) (f .is) ∙ e))
 
-pub found-in : (z e : ℤ) (size most len : ℕ) (xs : List ℕ) (r : Brought) → size ≡ min most len → length xs ≡ len → r ≡ found z e (length (take size xs)) → Found (min most len) r
+pub found-in : (z e : ℤ) (size most len : ℕ) (xs : List ℕ) (r : Brought) → size ≡ min most len → length xs ≡ len → r ≡ found z e (length (take size xs)) → Found
+    (min most len) r
 found-in z e size most len xs r h l f = record { got = z; error = e; is = f ∙ ap (found z e) (length-take size xs ∙ omega (arith, h, l)) }
 
 pub take-few : (size k most len : ℕ) (xs : List ℕ) → size ≡ min most len → k ≤ length (take size xs) → k ≤ most
@@ -146,7 +138,8 @@ put-within old text new at next h m p =
     omega (arith, place, long, at-put (buffer-at old at) text (omega arith), length-put (buffer-at old at) text)
 
 -- the front of the buffer is what the reads brought
-pub fills-front : (old new : List ℕ) (r : Brought) → length old < max-place → r .count ≤ length old → (f : Fills old r new) → take (r .count) new ≡ input-of (f .reads)
+pub fills-front : (old new : List ℕ) (r : Brought) → length old < max-place → r .count ≤ length old → (f : Fills old r new) → take (r .count) new ≡ input-of
+    (f .reads)
 fills-front old new r m l f =
     let whole = puts-whole (f .puts) (omega arith) m l in
     let k = length (input-of (f .reads)) in

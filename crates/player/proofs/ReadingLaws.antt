@@ -2,41 +2,21 @@
 --   writes-..      what is written and what waits
 --   chunk-..       the loop of `reading::take_chunk`
 --   read-..        the loop of `reading::read_turns`
-use mathlib.Core.Path.{_≡_, refl, sym, ap, subst, _∙_}
-use mathlib.Core.Logic.{_⊎_, inl, inr}
-use mathlib.Core.Bool.{Bool, true, false, cond, true≢false}
-use mathlib.Core.List.{List, [], _∷_, _++_, append-assoc, append-nil}
-use Prim.Native.Nat.{ℕ, zero, suc, _+_, _-_, _*_, _≤_, _<_}
-use native.Mathlib.Omega.{arith}
-use native.Mathlib.Numerals.{add-one}
-use lib.Dec.{ltb, eqb}
-use lib.ListN.{length, take, drop, getD, replicate, length-append, length-replicate, length-take}
-use lib.Seq.{take-suc, take-at, take-all, length-take-le}
-use borrow.Author.Tests.{ltb-true, lt-ltb, le-ltb, ne-eqb}
-use Rattle.lists.proofs.Tests.{bool-cases, cond-false}
-use Rattle.mesh.specs.Limits.{max-radios, row-bytes}
-use Rattle.mesh.specs.Tables.{Tables, tables}
-use Rattle.lists.specs.Lists.{In}
-use Rattle.lists.proofs.Range.{length-range}
-use Rattle.calls.specs.Questions.{lengths-of, lent-refusal, tables-refusal}
-use Rattle.calls.specs.Outcomes.{Numbered, clear-outcome}
-use Rattle.calls.specs.Contracts.{Clear-contract}
-use Rattle.calls.proofs.ChainLaws.{lent-yes}
-use Rattle.calls.proofs.ContractLaws.{by-zero}
-use Rattle.text.specs.Print.{Buffer, buffer-at, put, Puts, max-place}
-use Rattle.player.specs.Reads.{goes-on, at-end, Found, Read, input-of, Going, Unbroken, To-end}
-use Rattle.player.proofs.ReadLaws.{none-found, take-none}
-use Rattle.text.proofs.PrintLaws.{put-fits}
-use Rattle.player.specs.Lines.{Prints}
-use Rattle.player.specs.Machine.{Spot, spot, Marked, Takes, Takes-all, full, line-room, closing, ending}
-use Rattle.player.specs.Reading.{chunk-room, waiting, Writes, room-made, Room-made, broken-off, Ready, Site-lent, Site-cleared, Site-sized, Takes-chunk, Ended}
-use Rattle.player.specs.Reading.{Broken, Takes-read, Found-by, Reads-once, Reads-all}
-use Rattle.player.specs.Play.{lines-of, cleared}
-use Rattle.player.specs.Whole.{Lines-print, Run-from}
-use Rattle.player.specs.declared.machine.Progress.{Progress}
-use Rattle.player.proofs.BytesLaws.{takes-more, takes-append}
-use Rattle.player.proofs.SizeLaws.{takes-length, takes-number, takes-all-number, closing-length}
-use Rattle.player.proofs.WholeLaws.{bytes-print, ending-dead, ending-live}
+use Rattle.lists.{specs.Kit.{_≡_, refl, sym, ap, subst, _∙_, _⊎_, inl, inr, Bool, true, false, cond, true≢false, List, [], _∷_, _++_, append-assoc, append-nil}}
+use Rattle.lists.{specs.Kit.{ℕ, zero, suc, _+_, _-_, _*_, _≤_, _<_, arith, add-one, ltb, eqb, length, take, drop, getD, replicate, length-append}}
+use Rattle.lists.{specs.Kit.{length-replicate, length-take, take-suc, take-at, take-all, length-take-le, ltb-true, lt-ltb, le-ltb, ne-eqb}}
+use Rattle.lists.{proofs.Tests.{bool-cases, cond-false}, specs.Lists.{In}, proofs.Range.{length-range}}
+use Rattle.mesh.specs.{Limits.{max-radios, row-bytes}, Tables.{Tables, tables}}
+use Rattle.calls.{specs.Questions.{lengths-of, lent-refusal, tables-refusal}, specs.Outcomes.{Tabled, clear-outcome}, specs.Contracts.{Clear-contract}}
+use Rattle.calls.{proofs.ChainLaws.{lent-yes}, proofs.ContractLaws.{by-zero}}
+use Rattle.text.{specs.Print.{Buffer, buffer-at, put, Puts, max-place}, proofs.PrintLaws.{put-fits}}
+use Rattle.player.specs.{Reads.{goes-on, at-end, Found, Read, input-of, Going, Unbroken, To-end}, Lines.{Prints}, Machine.{Spot, spot, Marked, Takes}}
+use Rattle.player.specs.{Machine.{Takes-all, full, line-room, closing, ending}, Reading.{chunk-room, waiting, Writes, room-made, kept-fault, Room-made}}
+use Rattle.player.specs.{Reading.{broken-off}}
+use Rattle.player.specs.{Reading.{Ready, Site-lent, Site-cleared, Site-sized, Takes-chunk, Ended, Broken, Takes-read, Found-by, Reads-once, Reads-all}}
+use Rattle.player.specs.{Play.{lines-of, cleared}, Whole.{Lines-print, Run-from}, declared.machine.Progress.{Progress}}
+use Rattle.player.proofs.{ReadLaws.{none-found, take-none}, BytesLaws.{takes-more, takes-append}, SizeLaws.{takes-length, takes-number}}
+use Rattle.player.proofs.{SizeLaws.{takes-all-number, closing-length}, WholeLaws.{bytes-print, ending-dead, ending-live}}
 
 -- ---- what is written and what waits
 
@@ -129,7 +109,8 @@ chunk-more m l n chunk i x p b t v w y line kept s r d out after h e room same m
     (takes-more m n (take i chunk) (getD chunk i 0) p (spot t w line s) (spot v y kept r) (so .taken .text) (byte .text) (so .taken .takes) taken) in
     let writes : Writes b (whole ++ []) (buffer-at after (room-made (d .fault) r .at)) =
     writes-append b (buffer-at after (r .at)) (buffer-at after (room-made (d .fault) r .at)) whole []
-    (writes-append b (buffer-at out (s .at)) (buffer-at after (r .at)) (so .taken .text) (byte .text) (so .taken .writes) put) (writes-room (d .fault) r after) in
+    (writes-append b (buffer-at out (s .at)) (buffer-at after (r .at)) (so .taken .text) (byte .text) (so .taken .writes) put)
+    (writes-room (d .fault) r after) in
     let number = takes-number m n (getD chunk i 0) (spot t w line s) (byte .text) (spot v y kept r) taken in
     let rest : Chunk-to m n chunk (i + 1) p b (spot v y kept (room-made (d .fault) r)) (room-made (d .fault) r) after =
     record {
@@ -213,75 +194,78 @@ printed-over n bs t w text q l h =
 -- one read more: p and q are the spots of s and r
 module _ (n l k : ℕ) (t : Tables) (w : List ℕ) (b : Buffer) (p q : Spot) (s r : Progress) (out after : List ℕ) (some : 0 < k) (room : l ≡ line-room)
     (live : s .live ≡ true) (none : s .fault ≡ 0) (same : q .live ≡ r .live) (from : p .number ≡ s .number) (to : q .number ≡ r .number)
-    (long : length after ≡ length out) (at : r .live ≡ true → r .at < full) (so : Read-to n k t w b p s out) (read : Read) (found : Found-by (read .state) r) where
-  -- what the last read says of all
-  abbrev So-far : (text : List ℕ) → Type 0
-  So-far text = Writes b text (buffer-at after (r .at)) × (r .live ≡ true → Takes-all line-room n (input-of (so .reads) ++ read .bytes) (begin t w) text q)
-      × (r .live ≡ true → Ready (chunk-room * (k - 1)) r after) × (r .live ≡ false → Lines-print n (lines-of (input-of (so .reads) ++ read .bytes)) 2 t w text)
+    (long : length after ≡ length out) (at : r .live ≡ true → r .at < full) (so : Read-to n k t w b p s out) (read : Read) (found : Found-by (read .state) r)
+  where
+    -- what the last read says of all
+    abbrev So-far : (text : List ℕ) → Type 0
+    So-far text = Writes b text (buffer-at after (r .at)) × (r .live ≡ true → Takes-all line-room n (input-of (so .reads) ++ read .bytes) (begin t w) text q)
+        × (r .live ≡ true → Ready (chunk-room * (k - 1)) r after)
+        × (r .live ≡ false → Lines-print n (lines-of (input-of (so .reads) ++ read .bytes)) 2 t w text)
 
-  read-to : (text : List ℕ) → So-far text → Read-to n (k - 1) t w b q r after
-  unfolding input-of Going Unbroken To-end
-  read-to text h =
-      record {
-        reads = read ∷ so .reads;
-        text = text;
-        writes = h .0;
-        takes = h .1;
-        ready = h .2;
-        going = λ e f. (found .going e f, so .going live none);
-        over = h .3;
-        unbroken = λ e. (found .over e, so .going live none);
-        to-end = λ e f. (found .ended e f, so .going live none);
-      }
+    read-to : (text : List ℕ) → So-far text → Read-to n (k - 1) t w b q r after
+    unfolding input-of Going Unbroken To-end
+    read-to text h =
+        record {
+          reads = read ∷ so .reads;
+          text = text;
+          writes = h .0;
+          takes = h .1;
+          ready = h .2;
+          going = λ e f. (found .going e f, so .going live none);
+          over = h .3;
+          unbroken = λ e. (found .over e, so .going live none);
+          to-end = λ e f. (found .ended e f, so .going live none);
+        }
 
-  read-some : length (read .bytes) ≤ chunk-room → Takes-chunk l n (read .bytes) p (buffer-at out (s .at)) q (buffer-at after (r .at))
-      → Read-to n (k - 1) t w b q r after
-  read-some few chunk =
-      let bs = read .bytes in
-      let taken : Takes-all line-room n bs p (chunk .text) q = subst (λ (m : ℕ). Takes-all m n bs p (chunk .text) q) room (chunk .takes) in
-      let all = takes-append line-room n (input-of (so .reads)) bs (begin t w) p q (so .text) (chunk .text) (so .takes live) taken in
-      let number = takes-all-number line-room n bs p (chunk .text) q taken in
-      let ready = so .ready live in
-      read-to (so .text ++ chunk .text) (
-        writes-append b (buffer-at out (s .at)) (buffer-at after (r .at)) (so .text) (chunk .text) (so .writes) (chunk .writes),
-        (λ h. all),
-        (λ h. record { at = at h; number = omega (arith, number, ready .number); room = omega (arith, ready .room) }),
-        (λ h. printed-over n (input-of (so .reads) ++ bs) t w (so .text ++ chunk .text) q (same ∙ h) all),
-      )
+    read-some : length (read .bytes) ≤ chunk-room → Takes-chunk l n (read .bytes) p (buffer-at out (s .at)) q (buffer-at after (r .at))
+        → Read-to n (k - 1) t w b q r after
+    read-some few chunk =
+        let bs = read .bytes in
+        let taken : Takes-all line-room n bs p (chunk .text) q = subst (λ (m : ℕ). Takes-all m n bs p (chunk .text) q) room (chunk .takes) in
+        let all = takes-append line-room n (input-of (so .reads)) bs (begin t w) p q (so .text) (chunk .text) (so .takes live) taken in
+        let number = takes-all-number line-room n bs p (chunk .text) q taken in
+        let ready = so .ready live in
+        read-to (so .text ++ chunk .text) (
+          writes-append b (buffer-at out (s .at)) (buffer-at after (r .at)) (so .text) (chunk .text) (so .writes) (chunk .writes),
+          (λ h. all),
+          (λ h. record { at = at h; number = omega (arith, number, ready .number); room = omega (arith, ready .room) }),
+          (λ h. printed-over n (input-of (so .reads) ++ bs) t w (so .text ++ chunk .text) q (same ∙ h) all),
+        )
 
-  -- the read brought nothing
-  same-input : (read .state ≡ goes-on → ⊥) → input-of (so .reads) ++ read .bytes ≡ input-of (so .reads)
-  same-input f = ap (λ (xs : List ℕ). input-of (so .reads) ++ xs) (read .none f) ∙ append-nil (input-of (so .reads))
+    -- the read brought nothing
+    same-input : (read .state ≡ goes-on → ⊥) → input-of (so .reads) ++ read .bytes ≡ input-of (so .reads)
+    same-input f = ap (λ (xs : List ℕ). input-of (so .reads) ++ xs) (read .none f) ∙ append-nil (input-of (so .reads))
 
-  read-over : (read .state ≡ goes-on → ⊥) → Ended p (buffer-at out (s .at)) q (buffer-at after (r .at)) → Read-to n (k - 1) t w b q r after
-  read-over f end =
-      read-to (so .text ++ ending p) (
-        writes-append b (buffer-at out (s .at)) (buffer-at after (r .at)) (so .text) (ending p) (so .writes) (end .writes),
-        (λ h. absurd (true≢false (sym h ∙ sym same ∙ end .over))),
-        (λ h. absurd (true≢false (sym h ∙ sym same ∙ end .over))),
-        (λ h. subst (λ (bs : List ℕ). Lines-print n (lines-of bs) 2 t w (so .text ++ ending p)) (sym (same-input f))
-            (printed n (input-of (so .reads)) t w (so .text) p (so .takes live))),
-      )
+    read-over : (read .state ≡ goes-on → ⊥) → Ended p (buffer-at out (s .at)) q (buffer-at after (r .at)) → Read-to n (k - 1) t w b q r after
+    read-over f end =
+        read-to (so .text ++ ending p) (
+          writes-append b (buffer-at out (s .at)) (buffer-at after (r .at)) (so .text) (ending p) (so .writes) (end .writes),
+          (λ h. absurd (true≢false (sym h ∙ sym same ∙ end .over))),
+          (λ h. absurd (true≢false (sym h ∙ sym same ∙ end .over))),
+          (λ h. subst (λ (bs : List ℕ). Lines-print n (lines-of bs) 2 t w (so .text ++ ending p)) (sym (same-input f))
+              (printed n (input-of (so .reads)) t w (so .text) p (so .takes live))),
+        )
 
-  read-broken : (read .state ≡ goes-on → ⊥) → p .live ≡ s .live → Broken p (buffer-at out (s .at)) q (buffer-at after (r .at)) → Read-to n (k - 1) t w b q r after
-  read-broken f on broken =
-      let ready = so .ready live in
-      let number = ap (λ (x : Spot). x .number) (broken .same) in
-      let lives : r .live ≡ true = sym same ∙ ap (λ (x : Spot). x .live) (broken .same) ∙ on ∙ live in
-      read-to (so .text) (
-        subst (λ (c : Buffer). Writes b (so .text) c) (sym (broken .none)) (so .writes),
-        (λ h. subst (λ (x : Spot). Takes-all line-room n (input-of (so .reads) ++ read .bytes) (begin t w) (so .text) x) (sym (broken .same))
-            (subst (λ (bs : List ℕ). Takes-all line-room n bs (begin t w) (so .text) p) (sym (same-input f)) (so .takes live))),
-        (λ h. record { at = at h; number = omega (arith, number, ready .number); room = omega (arith, ready .room) }),
-        (λ h. absurd (true≢false (sym lives ∙ h))),
-      )
+    read-broken : (read .state ≡ goes-on → ⊥) → p .live ≡ s .live → Broken p (buffer-at out (s .at)) q (buffer-at after (r .at)) → Read-to n (k - 1) t w b q r
+        after
+    read-broken f on broken =
+        let ready = so .ready live in
+        let number = ap (λ (x : Spot). x .number) (broken .same) in
+        let lives : r .live ≡ true = sym same ∙ ap (λ (x : Spot). x .live) (broken .same) ∙ on ∙ live in
+        read-to (so .text) (
+          subst (λ (c : Buffer). Writes b (so .text) c) (sym (broken .none)) (so .writes),
+          (λ h. subst (λ (x : Spot). Takes-all line-room n (input-of (so .reads) ++ read .bytes) (begin t w) (so .text) x) (sym (broken .same))
+              (subst (λ (bs : List ℕ). Takes-all line-room n bs (begin t w) (so .text) p) (sym (same-input f)) (so .takes live))),
+          (λ h. record { at = at h; number = omega (arith, number, ready .number); room = omega (arith, ready .room) }),
+          (λ h. absurd (true≢false (sym lives ∙ h))),
+        )
 
-  read-by : (state : ℕ) → read .state ≡ state → p .live ≡ s .live → length (read .bytes) ≤ chunk-room
-      → Takes-read l n (read .bytes) state p (buffer-at out (s .at)) q (buffer-at after (r .at)) → Read-to n (k - 1) t w b q r after
-  unfolding Takes-read
-  read-by zero e on few chunk = read-some few chunk
-  read-by (suc zero) e on few end = read-over (λ f. absurd (omega (arith, e, f))) end
-  read-by (suc (suc j)) e on few broken = read-broken (λ f. absurd (omega (arith, e, f))) on broken
+    read-by : (state : ℕ) → read .state ≡ state → p .live ≡ s .live → length (read .bytes) ≤ chunk-room
+        → Takes-read l n (read .bytes) state p (buffer-at out (s .at)) q (buffer-at after (r .at)) → Read-to n (k - 1) t w b q r after
+    unfolding Takes-read
+    read-by zero e on few chunk = read-some few chunk
+    read-by (suc zero) e on few end = read-over (λ f. absurd (omega (arith, e, f))) end
+    read-by (suc (suc j)) e on few broken = read-broken (λ f. absurd (omega (arith, e, f))) on broken
 
 pub read-more : (n l k : ℕ) (t : Tables) (w : List ℕ) (b : Buffer) (p q : Spot) (s r : Progress) (out after : List ℕ) → 0 < k → l ≡ line-room
     → s .live ≡ true → s .fault ≡ 0 → p .live ≡ s .live → q .live ≡ r .live → p .number ≡ s .number → q .number ≡ r .number
@@ -328,7 +312,7 @@ site-cleared n r t v w site h =
     record {
       some = site .some;
       few = site .few;
-      is-cleared = ap (λ (o : Numbered). o .tables) (by-zero _ _ _ yes h);
+      is-cleared = ap (λ (o : Tabled ℕ). o .tables) (by-zero _ _ _ yes h);
       answer-zero = site .answer-zero;
     }
 
@@ -386,7 +370,8 @@ pub read-ended : (m n : ℕ) (bs : List ℕ) (state : ℕ) (p q : Spot) (b c : B
 unfolding Takes-read
 read-ended m n bs state p q b c e h = rw e h
 
-pub read-bytes : (m n : ℕ) (bs : List ℕ) (state : ℕ) (p q : Spot) (b c : Buffer) → state ≡ goes-on → Takes-chunk m n bs p b q c → Takes-read m n bs state p b q c
+pub read-bytes : (m n : ℕ) (bs : List ℕ) (state : ℕ) (p q : Spot) (b c : Buffer) → state ≡ goes-on → Takes-chunk m n bs p b q c → Takes-read m n bs state p b q
+    c
 unfolding Takes-read
 read-bytes m n bs state p q b c e h = rw e h
 
@@ -440,3 +425,19 @@ fault-first zero new r e h = (refl, sym e ∙ h)
 fault-first (suc k) new r e h =
     let some : r ≡ suc k = e ∙ cond-false (eqb (suc k) 0) new (suc k) (ne-eqb (suc k) 0 (λ d. absurd (omega (arith, d)))) in
     absurd (omega (arith, some, h))
+
+pub kept-right : (kept : Bool) (f : ℕ) → kept ≡ true → f ≡ kept-fault kept f
+unfolding kept-fault
+kept-right true f e = refl
+kept-right false f e = absurd (true≢false (sym e))
+
+pub kept-not : (kept : Bool) (f r : ℕ) → kept ≡ false → r ≡ cond (eqb f 0) 7 f → r ≡ kept-fault kept f
+unfolding kept-fault
+kept-not true f r e h = absurd (true≢false e)
+kept-not false f r e h = h
+
+-- a fault stays
+pub kept-zero : (kept : Bool) (f r : ℕ) → r ≡ kept-fault kept f → r ≡ 0 → f ≡ 0
+unfolding kept-fault
+kept-zero true f r e h = sym e ∙ h
+kept-zero false f r e h = fault-first f 7 r e h .0

@@ -1,24 +1,13 @@
 -- The executable text is the one that `Run-prints` says.
 --   run-met      `run-text` meets `Run-prints`
 --   run-only     and no other text does
-use mathlib.Core.Path.{_≡_, refl, sym, subst}
-use mathlib.Core.Bool.{Bool, true, false}
-use mathlib.Core.List.{List, [], _∷_}
-use Prim.Native.Nat.{ℕ, zero, suc, _+_}
-use lib.ListN.{replicate}
+use Rattle.lists.specs.Kit.{_≡_, refl, sym, subst, Bool, true, false, List, [], _∷_, ℕ, zero, suc, _+_, replicate}
 use Rattle.mesh.specs.Tables.{Tables}
-use Rattle.calls.specs.Outcomes.{link-outcome}
-use Rattle.calls.specs.Contracts.{Link-contract}
-use Rattle.calls.specs.Runs.{answer-of}
-use Rattle.calls.specs.Replay.{answer-line}
-use Rattle.script.specs.Lines.{line-of}
-use Rattle.script.specs.declared.lines.Line.{Line}
-use Rattle.script.specs.declared.lines.Line.the-variants.{Radios, Up, Down, Bad}
-use Rattle.player.specs.Lines.{is-call, Called, Played}
-use Rattle.player.specs.Play.{radios-of, lines-of, front, rest, cleared}
-use Rattle.player.specs.Whole.{Line-then, Line-by, Lines-print, Run-from, Run-prints}
+use Rattle.calls.specs.{Outcomes.{link-outcome}, Contracts.{Link-contract}, Runs.{answer-of}, Replay.{answer-line}}
+use Rattle.script.specs.{Lines.{line-of}, declared.lines.Line.{Line}, declared.lines.Line.the-variants.{Radios, Up, Down, Bad}}
+use Rattle.player.specs.{Lines.{is-call, Called, Played}, Play.{radios-of, lines-of, front, rest, cleared}, Whole.{Line-then, Line-by, Lines-print}}
+use Rattle.player.specs.{Whole.{Run-from, Run-prints}, RunText.{call-text, line-text, lines-text, text-from, run-text}}
 use Rattle.player.proofs.DecidedLaws.{run-decided}
-use Rattle.player.specs.RunText.{call-text, line-text, lines-text, text-from, run-text}
 
 -- what follows a line: R of each text that `later` gives
 module _ (R : Tables → List ℕ → List ℕ → Type 0) (later : Tables → List ℕ → List ℕ)
@@ -30,15 +19,15 @@ module _ (R : Tables → List ℕ → List ℕ → Type 0) (later : Tables → L
   unfolding call-text answer-line answer-of Link-contract
   called up x n a b l t w e plays =
       let o = link-outcome up n a b t w in
-      let says = answer-line (answer-of (o .reply) (o .answer)) in
+      let says = answer-line (answer-of (o .reply) (o .lent)) in
       record {
         after = o .tables;
-        answer = o .answer;
+        answer = o .lent;
         first = says;
-        more = later (o .tables) (o .answer);
-        played = subst (λ (z : Line). Played n z t w says (o .tables) (o .answer)) (sym e)
-            (plays says (o .tables) (o .answer) (record { reply = o .reply; does = refl; says = refl }));
-        later = follows (o .tables) (o .answer);
+        more = later (o .tables) (o .lent);
+        played = subst (λ (z : Line). Played n z t w says (o .tables) (o .lent)) (sym e)
+            (plays says (o .tables) (o .lent) (record { reply = o .reply; does = refl; says = refl }));
+        later = follows (o .tables) (o .lent);
         whole = refl;
       }
 

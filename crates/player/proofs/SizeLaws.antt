@@ -1,34 +1,16 @@
 -- How much a byte of the input and its end print at most, and how far the line's number goes.
-use mathlib.Core.Path.{_≡_, refl, sym, ap, subst}
-use mathlib.Core.Logic.{inl, inr}
-use mathlib.Core.Bool.{Bool, true, false}
-use mathlib.Core.List.{List, [], _∷_, map}
-use Prim.Native.Nat.{ℕ, zero, suc, _+_, _^_, _≤_, _<_}
-use native.Mathlib.Omega.{arith}
-use lib.IntN.{pos, natAbs}
-use lib.ListN.{length, take, length-append}
-use Rattle.mesh.specs.Limits.{max-radios}
-use Rattle.lists.specs.Lists.{range, In}
-use Rattle.mesh.specs.Graph.{Graph, radios}
-use Rattle.mesh.specs.Levels.{changed, step-of}
-use Rattle.mesh.specs.Sound.{sound}
-use Rattle.mesh.specs.Tables.{Tables, graph-in}
-use Rattle.lists.proofs.Filter.{in-filter, filter-le}
-use Rattle.lists.proofs.Range.{length-range, range-in}
-use Rattle.lists.proofs.Overwrite.{take-overwrite}
-use Rattle.text.specs.Text.{bytes-of, decimal, printed-line}
-use Rattle.calls.specs.Replay.{link-line, bad-line, numbers-line, order-line, closing-lines}
-use Rattle.calls.specs.Questions.{ask, Lengths, lengths-of, link-refusal, site-refusal, lent-refusal, ends-refusal}
-use Rattle.calls.specs.Outcomes.{by-number, Linked, linked-with, link-outcome}
-use Rattle.calls.specs.Contracts.{Link-contract}
-use Rattle.calls.proofs.ChainLaws.{link-zero}
-use Rattle.script.specs.Lines.{line-of}
-use Rattle.text.specs.Print.{max-place}
-use Rattle.script.specs.declared.lines.Line.{Line}
-use Rattle.script.specs.declared.lines.Line.the-variants.{Radios, Up, Down, Bad}
-use Rattle.script.proofs.LengthLaws.{length-line-le, length-link-line-le}
-use Rattle.player.specs.Lines.{Called, Played}
-use Rattle.player.specs.Machine.{Spot, Line-ends, Step, Takes, Takes-all, longest, closing-longest, closing}
+use Rattle.lists.{specs.Kit.{_≡_, refl, sym, ap, subst, inl, inr, Bool, true, false, List, [], _∷_, map, ℕ, zero, suc, _+_, _^_, _≤_, _<_, arith, pos, natAbs}}
+use Rattle.lists.{specs.Kit.{length, take, length-append}, specs.Lists.{range, In}, proofs.Filter.{in-filter, filter-le}, proofs.Range.{length-range, range-in}}
+use Rattle.lists.{proofs.Overwrite.{take-overwrite}}
+use Rattle.mesh.specs.{Limits.{max-radios}, Graph.{Graph, radios}, Levels.{changed, step-of}, Sound.{sound}, Tables.{Tables, graph-in}}
+use Rattle.text.specs.{Text.{bytes-of, decimal, printed-line}, Print.{max-place}}
+use Rattle.calls.{specs.Replay.{link-line, bad-line, numbers-line, order-line, closing-lines}, specs.Questions.{ask, Lengths, lengths-of}}
+use Rattle.calls.{specs.Questions.{site-refusal, lent-refusal, ends-refusal}, specs.Outcomes.{Linked, linked-with, link-outcome}}
+use Rattle.calls.{specs.Contracts.{Link-contract}, proofs.ChainLaws.{link-zero}}
+use Rattle.script.{specs.Lines.{line-of}, specs.declared.lines.Line.{Line}, specs.declared.lines.Line.the-variants.{Radios, Up, Down, Bad}}
+use Rattle.script.{proofs.LengthLaws.{length-line-le, length-link-line-le}}
+use Rattle.player.specs.{Lines.{Called, Played}, Machine.{Spot, Line-ends, Step, Takes, Takes-all, longest, closing-longest, closing}}
+use Rattle.calls.specs.{Questions.{by-number}, declared.Reply.{Reply}, Chains.{link-refusal}}
 
 -- ---- the reply of a call
 
@@ -38,7 +20,7 @@ ask-le k r true later h l = l
 ask-le k r false later h l = h
 
 link-refusal-le : (up : Bool) (n a b : ℕ) (l : Lengths) (w : ℕ) (s : Bool) (g : Graph) → link-refusal up n a b l w s g ≤ 7
-unfolding link-refusal site-refusal lent-refusal ends-refusal
+unfolding site-refusal lent-refusal ends-refusal
 link-refusal-le up n a b l w s g =
     ask-le 7 1 _ _ (omega arith) (ask-le 7 2 _ _ (omega arith) (ask-le 7 3 _ _ (omega arith) (ask-le 7 4 _ _ (omega arith)
     (ask-le 7 5 _ _ (omega arith) (ask-le 7 6 _ _ (omega arith) (ask-le 7 7 _ 0 (omega arith) (omega arith)))))))
@@ -62,12 +44,12 @@ unfolding graph-in
 radios-most up n a b l k s links z = link-zero up a b l k s (graph-in n links) z .0 .lent .most
 
 -- the line of a reply, and of the radios in front of the answer table
-abbrev reply-line : Linked → List ℕ
-reply-line o = link-line (o .reply .number) (o .reply .step) (take (o .reply .count) (o .answer))
+abbrev reply-line : Linked Reply → List ℕ
+reply-line o = link-line (o .reply .number) (o .reply .step) (take (o .reply .count) (o .lent))
 
 outcome-length : (up : Bool) (n a b : ℕ) (t : Tables) (w : List ℕ) (R : ℕ) →
     link-refusal up n a b (lengths-of t) (length w) (sound n t) (graph-in n (t .links)) ≡ R → length (reply-line (link-outcome up n a b t w)) ≤ longest
-unfolding link-outcome link-refusal sound by-number
+unfolding link-outcome sound by-number
 outcome-length up n a b t w zero e =
     let cs = changed up a b (graph-in n (t .links)) in
     let small = radios-most up n a b (lengths-of t) (length w) (sound n t) (t .links) e in
@@ -82,7 +64,7 @@ pub called-length : (up : Bool) (n a b : ℕ) (t v : Tables) (w x text : List �
 unfolding Link-contract
 called-length up n a b t v w x text h =
     let line : length (reply-line (linked-with (h .reply) v x)) ≤ longest
-    = subst (λ (o : Linked). length (reply-line o) ≤ longest) (sym (h .does)) (outcome-length up n a b t w _ refl) in
+    = subst (λ (o : Linked Reply). length (reply-line o) ≤ longest) (sym (h .does)) (outcome-length up n a b t w _ refl) in
     omega (arith, ap length (h .says), line)
 
 -- ---- one byte

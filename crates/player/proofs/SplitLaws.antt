@@ -1,26 +1,10 @@
 -- Lines of the input, and which of them can be link calls.
-use mathlib.Core.Path.{_≡_, refl, sym, ap, subst, _∙_}
-use mathlib.Core.Logic.{_⊎_, inl, inr}
-use mathlib.Core.Bool.{true, false, true≢false}
-use mathlib.Core.List.{List, [], _∷_, _++_}
-use Prim.Native.Nat.{ℕ, _+_, _^_, _≤_, _<_}
-use native.Mathlib.Omega.{arith}
-use lib.Dec.{eqb}
-use lib.ListN.{length}
-use borrow.Author.Tests.{eq-eqb, ne-eqb, eqb-true, eqb-false}
-use Rattle.lists.proofs.Tests.{bool-cases}
-use Rattle.lists.specs.Lists.{In}
+use Rattle.lists.{specs.Kit.{_≡_, refl, sym, ap, subst, _∙_, _⊎_, inl, inr, true, false, true≢false, List, [], _∷_, _++_, ℕ, _^_, _≤_, _<_, arith, eqb, length}}
+use Rattle.lists.{specs.Kit.{eq-eqb, ne-eqb, eqb-true, eqb-false}, proofs.Tests.{bool-cases}, specs.Lists.{In}, proofs.Member.{in-right}}
 use Rattle.text.specs.Text.{bytes-of, line-feed, decimal, further-fields, printed-line}
-use Rattle.script.specs.Lines.{line-of, max-value}
-use Rattle.script.specs.Texts.{text-of, Values}
-use Rattle.script.specs.declared.lines.Line.{Line}
-use Rattle.script.specs.declared.lines.Line.the-variants.{Radios, Up, Down, Bad}
-use Rattle.script.proofs.LengthLaws.{length-line-le}
-use Rattle.script.proofs.Texts.{text-parse}
-use Rattle.player.specs.Lines.{is-call}
-use Rattle.player.specs.Machine.{line-room}
-use Rattle.player.specs.Play.{glue, lines-of}
-use Rattle.lists.proofs.Member.{in-right}
+use Rattle.script.{specs.Lines.{line-of, max-value}, specs.Texts.{text-of, Values}, specs.declared.lines.Line.{Line}}
+use Rattle.script.{specs.declared.lines.Line.the-variants.{Radios, Up, Down, Bad}, proofs.LengthLaws.{length-line-le}, proofs.Texts.{text-parse}}
+use Rattle.player.specs.{Lines.{is-call}, Machine.{line-room}, Play.{glue, lines-of}}
 
 -- ---- splitting
 

@@ -1,21 +1,13 @@
 -- The status of a run: 0 only where all is read to its end and played.
-use mathlib.Core.Path.{_≡_, refl, sym, subst, _∙_}
-use mathlib.Core.Bool.{true, false, true≢false}
-use mathlib.Core.List.{List, [], _∷_}
-use Prim.Native.Nat.{ℕ, zero, suc, _≤_, _<_}
-use native.Mathlib.Omega.{arith}
-use lib.IntN.{ℤ, pos, negsuc}
-use lib.ListN.{take}
-use lib.Signed.{ltZ, nonNeg}
-use borrow.Author.Tests.{ltb-true}
+use Rattle.lists.specs.Kit.{_≡_, refl, sym, subst, _∙_, true, false, true≢false, List, [], _∷_, ℕ, zero, suc, _≤_, _<_, arith, ℤ, pos, negsuc, take, ltb-true}
+use Rattle.lists.specs.Kit.{leb-false, lt-ltb}
+use lib.Signed.{ltZ, leZ, nonNeg}
 use Rattle.text.specs.Print.{Buffer}
-use Rattle.player.specs.Reads.{goes-on, at-end, Found, Read, input-of, Going, Unbroken, To-end}
-use Rattle.player.specs.declared.input.Brought.{Brought}
+use Rattle.player.specs.{Reads.{goes-on, at-end, Found, Read, Going, Unbroken, To-end}, declared.input.Brought.{Brought}, Reading.{Reads-all}}
+use Rattle.player.specs.{Reading.{Reads-first, Concluded, Played-to-end, Lines-status, Run-status, is-keep, Copies-once, Copied}}
+use Rattle.player.specs.{declared.first.First.{First}}
+use Rattle.player.specs.{declared.machine.Progress.{Progress}}
 use Rattle.player.proofs.ReadLaws.{none-found, take-none}
-use Rattle.player.specs.Play.{radios-of}
-use Rattle.player.specs.Reading.{Reads-all, Reads-first, Concluded, Played-to-end, Lines-status, Run-to-end, Run-status, Copies-once, Copied}
-use Rattle.player.specs.declared.first.First.{First}
-use Rattle.player.specs.declared.machine.Progress.{Progress}
 
 -- ---- the end of a run
 
@@ -75,6 +67,15 @@ run-status r f first low some lines =
     positive (suc x) g = omega arith
 
 -- ---- the keep
+
+-- a descriptor, as `keeping::new` tests it
+pub keep-none : (z : ℤ) → ltZ z (pos 0) ≡ true → is-keep z ≡ true
+keep-none (pos k) h = absurd (omega (arith, ltb-true k 0 h))
+keep-none (negsuc k) h = refl
+
+pub keep-above : (z : ℤ) → leZ z (pos 2) ≡ false → is-keep z ≡ true
+keep-above (pos k) h = lt-ltb 2 k (leb-false k 2 h)
+keep-above (negsuc k) h = absurd (true≢false h)
 
 -- its bytes are in the front of a chunk
 unfoldable kept-read : (size : ℕ) (chunk : List ℕ) (r : Brought) → Found size r → Read

@@ -1,26 +1,18 @@
 -- Whole inputs print exactly what is said of them: M1's, computed from its bytes to its text.
-use mathlib.Core.Path.{_≡_, refl, subst, _∙_}
-use mathlib.Core.List.{flatMap}
-use Rattle.lists.specs.Lists.{overwrite}
-use Rattle.mesh.specs.Graph.{neighbours-in}
-use Rattle.mesh.specs.Tables.{put-digit, put-bit, put-link, row-links, graph-in}
-use Rattle.calls.specs.Questions.{lengths-of, answer-length, site-refusal, link-refusal}
-use Rattle.calls.specs.Switches.{switched}
-use Rattle.calls.specs.Outcomes.{link-outcome}
+use Rattle.lists.specs.{Kit.{_≡_, refl, subst, _∙_, flatMap}, Lists.{overwrite}}
+use Rattle.mesh.specs.{Graph.{neighbours-in}, Tables.{put-digit, put-bit, put-link, row-links, graph-in}}
+use Rattle.calls.{specs.Questions.{lengths-of, answer-length, site-refusal}, specs.Switches.{switched}, specs.Outcomes.{link-outcome}}
+use Rattle.calls.{specs.Runs.{answer-of}, specs.Replay.{bad-line, answer-line}, proofs.WorkedState.{compute}}
 use Rattle.text.specs.Text.{bytes-of}
-use Rattle.calls.specs.Runs.{answer-of}
-use Rattle.calls.specs.Replay.{bad-line, answer-line}
-use Rattle.calls.proofs.WorkedState.{compute}
 use Rattle.script.specs.Lines.{is-digit, digits-on, number-of, ended, last-number-of, starts, radios-line, link-with, link-after, link-from, line-of}
-use Rattle.player.specs.Play.{site-of, radios-of, glue, lines-of, front, rest, cleared}
-use Rattle.player.specs.Whole.{Run-prints}
-use Rattle.player.specs.RunText.{call-text, line-text, lines-text, text-from, run-text}
-use Rattle.player.specs.Texts.{Text, Text-right, m1, bad-third, no-first, texts, All-right}
+use Rattle.player.specs.{Play.{site-of, radios-of, glue, lines-of, front, rest, cleared}, Whole.{Run-prints}, RunText.{call-text, line-text, lines-text}}
+use Rattle.player.specs.{RunText.{text-from, run-text}, Texts.{Text, Text-right, m1, bad-third, no-first, texts, All-right}}
 use Rattle.player.proofs.RunLaws.{run-met, run-only}
+use Rattle.calls.specs.Chains.{link-refusal}
 
 -- everything that link calls, lines and texts compute with
 unfoldable compute-calls : Unit {0}
-unfolding compute overwrite neighbours-in put-digit put-bit put-link row-links graph-in lengths-of answer-length site-refusal link-refusal switched link-outcome
+unfolding compute overwrite neighbours-in put-digit put-bit put-link row-links graph-in lengths-of answer-length site-refusal switched link-outcome
 compute-calls = tt
 
 unfoldable compute-lines : Unit {0}
@@ -28,7 +20,8 @@ unfolding bad-line is-digit digits-on number-of ended last-number-of starts radi
 compute-lines = tt
 
 unfoldable compute-text : Unit {0}
-unfolding compute-calls compute-lines glue lines-of front rest cleared answer-line answer-of call-text line-text lines-text text-from run-text m1 bad-third no-first
+unfolding compute-calls compute-lines glue lines-of front rest cleared answer-line answer-of call-text line-text lines-text text-from run-text m1 bad-third
+    no-first
 compute-text = tt
 
 -- the text that a run computes

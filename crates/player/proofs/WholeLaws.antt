@@ -2,25 +2,16 @@
 --   bytes-print    from any spot of a run that goes on
 --   run-prints     a whole run: what `Run-prints` says of the input
 --   run-bad        the run of an input whose first line names no site
-use mathlib.Core.Path.{_≡_, refl, sym, ap, subst, _∙_}
-use mathlib.Core.Bool.{Bool, true, false}
-use mathlib.Core.List.{List, [], _∷_, _++_, append-assoc, append-nil}
-use Prim.Native.Nat.{ℕ, zero, suc, _+_, _≤_, _<_}
-use native.Mathlib.Omega.{arith}
-use lib.Dec.{leb, eqb}
-use lib.ListN.{length, length-append}
-use borrow.Author.Tests.{leb-true, eqb-true, eqb-false}
+use Rattle.lists.{specs.Kit.{_≡_, refl, sym, ap, subst, _∙_, Bool, true, false, List, [], _∷_, _++_, append-assoc, append-nil, ℕ, zero, suc, _+_, _≤_, _<_}}
+use Rattle.lists.{specs.Kit.{arith, leb, eqb, length, length-append, leb-true, eqb-true, eqb-false}, proofs.Tests.{cond-false, cond-true}}
 use Rattle.mesh.specs.Tables.{Tables}
 use Rattle.text.specs.Text.{line-feed}
 use Rattle.calls.specs.Replay.{bad-line}
 use Rattle.script.specs.Lines.{line-of}
-use Rattle.player.specs.Lines.{is-call}
-use Rattle.player.specs.Play.{radios-of, lines-of, front, rest}
-use Rattle.player.specs.Machine.{Spot, Stopped, Held-on, Line-ends, Ignored, Step, line-room, Takes, Takes-all, closing, ending}
-use Rattle.player.specs.Whole.{Line-then, Line-by, Lines-print, start, Run-from, Run-prints}
-use Rattle.player.proofs.MachineLaws.{step-as}
-use Rattle.player.proofs.SplitLaws.{No-feed, no-feed-more, lines-before, lines-last, first-line, lines-ended, unended-no-call, long-no-call}
-use Rattle.lists.proofs.Tests.{cond-false, cond-true}
+use Rattle.player.specs.{Lines.{is-call}, Play.{radios-of, lines-of, front, rest}, Machine.{Spot, Stopped, Held-on, Line-ends, Ignored, Step, line-room}}
+use Rattle.player.specs.{Machine.{Takes, Takes-all, closing, ending}, Whole.{Line-then, Line-by, Lines-print, start, Run-from, Run-prints}}
+use Rattle.player.proofs.{MachineLaws.{step-as}, SplitLaws.{No-feed, no-feed-more, lines-before, lines-last, first-line, lines-ended, unended-no-call}}
+use Rattle.player.proofs.{SplitLaws.{long-no-call}}
 
 -- ---- after the end of the run
 
@@ -128,7 +119,8 @@ print-line n b bs p s q first more text true f e c taken after whole later =
     let empty : No-feed (s .held) = subst No-feed (sym (taken .held)) tt in
     let others : Lines-print n (lines-of bs) (p .number + 1) (s .tables) (s .answer) (more ++ ending q)
     = subst (λ (x : ℕ). Lines-print n (lines-of bs) x (s .tables) (s .answer) (more ++ ending q)) (taken .number)
-    (subst (λ (x : List ℕ). Lines-print n (lines-of (x ++ bs)) (s .number) (s .tables) (s .answer) (more ++ ending q)) (taken .held) (later (taken .live) empty)) in
+    (subst (λ (x : List ℕ). Lines-print n (lines-of (x ++ bs)) (s .number) (s .tables) (s .answer) (more ++ ending q)) (taken .held)
+    (later (taken .live) empty)) in
     subst (λ (x : List (List ℕ)). Lines-print n x (p .number) (p .tables) (p .answer) (text ++ ending q)) (sym (lines-ended (p .held) b bs f e))
     (line-good n (p .held ++ (line-feed ∷ [])) (p .number) (p .tables) (p .answer) (text ++ ending q)
     (λ v x m. Lines-print n (lines-of bs) (p .number + 1) v x m) c

@@ -1,16 +1,7 @@
 -- How a program is started: each way through `words::descriptor` and `words::start_of`.
-use mathlib.Core.Path.{_≡_, refl, sym, ap, _∙_}
-use mathlib.Core.Bool.{true, false}
-use mathlib.Core.List.{List, [], _∷_}
-use Prim.Native.Nat.{ℕ, _-_, _≤_, _<_}
-use native.Mathlib.Omega.{arith}
-use lib.IntN.{ℤ, pos, negsuc}
-use lib.ListN.{length, getD}
-use borrow.Author.Tests.{lt-ltb, le-ltb}
-use Rattle.lists.specs.Lists.{same}
+use Rattle.lists.specs.{Kit.{_≡_, refl, ap, true, false, List, [], _∷_, ℕ, _-_, _≤_, _<_, arith, ℤ, pos, negsuc, length, getD, lt-ltb, le-ltb}, Lists.{same}}
 use Rattle.text.specs.Text.{bytes-of}
 use Rattle.player.specs.Words.{digit-of, descriptor-of, start-of}
-use Rattle.player.specs.declared.words.Start.{Start}
 
 pub descriptor-other : (w : List ℕ) → (length w ≡ 1 → ⊥) → negsuc 0 ≡ descriptor-of w
 unfolding descriptor-of

@@ -5,18 +5,11 @@
 --   Played n l         what the line l does: tables and answer table before, the text, both after
 --   Prints P b c       a text of which P holds is put into the printing buffer b, which is c after
 -- Definitions only.
-use mathlib.Core.Path.{_≡_}
-use mathlib.Core.Bool.{Bool, true, false}
-use mathlib.Core.List.{List, []}
-use Prim.Native.Nat.{ℕ}
-use lib.ListN.{take}
+use Rattle.lists.specs.Kit.{_≡_, Bool, true, false, List, [], ℕ, take}
 use Rattle.mesh.specs.Tables.{Tables}
-use Rattle.calls.specs.Replay.{link-line}
-use Rattle.calls.specs.Contracts.{Link-contract}
-use Rattle.calls.specs.declared.Reply.{Reply}
+use Rattle.calls.specs.{Replay.{link-line}, Contracts.{Link-contract}, declared.Reply.{Reply}}
 use Rattle.text.specs.Print.{Buffer, Puts}
-use Rattle.script.specs.declared.lines.Line.{Line}
-use Rattle.script.specs.declared.lines.Line.the-variants.{Radios, Up, Down, Bad}
+use Rattle.script.specs.declared.lines.{Line.{Line}, Line.the-variants.{Radios, Up, Down, Bad}}
 
 -- document 01: all lines but the first are `up A B` or `down A B`
 unfoldable pub is-call : Line → Bool

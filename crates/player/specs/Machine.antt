@@ -11,19 +11,12 @@
 --   Takes-all m n bytes p text q the same for bytes in turn
 --   ending p           what is printed at the end of the input
 -- What bytes and ending together print is said by lines in `Whole`. Definitions only.
-use mathlib.Core.Path.{_≡_}
-use mathlib.Core.Bool.{Bool, true, false, cond}
-use mathlib.Core.List.{List, [], _∷_, _++_}
-use Prim.Native.Nat.{ℕ, _+_}
-use lib.Dec.{leb, eqb}
-use lib.ListN.{length, take}
+use Rattle.lists.specs.Kit.{_≡_, Bool, true, false, cond, List, [], _∷_, _++_, ℕ, _+_, leb, eqb, length, take}
 use Rattle.mesh.specs.Tables.{Tables}
-use Rattle.text.specs.Text.{line-feed}
+use Rattle.text.specs.{Text.{line-feed}, Print.{buffer-at, Puts}}
 use Rattle.calls.specs.Replay.{bad-line, closing-lines}
 use Rattle.script.specs.Lines.{line-of}
-use Rattle.text.specs.Print.{buffer-at, Puts}
-use Rattle.player.specs.Lines.{is-call, Played}
-use Rattle.player.specs.declared.machine.Progress.{Progress}
+use Rattle.player.specs.{Lines.{is-call, Played}, declared.machine.Progress.{Progress}}
 
 -- where a run stands
 pub record Spot : Type 0 where

@@ -4,18 +4,10 @@
 --   radios-of s               the radios of the site that a first line names, 0 where it is no first line
 --   cleared n                 a cleared site
 -- Definitions only.
-use mathlib.Core.Bool.{cond}
-use mathlib.Core.List.{List, [], _∷_}
-use Prim.Native.Nat.{ℕ, _*_}
-use lib.Dec.{eqb, leb}
-use lib.ListN.{replicate}
-use Rattle.lists.specs.Lists.{range}
-use Rattle.mesh.specs.Limits.{max-radios, row-bytes}
-use Rattle.mesh.specs.Tables.{Tables, tables}
+use Rattle.lists.specs.{Kit.{cond, List, [], _∷_, ℕ, _*_, eqb, leb, replicate}, Lists.{range}}
+use Rattle.mesh.specs.{Limits.{max-radios, row-bytes}, Tables.{Tables, tables}}
 use Rattle.text.specs.Text.{line-feed}
-use Rattle.script.specs.Lines.{line-of}
-use Rattle.script.specs.declared.lines.Line.{Line}
-use Rattle.script.specs.declared.lines.Line.the-variants.{Radios, Up, Down, Bad}
+use Rattle.script.specs.{Lines.{line-of}, declared.lines.Line.{Line}, declared.lines.Line.the-variants.{Radios, Up, Down, Bad}}
 
 -- ---- lines
 

@@ -3,7 +3,8 @@
 --   out-room                 the bytes of the printing buffer
 --   waiting b                what waits in the printing buffer
 --   Writes b text c          what waited in b and then the text: written, but for what waits in c
---   room-made f s, Room-made the progress after a full buffer was written
+--   lost                     the fault of answers that cannot be kept
+--   room-made f s, kept-fault, Room-made   the progress after a full buffer was written
 --   broken-off f s           the progress after a read that failed
 --   Ready k s out            the run has room for k bytes more
 --   Site-lent, Site-cleared  the tables before and after clearing
@@ -16,25 +17,15 @@
 --   Reads-first              the first line
 --   Played-to-end, Run-to-end   the lines after the first, and a whole input, are read to their end and played
 --   Concluded, Lines-status, Run-status   the status: 0 only there
+--   is-keep d                no keep, or one that is none of the program's own descriptors
 --   Copies-once, Copied      one read of the keep; all reads, to its end
 -- No contract can say what a read brings or a write takes: of both there are some bytes, `Read` and `written` below.
 -- Definitions only.
-use mathlib.Core.Path.{_≡_}
-use mathlib.Core.Bool.{true, false, cond}
-use mathlib.Core.List.{List, _++_}
-use Prim.Native.Nat.{ℕ, zero, suc, _+_, _*_, _≤_, _<_}
-use lib.Dec.{ltb}
-use lib.ListN.{length, take, replicate}
-use Rattle.mesh.specs.Limits.{max-radios, row-bytes}
-use Rattle.mesh.specs.Tables.{Tables}
+use Rattle.lists.specs.Kit.{_≡_, Bool, true, false, cond, ℤ, pos, negsuc, List, _++_, ℕ, zero, suc, _+_, _*_, _≤_, _<_, ltb, length, take, replicate, eqb}
+use Rattle.mesh.specs.{Limits.{max-radios, row-bytes}, Tables.{Tables}}
 use Rattle.text.specs.Print.{Buffer, buffer-at, max-place}
-use Rattle.player.specs.Reads.{goes-on, at-end, Read, input-of, Going, Unbroken, To-end}
-use Rattle.player.specs.Play.{radios-of}
-use Rattle.player.specs.declared.first.First.{First}
-use Rattle.player.specs.Machine.{Spot, Takes-all, ending, full}
-use Rattle.player.specs.Play.{cleared}
-use Rattle.player.specs.Whole.{Run-from}
-use Rattle.player.specs.declared.machine.Progress.{Progress}
+use Rattle.player.specs.{Reads.{goes-on, at-end, Read, input-of, Going, Unbroken, To-end}, Play.{radios-of, cleared}, declared.first.First.{First}}
+use Rattle.player.specs.{Machine.{Spot, Takes-all, ending, full}, Whole.{Run-from}, declared.machine.Progress.{Progress}}
 
 -- the bytes that one read can bring
 abbrev pub chunk-room : ℕ
@@ -55,10 +46,19 @@ pub record Writes (b : Buffer) (text : List ℕ) (c : Buffer) : Type 0 where
   pub written : List ℕ
   pub is : waiting b ++ text ≡ written ++ waiting c
 
+-- the number of this fault, as the code has it
+abbrev pub lost : ℕ
+lost = 7
+
 -- a full buffer is written, and nothing waits then; all else is kept, but for the fault f
 unfoldable pub room-made : (f : ℕ) → Progress → Progress
 room-made f s =
     record { number = s .number; held = s .held; at = cond (ltb (s .at) full) (s .at) 0; live = s .live; fault = f }
+
+-- the fault after a full buffer was kept or not: answers that cannot be kept are one, where there was none before
+unfoldable pub kept-fault : (kept : Bool) → (fault : ℕ) → ℕ
+kept-fault true f = f
+kept-fault false f = cond (eqb f 0) lost f
 
 -- the same, with a fault wherever there was one
 pub record Room-made (s r : Progress) : Type 0 where
@@ -183,6 +183,11 @@ pub record Run-status (r : ℕ) : Type 0 where
   pub whole : r ≡ 0 → Run-to-end
 
 -- ---- the keep
+
+-- 0, 1 and 2 are the program's input, output and errors
+abbrev pub is-keep : (descriptor : ℤ) → Bool
+is-keep (pos d) = ltb 2 d
+is-keep (negsuc d) = true
 
 -- one read, of which the state tells what it found, unless it or the write after it failed; of its bytes nothing is said
 pub record Copies-once (state : ℕ) : Type 0 where

@@ -11,16 +11,9 @@
 --   To-end rs            the input is read to its end: the last read is at the end, and none before it failed
 --   Fills-on, Fills      a buffer that a read goes on to fill; a front that reads filled
 -- No contract can say which bytes a read brings: of them `Read` has some. Definitions only.
-use mathlib.Core.Path.{_≡_}
-use mathlib.Core.Bool.{Bool, true, false, cond}
-use mathlib.Core.List.{List, [], _∷_, _++_}
-use Prim.Native.Nat.{ℕ, zero, suc, _≤_}
-use lib.Dec.{eqb}
-use lib.IntN.{ℤ, pos, negsuc}
-use lib.ListN.{length}
+use Rattle.lists.specs.Kit.{_≡_, Bool, true, false, cond, List, [], _∷_, _++_, ℕ, zero, suc, _≤_, eqb, ℤ, pos, negsuc}
 use Rattle.io.specs.Counts.{clamped}
-use Rattle.text.specs.Text.{bytes-of}
-use Rattle.text.specs.Print.{buffer-at, Puts}
+use Rattle.text.specs.{Text.{bytes-of}, Print.{buffer-at, Puts}}
 use Rattle.player.specs.declared.input.Brought.{Brought}
 
 -- the reads that a run has: 2^51, each of a byte at least, so that no input of fewer bytes is cut and no line's number passes 64 bits

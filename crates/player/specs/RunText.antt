@@ -3,22 +3,15 @@
 --   lines-text n ls k t w        the lines from number k on, with the closing lines or `bad L`
 --   run-text input               a whole run
 -- That it is what `Run-prints` says of the input, and all that it says, is proved in proofs/RunLaws.antt. Definitions only.
-use mathlib.Core.Bool.{true, false}
-use mathlib.Core.List.{List, [], _∷_, _++_}
-use Prim.Native.Nat.{ℕ, zero, suc, _+_}
-use lib.ListN.{replicate}
+use Rattle.lists.specs.Kit.{true, false, List, [], _∷_, _++_, ℕ, zero, suc, _+_, replicate}
 use Rattle.mesh.specs.Tables.{Tables}
-use Rattle.calls.specs.Outcomes.{Linked, link-outcome}
-use Rattle.calls.specs.Runs.{answer-of}
-use Rattle.calls.specs.Replay.{closing-lines, bad-line, answer-line}
-use Rattle.script.specs.Lines.{line-of}
-use Rattle.script.specs.declared.lines.Line.{Line}
-use Rattle.script.specs.declared.lines.Line.the-variants.{Radios, Up, Down, Bad}
+use Rattle.calls.specs.{Outcomes.{Linked, link-outcome}, Runs.{answer-of}, Replay.{closing-lines, bad-line, answer-line}, declared.Reply.{Reply}}
+use Rattle.script.specs.{Lines.{line-of}, declared.lines.Line.{Line}, declared.lines.Line.the-variants.{Radios, Up, Down, Bad}}
 use Rattle.player.specs.Play.{radios-of, lines-of, front, rest, cleared}
 
 -- a link call's line, and what later lines print on its tables
-unfoldable pub call-text : Linked → (later : Tables → List ℕ → List ℕ) → List ℕ
-call-text o later = answer-line (answer-of (o .reply) (o .answer)) ++ later (o .tables) (o .answer)
+unfoldable pub call-text : Linked Reply → (later : Tables → List ℕ → List ℕ) → List ℕ
+call-text o later = answer-line (answer-of (o .reply) (o .lent)) ++ later (o .tables) (o .lent)
 
 -- a line by what it says: another form ends the run with its number
 unfoldable pub line-text : Line → (n k : ℕ) → Tables → (w : List ℕ) → (later : Tables → List ℕ → List ℕ) → List ℕ

@@ -1,8 +1,6 @@
 -- Whole inputs of the replay program with what they print. That each prints exactly this is `texts-right` in proofs/Texts.antt.
 -- Definitions only.
-use mathlib.Core.Path.{_≡_}
-use mathlib.Core.List.{List, [], _∷_, flatMap}
-use Prim.Native.Nat.{ℕ}
+use Rattle.lists.specs.Kit.{_≡_, List, [], _∷_, flatMap, ℕ}
 use Prim.Native.String.{String}
 use Rattle.text.specs.Text.{bytes-of}
 use Rattle.player.specs.Whole.{Run-prints}

@@ -3,17 +3,11 @@
 --   start n            where the run stands after the first line
 --   Run-prints input   what a whole run prints
 -- That the bytes taken one by one print exactly this is proved in proofs/WholeLaws.antt. Definitions only.
-use mathlib.Core.Path.{_≡_}
-use mathlib.Core.Bool.{Bool, true, false}
-use mathlib.Core.List.{List, [], _∷_, _++_}
-use Prim.Native.Nat.{ℕ, zero, suc, _+_}
-use lib.ListN.{replicate}
+use Rattle.lists.specs.Kit.{_≡_, Bool, true, false, List, [], _∷_, _++_, ℕ, zero, suc, _+_, replicate}
 use Rattle.mesh.specs.Tables.{Tables}
 use Rattle.calls.specs.Replay.{bad-line, closing-lines}
 use Rattle.script.specs.Lines.{line-of}
-use Rattle.player.specs.Lines.{is-call, Played}
-use Rattle.player.specs.Machine.{Spot}
-use Rattle.player.specs.Play.{radios-of, lines-of, front, rest, cleared}
+use Rattle.player.specs.{Lines.{is-call, Played}, Machine.{Spot}, Play.{radios-of, lines-of, front, rest, cleared}}
 
 -- a line that is a call, and then others of which R holds
 pub record Line-then (n : ℕ) (line : List ℕ) (t : Tables) (w text : List ℕ) (R : Tables → List ℕ → List ℕ → Type 0)

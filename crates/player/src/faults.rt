@@ -1,6 +1,5 @@
 // What goes wrong in a run, as one line on the error descriptor: the program's name, and what in words.
-ghost use mathlib.Core.List.{_++_};
-ghost use Prim.Native.Nat.{_≤_};
+ghost use Rattle.lists.specs.Kit.{_++_, _≤_};
 ghost use Rattle.text.specs.Text.{bytes-of};
 ghost use Rattle.text.specs.Print.{buffer-at, Puts};
 ghost use Rattle.player.specs.Reads.{unread-words};

@@ -1,6 +1,5 @@
 // The first line: `radios N`. It is read byte by byte, so that nothing of the lines after it is read with it.
-ghost use mathlib.Core.Path.{_≡_};
-ghost use Prim.Native.Nat.{_≤_};
+ghost use Rattle.lists.specs.Kit.{_≡_, _≤_};
 ghost use Rattle.mesh.specs.Limits.{max-radios};
 ghost use Rattle.player.specs.Play.{radios-of};
 ghost use Rattle.player.specs.Reading.{Reads-first};

@@ -1,10 +1,8 @@
 // The input of a run, for all programs: what a read finds, and a front filled by reads. A failed read is told from the end of the input, and
 // an interrupted one goes on.
-ghost use mathlib.Core.Path.{_≡_};
-ghost use mathlib.Core.Bool.{false};
-ghost use Prim.Native.Nat.{_≤_, min};
-ghost use lib.ListN.{length};
+ghost use Rattle.lists.specs.Kit.{_≡_, false, _≤_, min, length};
 ghost use Rattle.io.specs.Counts.{Counts};
+ghost use Rattle.player.specs.Words.{standard-ends};
 ghost use Rattle.player.specs.Reads.{most-reads, goes-on, failure, found, Found, Fills-on, Fills};
 
 // What `--version` prints.
@@ -15,6 +13,22 @@ pub struct Ends {
     pub input: i32,
     pub output: i32,
     pub errors: i32,
+}
+
+// A program's own descriptors.
+pub fn standard() -> Ends
+    ensures { λ r. ⌜ r ≡ standard-ends ⌝ }
+{
+    Ends {
+        input: libc::STDIN_FILENO,
+        output: libc::STDOUT_FILENO,
+        errors: libc::STDERR_FILENO,
+    }
+}
+
+// Whether the descriptor is a terminal.
+pub fn is_terminal(fd: i32) -> bool {
+    libc::isatty(fd) == 1
 }
 
 // What a read brought: how many bytes, and what it found.

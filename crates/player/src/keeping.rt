@@ -1,21 +1,21 @@
 // The keep: a file without a name, in which answers wait until the input is read to its end. A short run needs none.
-ghost use mathlib.Core.Path.{_≡_};
-ghost use mathlib.Core.Bool.{true};
+ghost use Rattle.lists.specs.Kit.{_≡_, true};
 ghost use lib.Signed.{nonNeg};
-ghost use Rattle.player.specs.Reading.{Copies-once, Copied};
+ghost use Rattle.player.specs.Reading.{is-keep, Copies-once, Copied};
 use super::input;
 
 // The largest descriptor of a program's own input, output and errors.
 const OWN: i32 = 2;
 
-// A new keep; negative where there is none.
-pub fn new() -> i32 {
-    let mut name = *b"/tmp/replay-XXXXXX";
-    let fd = os::create_temp(&mut name);
+// A new keep, whose file has this name, with other letters for XXXXXX, until it is open; negative where there is none.
+pub fn new(name: &mut [u8]) -> i32
+    ensures { λ r. ⌜ is-keep r ≡ true ⌝ }
+{
+    let fd = os::create_temp(name);
     if fd < 0 {
         return fd;
     }
-    os::unlink(&name);
+    os::unlink(name);
     if fd <= OWN {
         libc::close(fd);
         return -1;

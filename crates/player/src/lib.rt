@@ -1,7 +1,7 @@
 // The replay program as a library: reads a descriptor to its end, plays its lines on a site of its own, and then prints what each
 // line says. A line of another form ends the run with `bad L`. What cannot be read, kept or written is one line on the error descriptor. The
 // status is 0 where all was read, played and written, and else 1.
-ghost use Prim.Native.Nat.{_≤_, _<_};
+ghost use Rattle.lists.specs.Kit.{_≤_, _<_};
 ghost use Rattle.mesh.specs.Limits.{max-radios};
 ghost use Rattle.mesh.specs.Tables.{tables};
 ghost use Rattle.player.specs.Reading.{Site-lent, Lines-status, Run-status};
@@ -9,19 +9,15 @@ ghost use Rattle.player.specs.Reading.{Site-lent, Lines-status, Run-stat
 pub mod faults;
 mod first;
 pub mod input;
-mod keeping;
+pub mod keeping;
 mod machine;
 mod play;
 mod reading;
-mod words;
+pub mod words;
 
 pub use first::radios_of;
 use input::Ends;
 use mesh::Site;
-pub use words::Start;
-pub use words::run_words;
-pub use words::started;
-pub use words::tell;
 
 // The bytes of a site's largest links table.
 const LINKS_BYTES: usize = Site::ROW_BYTES * Site::RADIOS as usize;
@@ -68,20 +64,9 @@ fn run_site(ends: Ends, keep: i32, most: usize, n: u32) -> u32
     )
 }
 
-// The same with a keep of its own.
-fn run_kept(ends: Ends, most: usize, n: u32) -> u32
-    requires some { ⌜ 0 < n ⌝ }
-    requires few { ⌜ n ≤ max-radios ⌝ }
-    ensures { λ r. ⌜ Lines-status n r ⌝ }
-{
-    let keep = keeping::new();
-    let status = run_site(ends, keep, most, n);
-    libc::close(keep);
-    status
-}
-
-// Plays what the input holds, to its end: the status. After the first line each read asks for at most `most` bytes.
-pub fn run(ends: Ends, most: usize) -> u32
+// Plays what the input holds, to its end: the status. After the first line each read asks for at most `most` bytes; long answers wait in
+// the keep.
+pub fn run_kept(ends: Ends, keep: i32, most: usize) -> u32
     ensures { λ r. ⌜ Run-status r ⌝ }
 {
     let first = first::read_first(ends.input);
@@ -91,5 +76,26 @@ pub fn run(ends: Ends, most: usize) -> u32
     if first.n == 0 {
         return reading::print_bad(ends);
     }
-    run_kept(ends, most, first.n)
+    run_site(ends, keep, most, first.n)
+}
+
+// The same with a keep of its own.
+pub fn run(ends: Ends, most: usize) -> u32
+    ensures { λ r. ⌜ Run-status r ⌝ }
+{
+    let mut name = *b"/tmp/replay-XXXXXX";
+    let keep = keeping::new(&mut name);
+    let status = run_kept(ends, keep, most);
+    libc::close(keep);
+    status
+}
+
+// Runs the program with the words and descriptors that it is started with, and tells its status.
+pub fn start() {
+    let started = words::started();
+    let mut word = [0u8; words::WORD_BYTES];
+    let bytes = words::word_at(started.at, &mut word);
+    let count = std::num::wrapping_sub_usize(os::arg_count(), started.at);
+    let status = words::run_words(input::standard(), count, &word[..bytes]);
+    words::tell(started.told, status);
 }

@@ -1,10 +1,6 @@
 // The lines after the first, taken byte by byte from what was read: held to their line feeds, played, and printed into a buffer.
 // Nothing is read or written here.
-ghost use mathlib.Core.Path.{_≡_};
-ghost use mathlib.Core.Bool.{false, cond};
-ghost use Prim.Native.Nat.{_<_, min};
-ghost use lib.Dec.{eqb};
-ghost use lib.ListN.{length, take};
+ghost use Rattle.lists.specs.Kit.{_≡_, false, cond, _<_, min, eqb, length, take};
 ghost use Rattle.mesh.specs.Lent.{lent};
 ghost use Rattle.text.specs.Print.{buffer-at, Puts, max-place};
 ghost use Rattle.player.specs.Lines.{Prints};

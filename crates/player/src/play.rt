@@ -1,5 +1,5 @@
 // One line after the first, played on the site's tables.
-ghost use mathlib.Core.Path.{_≡_};
+ghost use Rattle.lists.specs.Kit.{_≡_};
 ghost use Rattle.script.specs.Lines.{line-of};
 ghost use Rattle.mesh.specs.Lent.{lent};
 ghost use Rattle.text.specs.Print.{buffer-at};

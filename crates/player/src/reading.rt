@@ -1,15 +1,12 @@
 // The lines after the first: read by chunks, taken, and kept until the end of the input through a buffer. A contract that cites `Reading`
 // says what is taken from the bytes that a read brought, and what of it was handed to a write; that reads and writes hand them on is
 // executed.
-ghost use mathlib.Core.Path.{_≡_};
-ghost use mathlib.Core.Bool.{true};
-ghost use Prim.Native.Nat.{_≤_, _<_};
-ghost use lib.ListN.{length};
+ghost use Rattle.lists.specs.Kit.{_≡_, true, _≤_, _<_, length};
 ghost use Rattle.mesh.specs.Tables.{tables};
 ghost use Rattle.mesh.specs.Lent.{lent};
 ghost use Rattle.text.specs.Print.{buffer-at};
 ghost use Rattle.player.specs.Machine.{spot, line-room, full, Marked};
-ghost use Rattle.player.specs.Reading.{chunk-room, out-room, Room-made, broken-off, Ready, Site-cleared, Site-sized};
+ghost use Rattle.player.specs.Reading.{chunk-room, out-room, kept-fault, Room-made, broken-off, Ready, Site-cleared, Site-sized};
 ghost use Rattle.player.specs.Reading.{Takes-chunk, Found-by, Takes-read, Reads-once, Reads-all, Concluded, Lines-status};
 use super::faults;
 use super::input;
@@ -36,7 +33,7 @@ fn flush(fd: i32, out: &[u8], at: usize) -> bool {
 
 // What is wrong after a full buffer was kept, or was not.
 fn kept_fault(kept: bool, fault: u32) -> u32
-    ensures { λ r. ⌜ (r ≡ 0 → fault ≡ 0) ⌝ }
+    ensures { λ r. ⌜ r ≡ kept-fault kept fault ⌝ }
 {
     if kept {
         return fault;

@@ -1,15 +1,15 @@
 // The words of the replay program: it takes none, but for two that ask what it is. Also how a program is started, `site` too: with
 // `--status D` before its words it writes its status to descriptor D.
-ghost use mathlib.Core.Path.{_≡_};
-ghost use Prim.Native.Nat.{_≤_};
+ghost use Rattle.lists.specs.Kit.{_≡_, _≤_, length};
+ghost use Rattle.io.specs.Counts.{Counts};
 ghost use Rattle.player.specs.Reading.{Run-status};
-ghost use Rattle.player.specs.Words.{descriptor-of, start-of};
+ghost use Rattle.player.specs.Words.{longest-word, descriptor-of, start-of};
 use super::faults;
 use super::input;
 use super::input::Ends;
 
 // The longest word that is read; a longer one counts as empty, which no word of a program is.
-const WORD_BYTES: usize = 32;
+pub const WORD_BYTES: usize = 32;
 
 // Where the program's own words begin, and the descriptor that its status goes to; negative for none.
 pub struct Start {
@@ -47,12 +47,20 @@ fn start_of(first: &[u8], second: &[u8]) -> Start
     Start { at: 1, told: -1 }
 }
 
+// The word of the command at this place, in front of a buffer that has room for every word that means something: its length.
+pub fn word_at(at: usize, buffer: &mut [u8]) -> usize
+    requires { ⌜ longest-word ≤ length (now buffer) ⌝ }
+    ensures { λ r. ⌜ Counts r (now (buffer .exit)) ⌝ }
+{
+    os::arg(at, buffer)
+}
+
 // How the program is started.
 pub fn started() -> Start {
     let mut first = [0u8; WORD_BYTES];
     let mut second = [0u8; WORD_BYTES];
-    let first_bytes = os::arg(1, &mut first);
-    let second_bytes = os::arg(2, &mut second);
+    let first_bytes = word_at(1, &mut first);
+    let second_bytes = word_at(2, &mut second);
     start_of(&first[..first_bytes], &second[..second_bytes])
 }
 

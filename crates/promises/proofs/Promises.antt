@@ -1,53 +1,31 @@
 -- The promises of the engine, proved: `promises`, the statement of specs/Statement.antt over the routines of the exported calls.
-use mathlib.Core.Path.{_≡_, sym, ap}
-use Prim.Native.Nat.{ℕ, _*_, _≤_}
-use native.Mathlib.Omega.{arith}
-use mathlib.Core.List.{List}
-use lib.ListN.{length}
+use Rattle.lists.specs.Kit.{_≡_, sym, ap, ℕ, _*_, _≤_, arith, List, length}
 use mir.Val.{Val}
 use prog.Memory.{Memory}
 use Rattle.machine.proofs.Made.{made-ready, ran-one}
-use Rattle.hosts.specs.Public.{call}
-use Rattle.hosts.proofs.Hosts.{hosts-demand, standing-demand}
-use Rattle.hosts.proofs.Made.{hosts-exist}
-use Rattle.mesh.specs.Limits.{max-neighbours}
-use Rattle.mesh.specs.Tables.{Tables, graph-in}
-use Rattle.mesh.specs.Sound.{sound}
-use Rattle.mesh.specs.Image.{block-bytes, image-of}
-use Rattle.mesh.proofs.Tables.DegreeSum.{block-count-most}
-use Rattle.mesh.proofs.Images.Tables.{valid-graph-in}
-use Rattle.mesh.proofs.Cores.Peeling.{number-core, number-unique}
-use Rattle.mesh.proofs.Trees.Listed.{backbone-one-part}
-use Rattle.mesh.proofs.Images.OtherSize.{other-size-iff}
-use Rattle.mesh.proofs.Marks.Rules.{store-good-iff}
-use Rattle.calls.specs.Questions.{lengths-of, image-length, write-refusal}
-use Rattle.calls.specs.Outcomes.{write-outcome}
-use Rattle.calls.proofs.ChainLaws.{write-zero}
-use Rattle.calls.proofs.Refusals.{value-keeps, listing-keeps, store-keeps, clear-keeps, read-keeps, return-keeps, link-keeps, commit-keeps}
-use Rattle.calls.proofs.Refusals.{hear-keeps, later-keeps, lift-keeps, ask-keeps, tree-keeps, block-keeps}
-use Rattle.calls.proofs.Accepted.{check-right, link-right, number-right, later-right, core-right, backbone-right, tree-right-listed, write-right}
-use Rattle.calls.proofs.Accepted.{listing-is, ask-right, commit-right, read-what-was-written, read-right, block-right, sheet-right}
-use Rattle.calls.proofs.Batches.{batch-keeps, batch-right, batch-single}
-use Rattle.calls.proofs.HeardCalls.{hear-right}
-use Rattle.calls.proofs.ScriptLaws.{script-right, script-beforehand}
-use Rattle.calls.proofs.Proposals.{two-steps, refused-step, commit-iff, commit-number}
-use Rattle.calls.proofs.ImageNumbers.{eleven-iff, read-eleven}
-use Rattle.calls.proofs.MarkCalls.{set-right, removed-right, other-marks, return-right, return-restores}
-use Rattle.calls.proofs.Older.{older}
-use Rattle.calls.proofs.WholeList.{demand-3}
-use Rattle.calls.proofs.Exactly.{exactly-listed}
-use Rattle.calls.proofs.HistoryRestored.{restored-list}
-use Rattle.walks.proofs.Kept.{link-begins, commit-begins}
-use Rattle.walks.proofs.Each.{batch-begins, hear-begins}
+use Rattle.hosts.{specs.Public.{call}, proofs.Hosts.{hosts-demand, standing-demand}, proofs.Made.{hosts-exist}}
+use Rattle.mesh.{specs.Limits.{max-neighbours}, specs.Tables.{Tables, graph-in}, specs.Sound.{sound}, specs.Image.{block-bytes, image-of}}
+use Rattle.mesh.{proofs.Tables.DegreeSum.{block-count-most}, proofs.Images.Tables.{valid-graph-in}, proofs.Cores.Peeling.{number-core, number-unique}}
+use Rattle.mesh.{proofs.Trees.Listed.{backbone-one-part}, proofs.Images.OtherSize.{other-size-iff}, proofs.Marks.Rules.{store-good-iff}}
+use Rattle.calls.{specs.Questions.{lengths-of, image-length}, specs.Outcomes.{write-outcome}, proofs.ChainLaws.{write-zero}}
+use Rattle.calls.{proofs.Refusals.{value-keeps, listing-keeps, store-keeps, clear-keeps, read-keeps, return-keeps, link-keeps, commit-keeps, hear-keeps}}
+use Rattle.calls.{proofs.Refusals.{later-keeps, lift-keeps, ask-keeps, tree-keeps, block-keeps}, proofs.Accepted.{check-right, link-right, number-right}}
+use Rattle.calls.{proofs.Accepted.{later-right, core-right, backbone-right, tree-right-listed, write-right, listing-is, ask-right, commit-right}}
+use Rattle.calls.{proofs.Accepted.{read-what-was-written, read-right, block-right, sheet-right}, proofs.Batches.{batch-keeps, batch-right, batch-single}}
+use Rattle.calls.{proofs.HeardCalls.{hear-right}, proofs.ScriptLaws.{script-right, script-beforehand}, proofs.Proposals.{two-steps, refused-step, commit-iff}}
+use Rattle.calls.{proofs.Proposals.{commit-number}, proofs.ImageNumbers.{eleven-iff, read-eleven}, proofs.MarkCalls.{set-right, removed-right, other-marks}}
+use Rattle.calls.{proofs.MarkCalls.{return-right, return-restores}, proofs.Older.{older}, proofs.WholeList.{demand-3}, proofs.Exactly.{exactly-listed}}
+use Rattle.calls.{proofs.HistoryRestored.{restored-list}}
+use Rattle.walks.proofs.{Kept.{link-begins, commit-begins}, Each.{batch-begins, hear-begins}}
 use Rattle.forests.proofs.Tree.{staircase-right}
 use Rattle.lifting.proofs.Answers.{lift-core, lift-right, lift-none}
-use Rattle.hubs.proofs.Confluence.{confluence, calls-agree}
-use Rattle.hubs.proofs.Differ.{orders-differ, images-differ}
+use Rattle.hubs.proofs.{Confluence.{confluence, calls-agree}, Differ.{orders-differ, images-differ}}
 use Rattle.playback.proofs.ScriptPlays.{written-plays}
 use Rattle.block_reader.proofs.Runs.{part-stands}
 use Rattle.summerbugle.proofs.Runs.{routines, runs}
 use Rattle.promises.specs.Statement.{Refusals, Property-1, Property-2, Property-3, Statement}
 use Rattle.promises.specs.Statement as statement
+use Rattle.calls.specs.Chains.{write-refusal}
 
 -- W-208: every image of sound tables has at most 86 blocks
 blocks-most :

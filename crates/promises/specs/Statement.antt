@@ -6,59 +6,33 @@
 --   Property-3       demand 3, undivided, over lists of calls and over a host's list of calls on one memory
 --   W-201 .. W-214   what each request of document 02 asks for
 -- Definitions only.
-use mathlib.Core.Path.{_≡_}
-use mathlib.Core.Logic.{_↔_, _⊎_}
-use mathlib.Core.Bool.{Bool, true, false}
-use mathlib.Core.List.{List, [], _∷_, _++_}
-use Prim.Native.Nat.{ℕ, _+_, _*_, _≤_, _<_}
-use lib.IntN.{ℤ, pos}
-use lib.ListN.{length, take, drop}
+use Rattle.lists.specs.{Kit.{_≡_, _↔_, _⊎_, Bool, true, false, List, [], _∷_, _++_, ℕ, _+_, _*_, _≤_, _<_, ℤ, pos, length, take, drop}, Lists.{member, same}}
+use Rattle.lists.specs.{Lists.{Entries-below}}
 use mir.Val.{Val}
-use prog.Memory.{Memory}
-use prog.Machine.{done}
-use prog.Routine.{Routine}
-use Rattle.machine.specs.Cells.{Param, Place, place, entries, Input, Inputs, Stands, span, Ready, Ran, Runs, passed, outcome-of}
-use Rattle.machine.specs.Made.{Fitting, blocks, placed}
-use Rattle.hosts.specs.Public.{Public, reader-step, bytes, a-reader, call}
-use Rattle.hosts.specs.Hosts.{Hosts-demand, Standing-demand}
-use Rattle.hosts.specs.Made.{Hosts-exist}
-use Rattle.lists.specs.Lists.{member, same, Entries-below}
-use Rattle.mesh.specs.Limits.{max-radios}
-use Rattle.mesh.specs.Graph.{Link, link-of, Graph, graph}
-use Rattle.mesh.specs.Cores.{Core, number}
-use Rattle.mesh.specs.Tables.{Tables, graph-in}
-use Rattle.mesh.specs.Connected.{In-core}
-use Rattle.mesh.specs.Connected as connected
-use Rattle.mesh.specs.Image.{whole-blocks, checks-good, Other-size, Image-of-none}
-use Rattle.mesh.specs.Image as images
-use Rattle.mesh.specs.Marks.{store-bytes, is-store, Store-rules}
-use Rattle.mesh.specs.Sound.{sound}
-use Rattle.mesh.specs.declared.Node.{Node}
-use Rattle.calls.specs.Questions.{lengths-of, size-good, site-lengths, image-refusal, radio-refusal}
-use Rattle.calls.specs.Batches.{batch-refusal, batch-switches}
-use Rattle.calls.specs.Heard.{hear-refusal, heard-switches}
-use Rattle.calls.specs.Marks.{mark-image}
-use Rattle.calls.specs.Lift.{lifts}
-use Rattle.calls.specs.Outcomes.{reply, value, later, numbered, linked-with, asked, committed-with, batched, heard-with, listing, treed}
-use Rattle.calls.specs.Outcomes.{clear-outcome, read-outcome, link-outcome, ask-outcome, commit-outcome, batch-outcome, hear-outcome}
-use Rattle.calls.specs.Outcomes.{check-outcome, number-outcome, later-outcome, core-outcome}
-use Rattle.calls.specs.Outcomes.{value-outcome, listing-outcome, backbone-outcome}
-use Rattle.calls.specs.Outcomes.{staircase-outcome, write-outcome, sheet-outcome, script-length-outcome, script-outcome, tree-outcome, no-block}
-use Rattle.calls.specs.Outcomes.{block-outcome}
-use Rattle.calls.specs.MarkOutcomes.{stored, store-outcome, set-outcome, remove-outcome, return-outcome}
-use Rattle.calls.specs.LiftOutcome.{pair, lift-outcome}
-use Rattle.calls.specs.Results.{Batch-stopped, Batch-single, Site-right, Link-right, Later-right, Core-listed, Backbone-listed, Tree-listed, Written-right}
-use Rattle.calls.specs.Results.{Read-right, Block-part, Block-end, Script-right, Script-beforehand, Hear-right, Image-answered, Sheet-right, Staircase-listed}
-use Rattle.calls.specs.Results.{Ask-right, Commit-right, Batch-right}
-use Rattle.calls.specs.MarkResults.{Set-right, Removed-right, Same-mark}
-use Rattle.calls.specs.Older.{Older}
-use Rattle.calls.specs.Book.{Call, linking, setting, returning, book-after, past-of, history, all-leave}
-use Rattle.calls.specs.Runs.{events, after, givens}
-use Rattle.calls.specs.Demand.{Start, beginning, Demand-3}
+use prog.{Memory.{Memory}, Machine.{done}, Routine.{Routine}}
+use Rattle.machine.specs.{Cells.{Param, place, entries, Input, Inputs, Stands, span, Ready, Ran, Runs, passed, outcome-of}, Made.{Fitting, blocks, placed}}
+use Rattle.hosts.specs.{Public.{Public, reader-step, bytes, a-reader, call}, Hosts.{Hosts-demand, Standing-demand}, Made.{Hosts-exist}}
+use Rattle.mesh.specs.{Limits.{max-radios}, Graph.{Link, link-of, Graph, graph}, Cores.{Core, number}, Tables.{Tables, graph-in}, Connected.{In-core}}
+use Rattle.mesh.specs.{Connected.{In-backbone}}
+use Rattle.mesh.specs.{Image.{whole-blocks, checks-good, Other-size, Image-of-none}, Marks.{store-bytes, is-store, Store-rules}, Sound.{sound}}
+use Rattle.mesh.specs.{declared.Node.{Node}}
+use Rattle.calls.specs.{Questions.{lengths-of, size-good, site-lengths, image-refusal, radio-refusal}, Batches.{batch-refusal, batch-switches}}
+use Rattle.calls.specs.{Heard.{hear-refusal, heard-switches}, Marks.{mark-image}, Lift.{lifts}, Outcomes.{reply, value, later}}
+use Rattle.calls.specs.{Outcomes.{tabled, linked-with, listing, clear-outcome, read-outcome, link-outcome, ask-outcome, commit-outcome}}
+use Rattle.calls.specs.{Outcomes.{batch-outcome, hear-outcome, check-outcome, number-outcome, later-outcome, core-outcome, value-outcome, listing-outcome}}
+use Rattle.calls.specs.{Outcomes.{backbone-outcome, staircase-outcome, write-outcome, sheet-outcome, script-length-outcome, script-outcome, tree-outcome}}
+use Rattle.calls.specs.{Outcomes.{no-block, block-outcome}, MarkOutcomes.{store-outcome, set-outcome, remove-outcome, return-outcome}}
+use Rattle.calls.specs.{LiftOutcome.{pair, lift-outcome}, Results.{Batch-stopped, Batch-single, Site-right, Link-right, Later-right}}
+use Rattle.calls.specs.{Results.{Radios-listed, Tree-listed, Written-right, Read-right, Block-part, Block-end, Script-right, Script-beforehand, Hear-right}}
+use Rattle.calls.specs.{Results.{Image-answered, Sheet-right, Staircase-listed, Ask-right, Commit-right, Batch-right}, MarkResults.{Set-right, Removed-right}}
+use Rattle.calls.specs.{MarkResults.{Same-mark}, Older.{Older}, Book.{Call, linking, setting, returning, book-after, past-of, history, all-leave}}
+use Rattle.calls.specs.{Runs.{events, after, givens}, Demand.{Start, beginning, Demand-3}}
 use Rattle.walks.specs.Results.{Beginning-kept, Each-begins}
 use Rattle.lifting.specs.Results.{No-lift, Raises, Lift-right}
 use Rattle.hubs.specs.Hubs.{Two-hubs, Equal-sites, Equal-answers}
 use Rattle.playback.specs.Back.{Plays-back}
+use Rattle.mesh.specs.Connected as connected
+use Rattle.mesh.specs.Image as images
 
 -- ---- property 1
 
@@ -70,31 +44,31 @@ pub record Refusals : Type 0 where
   pub listings :
       (R x : ℕ) (new old : List ℕ) → let o = listing-outcome R x new old in
       (o .reply .number ≡ 0 → ⊥) → o ≡ listing (value (o .reply .number) 0) old
-  pub stores : (R : ℕ) (new old : List ℕ) → let o = store-outcome R new old in (o .reply ≡ 0 → ⊥) → o ≡ stored (o .reply) old
-  pub clear : (n : ℕ) (t : Tables) → let o = clear-outcome n t in (o .reply ≡ 0 → ⊥) → o ≡ numbered (o .reply) t
-  pub image-read : (n : ℕ) (bs : List ℕ) (t : Tables) → let o = read-outcome n bs t in (o .reply ≡ 0 → ⊥) → o ≡ numbered (o .reply) t
+  pub stores : (R : ℕ) (new old : List ℕ) → let o = store-outcome R new old in (o .reply ≡ 0 → ⊥) → o ≡ listing (o .reply) old
+  pub clear : (n : ℕ) (t : Tables) → let o = clear-outcome n t in (o .reply ≡ 0 → ⊥) → o ≡ tabled (o .reply) t
+  pub image-read : (n : ℕ) (bs : List ℕ) (t : Tables) → let o = read-outcome n bs t in (o .reply ≡ 0 → ⊥) → o ≡ tabled (o .reply) t
   pub link :
       (up : Bool) (n a b : ℕ) (t : Tables) (w : List ℕ) → let o = link-outcome up n a b t w in
       (o .reply .number ≡ 0 → ⊥) → o ≡ linked-with (reply (o .reply .number) (pos 0) 0) t w
   pub ask :
       (up : Bool) (n a b : ℕ) (t : Tables) (w : List ℕ) → let o = ask-outcome up n a b t w in
-      (o .reply .number ≡ 0 → ⊥) → o ≡ asked (reply (o .reply .number) (pos 0) 0) w
+      (o .reply .number ≡ 0 → ⊥) → o ≡ listing (reply (o .reply .number) (pos 0) 0) w
   pub commit :
       (up : Bool) (n a b : ℕ) (z : ℤ) (xs : List ℕ) (t : Tables) → let o = commit-outcome up n a b z xs t in
-      (o .reply .number ≡ 0 → ⊥) → o ≡ committed-with (reply (o .reply .number) (pos 0) 0) t
+      (o .reply .number ≡ 0 → ⊥) → o ≡ tabled (reply (o .reply .number) (pos 0) 0) t
   -- the only refusal beside which a change and a count stand
   pub link-batch :
       (n : ℕ) (xs : List ℕ) (t : Tables) → let o = batch-outcome n xs t in
-      (o .reply .number ≡ 0 → ⊥) → (o ≡ batched (value (o .reply .number) 0) t) ⊎ Batch-stopped n xs t (o .reply) (o .tables)
+      (o .reply .number ≡ 0 → ⊥) → (o ≡ tabled (value (o .reply .number) 0) t) ⊎ Batch-stopped n xs t (o .reply) (o .tables)
   pub hear :
       (n : ℕ) (hs : List ℕ) (t : Tables) (w : List ℕ) → let o = hear-outcome n hs t w in
-      (o .reply .number ≡ 0 → ⊥) → o ≡ heard-with (value (o .reply .number) 0) t w
+      (o .reply .number ≡ 0 → ⊥) → o ≡ linked-with (value (o .reply .number) 0) t w
   pub later-of : (n v : ℕ) (t : Tables) → let o = later-outcome n v t in (o .number ≡ 0 → ⊥) → o ≡ later (o .number) 0 0
   pub lift : (n v : ℕ) (t : Tables) → let o = lift-outcome n v t in (o .number ≡ 0 → ⊥) → o ≡ pair (o .number) 0 0
   pub tree :
       (n : ℕ) (t : Tables) (m : List Node) (w : List ℕ) → let o = tree-outcome n t m w in
-      (o .reply .number ≡ 0 → ⊥) → o ≡ treed (value (o .reply .number) 0) m w
-  pub mark-return : (n : ℕ) (x bs : List ℕ) (t : Tables) → let o = return-outcome n x bs t in (o .reply ≡ 0 → ⊥) → o ≡ numbered (o .reply) t
+      (o .reply .number ≡ 0 → ⊥) → o ≡ listing (value (o .reply .number) 0) (m, w)
+  pub mark-return : (n : ℕ) (x bs : List ℕ) (t : Tables) → let o = return-outcome n x bs t in (o .reply ≡ 0 → ⊥) → o ≡ tabled (o .reply) t
   -- and a step of the reader, which is this outcome beside the image's place
   pub image-block : (bs : List ℕ) (i : ℕ) → let o = block-outcome bs i in (o .number ≡ 0 → ⊥) → o ≡ no-block (o .number) 0 i
 
@@ -124,16 +98,16 @@ pub record Property-2 : Type 0 where
   -- after a link came up or went down
   pub link :
       (up : Bool) (n a b : ℕ) (t : Tables) (w : List ℕ) → let o = link-outcome up n a b t w in
-      o .reply .number ≡ 0 → Link-right up n a b t (o .tables) (o .reply .count) w (o .answer)
+      o .reply .number ≡ 0 → Link-right up n a b t (o .tables) (o .reply .count) w (o .lent)
   -- the check's value is 1 exactly for proper rows, core numbers and a k-order
   pub check : (n : ℕ) (t : Tables) → let o = check-outcome n t in o .number ≡ 0 → (o .value ≡ 1) ↔ Site-right n t
   pub number : (n v : ℕ) (t : Tables) → let o = number-outcome n v t in o .number ≡ 0 → Core (graph-in n (t .links)) v (o .value)
   pub core :
       (n v k : ℕ) (t : Tables) (w : List ℕ) → let o = core-outcome n v k t w in
-      o .reply .number ≡ 0 → Core-listed (graph-in n (t .links)) v k (o .reply .value) w (o .lent)
+      o .reply .number ≡ 0 → Radios-listed (In-core (graph-in n (t .links)) v k) (o .reply .value) w (o .lent)
   pub tree :
       (n : ℕ) (t : Tables) (m : List Node) (w : List ℕ) → let o = tree-outcome n t m w in
-      o .reply .number ≡ 0 → Tree-listed (graph-in n (t .links)) (o .reply .value) m (o .nodes) w (o .answer)
+      o .reply .number ≡ 0 → Tree-listed (graph-in n (t .links)) (o .reply .value) m (o .lent .0) w (o .lent .1)
   -- what is written is the image of sound tables, and reading it gives the same tables. That their links are bytes is all that is asked:
   -- a table of 8-bit entries is, but a list of numbers that an outcome speaks of need not be
   pub image-written :
@@ -141,7 +115,7 @@ pub record Property-2 : Type 0 where
       o .reply .number ≡ 0 → Written-right n t (o .reply .value) w (o .lent)
   pub image-read-back :
       (n : ℕ) (t : Tables) (w : List ℕ) → let o = write-outcome n t w in o .reply .number ≡ 0 → Entries-below 256 (t .links) →
-      (u : Tables) → lengths-of u ≡ lengths-of t → read-outcome n (take (o .reply .value) (o .lent)) u ≡ numbered 0 t
+      (u : Tables) → lengths-of u ≡ lengths-of t → read-outcome n (take (o .reply .value) (o .lent)) u ≡ tabled 0 t
   -- the tables of an accepted image
   pub image-read : (n : ℕ) (bs : List ℕ) (t : Tables) → let o = read-outcome n bs t in o .reply ≡ 0 → Read-right n bs (o .tables)
   -- a step of the block reader gives the 504 bytes of payload, or the end
@@ -164,7 +138,7 @@ pub record Property-3 (ρ : Public → Routine) : Type 0 where
       let o = link-outcome up m a b (after cs s) w in o .reply .number ≡ 0 → (x j k : ℕ) → x < n →
       Core (graph n (book-after (givens (events cs s)) ps)) x j →
       Core (graph n (book-after (givens (events (cs ++ (linking up m a b (length w) ∷ [])) s)) ps)) x k →
-      (member x (take (o .reply .count) (o .answer)) ≡ true) ↔ (j ≡ k → ⊥)
+      (member x (take (o .reply .count) (o .lent)) ≡ true) ↔ (j ≡ k → ⊥)
 
 -- ---- document 02, W-201: the page has the site sheet in front, column by column, with each radio's core number
 
@@ -177,7 +151,7 @@ pub record W-201 : Type 0 where
 pub record W-202 : Type 0 where
   pub backbone :
       (n : ℕ) (t : Tables) (w : List ℕ) → let o = backbone-outcome n t w in
-      o .reply .number ≡ 0 → Backbone-listed (graph-in n (t .links)) (o .reply .value) w (o .lent)
+      o .reply .number ≡ 0 → Radios-listed (In-backbone (graph-in n (t .links))) (o .reply .value) w (o .lent)
   -- in a site of one connected part it is document 01's, by the greatest number of the site
   pub one-part :
       (g : Graph) → ((v w : ℕ) → v < g .n → w < g .n → In-core g v 0 w) → connected.backbone g ≡ connected.site-backbone g
@@ -203,7 +177,7 @@ pub record W-203 : Type 0 where
 pub record W-205 : Type 0 where
   pub hear :
       (n : ℕ) (hs : List ℕ) (t : Tables) (w : List ℕ) → hear-refusal n (lengths-of t) hs (length w) (sound n t) ≡ 0 →
-      let o = hear-outcome n hs t w in Hear-right n hs t (o .tables) (o .reply) (o .one-sided)
+      let o = hear-outcome n hs t w in Hear-right n hs t (o .tables) (o .reply) (o .lent)
 
 -- ---- document 02, W-206: the first of the later neighbours is one, and there is none between; nobody exactly when there are none
 
@@ -248,24 +222,24 @@ pub record W-210 : Type 0 where
   -- asking lists exactly the radios whose core number the link would change
   pub ask :
       (up : Bool) (n a b : ℕ) (t : Tables) (w : List ℕ) → let o = ask-outcome up n a b t w in
-      o .reply .number ≡ 0 → Ask-right up a b (graph-in n (t .links)) (o .reply .count) w (o .answer)
+      o .reply .number ≡ 0 → Ask-right up a b (graph-in n (t .links)) (o .reply .count) w (o .lent)
   pub commit :
       (up : Bool) (n a b : ℕ) (z : ℤ) (xs : List ℕ) (t : Tables) → let o = commit-outcome up n a b z xs t in
       o .reply .number ≡ 0 → Commit-right up n a b t (o .tables)
   -- a single link call is asking and then, when it is accepted, committing its answer: reply, tables and answer table
   pub two-steps :
       (up : Bool) (n a b : ℕ) (t : Tables) (w : List ℕ) → let q = ask-outcome up n a b t w in
-      let r = commit-outcome up n a b (q .reply .step) (take (q .reply .count) (q .answer)) t in
-      q .reply .number ≡ 0 → (r .reply ≡ q .reply) × (linked-with (r .reply) (r .tables) (q .answer) ≡ link-outcome up n a b t w)
+      let r = commit-outcome up n a b (q .reply .step) (take (q .reply .count) (q .lent)) t in
+      q .reply .number ≡ 0 → (r .reply ≡ q .reply) × (linked-with (r .reply) (r .tables) (q .lent) ≡ link-outcome up n a b t w)
   pub refused-step :
       (up : Bool) (n a b : ℕ) (t : Tables) (w : List ℕ) → let q = ask-outcome up n a b t w in
-      (q .reply .number ≡ 0 → ⊥) → linked-with (q .reply) t (q .answer) ≡ link-outcome up n a b t w
+      (q .reply .number ≡ 0 → ⊥) → linked-with (q .reply) t (q .lent) ≡ link-outcome up n a b t w
   -- any proposal, whoever made it and when: committing is accepted exactly if asking now would be, with this step and this list; else
   -- it is refused by asking's number, and by 16 where asking has none
   pub commit-iff :
       (up : Bool) (n a b : ℕ) (t : Tables) (w : List ℕ) → n ≤ length w → (z : ℤ) (xs : List ℕ) →
       let q = ask-outcome up n a b t w in let r = commit-outcome up n a b z xs t in
-      (r .reply .number ≡ 0) ↔ ((q .reply .number ≡ 0) × (z ≡ q .reply .step) × (xs ≡ take (q .reply .count) (q .answer)))
+      (r .reply .number ≡ 0) ↔ ((q .reply .number ≡ 0) × (z ≡ q .reply .step) × (xs ≡ take (q .reply .count) (q .lent)))
   pub commit-number :
       (up : Bool) (n a b : ℕ) (t : Tables) (w : List ℕ) → n ≤ length w → (z : ℤ) (xs : List ℕ) →
       let q = ask-outcome up n a b t w in let r = commit-outcome up n a b z xs t in
@@ -280,19 +254,19 @@ pub record W-211 : Type 0 where
   -- a mark set is the image of the tables, a mark removed is gone, and the store keeps the rules again;
   -- every other mark is the same, byte for byte, whatever the call answers
   pub mark-set :
-      (n : ℕ) (x : List ℕ) (t : Tables) (bs : List ℕ) → let o = set-outcome n x t bs in o .reply ≡ 0 → Set-right n x t bs (o .store)
+      (n : ℕ) (x : List ℕ) (t : Tables) (bs : List ℕ) → let o = set-outcome n x t bs in o .reply ≡ 0 → Set-right n x t bs (o .lent)
   pub mark-remove :
-      (n : ℕ) (x : List ℕ) (t : Tables) (bs : List ℕ) → let o = remove-outcome n x t bs in o .reply ≡ 0 → Removed-right n x bs (o .store)
+      (n : ℕ) (x : List ℕ) (t : Tables) (bs : List ℕ) → let o = remove-outcome n x t bs in o .reply ≡ 0 → Removed-right n x bs (o .lent)
   pub other-marks :
       (n : ℕ) (x : List ℕ) (t : Tables) (bs y : List ℕ) → same x y ≡ false →
-      Same-mark y bs (set-outcome n x t bs .store) × Same-mark y bs (remove-outcome n x t bs .store)
+      Same-mark y bs (set-outcome n x t bs .lent) × Same-mark y bs (remove-outcome n x t bs .lent)
   -- coming back is reading the mark's image; to a mark that is as it was set, it restores the tables of that moment
   pub mark-return :
       (n : ℕ) (x bs : List ℕ) (t : Tables) → let o = return-outcome n x bs t in o .reply ≡ 0 →
       (o ≡ read-outcome n (mark-image n x bs) t) × Read-right n (mark-image n x bs) (o .tables)
   pub return-restores :
       (n : ℕ) (x : List ℕ) (t u : Tables) (bs ds : List ℕ) → Entries-below 256 (t .links) → let o = set-outcome n x t bs in o .reply ≡ 0 →
-      Same-mark x (o .store) ds → return-outcome n x ds u .reply ≡ 0 → return-outcome n x ds u .tables ≡ t
+      Same-mark x (o .lent) ds → return-outcome n x ds u .reply ≡ 0 → return-outcome n x ds u .tables ≡ t
   -- an accepted set; calls of which none sets, replaces or removes a mark of that name and that image, whatever other stores they are lent;
   -- an accepted coming back to the image that was set: the link history, with the clearing or read image that it began from, is the one
   -- at the setting
@@ -348,7 +322,7 @@ pub record W-213 : Type 0 where
 -- arrangements. They hold equal links and numbers, and shell tree, backbone and staircase calls with equal lent lists answer equal
 
 pub record W-214 : Type 0 where
-  pub confluence : Two-hubs Equal-sites
+  pub confluence : Two-hubs (λ n v w. Equal-sites v w)
   pub calls-agree : Two-hubs (λ n v w. Equal-answers v w)
   -- that their orders are always equal, or their images, is false
   pub orders-differ : Two-hubs (λ n v w. v .order ≡ w .order) → ⊥

@@ -1,24 +1,12 @@
 -- Contracts of the questions, met: refused and answered. In order: number, neighbours, linked, first.
-use mathlib.Core.Path.{_≡_, sym, ap, _∙_}
-use mathlib.Core.Bool.{Bool, true, cond}
-use mathlib.Core.List.{List}
-use Prim.Native.Nat.{ℕ, _+_, _≤_, _<_}
-use native.Mathlib.Numerals.{add-one}
+use Rattle.lists.{specs.Kit.{_≡_, sym, ap, _∙_, Bool, true, cond, List, ℕ, _+_, _≤_, _<_, add-one, length, getD, drop, drop-of-length-le, drop-cons, eq-eqb}}
+use Rattle.lists.{specs.Kit.{ne-eqb}, proofs.Tests.{byte-bit}}
 use mir.Val.{boolByte}
-use lib.ListN.{length, getD, drop, drop-of-length-le}
-use lib.Seq.{drop-cons}
-use borrow.Author.Tests.{eq-eqb, ne-eqb}
-use Rattle.mesh.specs.Limits.{max-neighbours}
-use Rattle.mesh.specs.Tables.{Tables, marked}
-use Rattle.mesh.specs.Sound.{sound}
-use Rattle.calls.specs.Questions.{lengths-of, radio-refusal, pair-refusal}
-use Rattle.calls.specs.Outcomes.{first-of-two}
-use Rattle.calls.specs.Contracts.{Number-contract, Neighbours-contract, Linked-contract, First-contract}
-use Rattle.calls.proofs.ChainLaws.{radio-zero, pair-zero}
-use Rattle.calls.specs.Outcomes.{value, number-outcome, neighbours-outcome, linked-outcome, first-outcome}
-use Rattle.calls.proofs.ContractLaws.{value-refused, value-answered}
+use Rattle.mesh.specs.{Limits.{max-neighbours}, Tables.{Tables, marked}, Sound.{sound}}
+use Rattle.calls.{specs.Questions.{lengths-of, radio-refusal, pair-refusal}, specs.Outcomes.{first-of-two, value, number-outcome, neighbours-outcome}}
+use Rattle.calls.{specs.Outcomes.{linked-outcome, first-outcome}, specs.Contracts.{Number-contract, Neighbours-contract, Linked-contract, First-contract}}
+use Rattle.calls.{proofs.ChainLaws.{radio-zero, pair-zero}, proofs.ContractLaws.{value-refused, value-answered}}
 use Rattle.rows.specs.Rows.{row-count}
-use Rattle.lists.proofs.Tests.{byte-bit}
 use Rattle.soundness.proofs.SoundSite.{Sound-site, site-good-sound, linked-marked, number-entry, degree-counted}
 
 -- ---- one radio

@@ -1,38 +1,17 @@
 -- The connected core's contract, met: what the flood leaves out of its level's set, listed.
-use mathlib.Core.Path.{_≡_, refl, sym, ap, _∙_}
-use mathlib.Core.Bool.{Bool, true, false, _&&_, not}
-use mathlib.Core.List.{List}
-use Prim.Native.Nat.{ℕ, _≤_, _<_}
-use native.Mathlib.Omega.{arith}
-use lib.Dec.{ltb, leb}
-use lib.ListN.{length, getD, take}
-use lib.Seq.{take-all}
-use borrow.Author.Tests.{ltb-true, lt-ltb, le-leb}
-use Rattle.mesh.specs.Limits.{max-radios}
-use Rattle.lists.specs.Lists.{range, filter, member, overwrite}
-use Rattle.mesh.specs.Graph.{Graph, radios}
-use Rattle.mesh.specs.Cores.{number}
-use Rattle.mesh.specs.Tables.{Tables, graph-in}
-use Rattle.mesh.specs.Sound.{sound}
-use Rattle.mesh.specs.Connected.{at-least, In-core, core-of}
-use Rattle.lists.proofs.Tests.{never, and-left, and-right, and-both}
-use Rattle.lists.proofs.Member.{in-member, not-member}
-use Rattle.lists.proofs.Filter.{length-filter, filter-ext, filter-range-within}
-use Rattle.lists.proofs.Count.{count-le-length}
-use Rattle.lists.proofs.Range.{length-range}
-use Rattle.mesh.proofs.Trees.Reach.{core-of-iff, core-of-ascending}
-use Rattle.mesh.proofs.Trees.CoreLevels.{in-core-below, in-core-level}
-use Rattle.calls.specs.Questions.{lengths-of, core-refusal}
-use Rattle.calls.specs.Contracts.{Core-contract}
-use Rattle.calls.proofs.ChainLaws.{core-zero}
-use Rattle.calls.proofs.QuestionLaws.{answer-length-true}
+use Rattle.lists.{specs.Kit.{_≡_, refl, sym, ap, _∙_, Bool, true, false, _&&_, not, List, ℕ, _≤_, _<_, arith, ltb, leb, length, getD, take, take-all, ltb-true}}
+use Rattle.lists.{specs.Kit.{lt-ltb, le-leb}, specs.Lists.{range, filter, member, overwrite}, proofs.Tests.{never, and-left, and-right, and-both}}
+use Rattle.lists.{proofs.Member.{in-member, not-member}, proofs.Filter.{length-filter, filter-ext, filter-range-within}, proofs.Count.{count-le-length}}
+use Rattle.lists.{proofs.Range.{length-range}}
+use Rattle.mesh.{specs.Limits.{max-radios}, specs.Graph.{Graph, radios}, specs.Cores.{number}, specs.Tables.{Tables, graph-in}, specs.Sound.{sound}}
+use Rattle.mesh.{specs.Connected.{at-least, In-core, core-of}, proofs.Trees.Reach.{core-of-iff, core-of-ascending}, proofs.Trees.CoreLevels.{in-core-below}}
+use Rattle.mesh.{proofs.Trees.CoreLevels.{in-core-level}}
+use Rattle.calls.{specs.Questions.{lengths-of}, specs.Contracts.{Core-contract}, proofs.ChainLaws.{core-zero}}
+use Rattle.calls.{proofs.QuestionLaws.{answer-length-true}, specs.Outcomes.{value, core-outcome}, proofs.ContractLaws.{listing-refused, listing-answered}}
 use Rattle.rows.specs.Sets.{in-set, Set-taken, members, Listed}
-use Rattle.floods.specs.Floods.{Level-set, Flood-done}
-use Rattle.soundness.proofs.SoundSite.{Sound-site, number-entry}
-use Rattle.floods.proofs.FloodCore.{level-radios, left-flood}
-use Rattle.soundness.proofs.SoundSite.{site-good-sound}
-use Rattle.calls.specs.Outcomes.{value, core-outcome}
-use Rattle.calls.proofs.ContractLaws.{listing-refused, listing-answered}
+use Rattle.floods.{specs.Floods.{Level-set, Flood-done}, proofs.FloodCore.{level-radios, left-flood}}
+use Rattle.soundness.proofs.SoundSite.{Sound-site, number-entry, site-good-sound}
+use Rattle.calls.specs.Chains.{core-refusal}
 
 module _ (n : ℕ) (t : Tables) (s : Sound-site n t) (k v : ℕ) (radio : v < n) (level : k ≤ number (graph-in n (t .links)) v) where
   abbrev g : Graph
@@ -92,7 +71,8 @@ module _ (n : ℕ) (t : Tables) (s : Sound-site n t) (k v : ℕ) (radio : v < n)
       unfolding members
       members-core =
           filter-ext (in-set own) (λ w. member w (core-of g v k)) (range 0 max-radios) (λ w m. in-core w)
-          ∙ filter-range-within (λ w. member w (core-of g v k)) n max-radios (s .small) (λ w l. not-member w (core-of g v k) (λ m. outside w l (core-radio-in w (in-member w (core-of g v k) m))))
+          ∙ filter-range-within (λ w. member w (core-of g v k)) n max-radios (s .small)
+          (λ w l. not-member w (core-of g v k) (λ m. outside w l (core-radio-in w (in-member w (core-of g v k) m))))
           ∙ sym ascending-core
         where
           outside : (w : ℕ) → n ≤ w → In-core (graph-in n (t .links)) v k w → ⊥

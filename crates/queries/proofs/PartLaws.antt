@@ -1,45 +1,21 @@
 -- Parts taken in turn: the set so far has the backbone of the parts taken.
 -- In order: the greatest number of listed radios; their bits; one part; the radios as a loop; the backbone's contract, met.
-use mathlib.Core.Path.{_≡_, refl, sym, ap, _∙_}
-use mathlib.Core.Logic.{_⊎_, inl, inr}
-use mathlib.Core.Bool.{Bool, true, false, _&&_, _||_, not, cond}
-use mathlib.Core.List.{List, [], _∷_, map}
-use Prim.Native.Nat.{ℕ, suc, max, min, _+_, _≤_, _<_}
-use native.Mathlib.Omega.{arith}
-use native.Mathlib.Numerals.{add-one}
-use lib.Dec.{ltb, leb, eqb}
-use lib.ListN.{length, getD, take, replicate, length-replicate}
-use lib.Seq.{take-all}
-use borrow.Author.Tests.{leb-true, le-leb, ltb-true, ltb-false, eqb-true, eqb-false, lt-ltb, le-ltb, eq-eqb, ne-eqb}
-use Rattle.mesh.specs.Limits.{max-radios}
-use Rattle.lists.specs.Facts.{folded}
-use Rattle.lists.specs.Lists.{range, member, In, overwrite}
-use Rattle.mesh.specs.Graph.{Graph, radios}
-use Rattle.mesh.specs.Cores.{number}
-use Rattle.mesh.specs.Connected.{at-least, In-core, core-of, greatest, backbone}
-use Rattle.mesh.specs.Tables.{Tables, tables, graph-in}
-use Rattle.mesh.specs.Sound.{sound}
-use Rattle.lists.proofs.Tests.{bool-cases, never, and-left, or-right}
-use Rattle.lists.proofs.Member.{member-in, in-member}
-use Rattle.lists.proofs.Filter.{filter-le, filter-ext, filter-range-within}
-use Rattle.lists.proofs.Range.{length-range, range-in}
-use Rattle.lists.proofs.Loops.{Folding, folding-front-end, length-folded}
-use Rattle.mesh.proofs.Trees.Reach.{core-of-iff}
-use Rattle.mesh.proofs.Trees.CoreLevels.{in-core-here, in-core-below, in-core-sym, in-core-trans, core-of-same}
-use Rattle.mesh.proofs.Trees.Listed.{number-le-greatest, greatest-map-le, part-top, tops-part, number-le-part-top, part-top-le}
-use Rattle.calls.specs.Questions.{lengths-of, answer-length, site-refusal, backbone-refusal}
-use Rattle.calls.specs.Contracts.{Backbone-contract}
-use Rattle.calls.proofs.ChainLaws.{Site-good, site-zero}
-use Rattle.soundness.specs.Checks.{fits-sound}
-use Rattle.soundness.proofs.SoundSite.{Sound-site, fits-sound-site, site-good-fits, number-entry}
-use Rattle.rows.specs.Sets.{in-set, put-in, members, Listed}
-use Rattle.rows.proofs.SetLaws.{in-set-zeros, in-set-past, in-put-in, length-put-in}
-use Rattle.floods.specs.Floods.{Level-set, Flood-done}
-use Rattle.floods.proofs.FloodCore.{level-radios, member-flood}
+use Rattle.lists.{specs.Kit.{_≡_, refl, sym, ap, _∙_, _⊎_, inl, inr, Bool, true, false, _&&_, _||_, not, cond, List, [], _∷_, map, ℕ, suc, max, _+_, _≤_, _<_}}
+use Rattle.lists.{specs.Kit.{arith, add-one, ltb, leb, eqb, length, getD, take, replicate, length-replicate, take-all, leb-true, le-leb, ltb-true, ltb-false}}
+use Rattle.lists.{specs.Kit.{eqb-true, eqb-false, lt-ltb, le-ltb, eq-eqb, ne-eqb}, specs.Facts.{folded}, specs.Lists.{range, member, In, overwrite}}
+use Rattle.lists.{proofs.Tests.{bool-cases, never, and-left, or-right}, proofs.Member.{member-in, in-member}, proofs.Filter.{filter-le, filter-ext}}
+use Rattle.lists.{proofs.Filter.{filter-range-within}, proofs.Range.{length-range, range-in}, proofs.Loops.{Folding, folding-front-end, length-folded}}
+use Rattle.mesh.{specs.Limits.{max-radios}, specs.Graph.{Graph, radios}, specs.Cores.{number}, specs.Connected.{at-least, In-core, core-of, greatest, backbone}}
+use Rattle.mesh.{specs.Tables.{Tables, tables, graph-in}, specs.Sound.{sound}, proofs.Trees.Reach.{core-of-iff}, proofs.Trees.CoreLevels.{in-core-here}}
+use Rattle.mesh.{proofs.Trees.CoreLevels.{in-core-below, in-core-sym, in-core-trans, core-of-same}, proofs.Trees.Listed.{number-le-greatest, greatest-map-le}}
+use Rattle.mesh.{proofs.Trees.Listed.{part-top, tops-part, number-le-part-top, part-top-le}}
+use Rattle.calls.{specs.Questions.{lengths-of, answer-length, site-refusal}, specs.Contracts.{Backbone-contract}}
+use Rattle.calls.{proofs.ChainLaws.{Site-good, site-zero}, specs.Outcomes.{value, backbone-outcome}, proofs.ContractLaws.{listing-refused, listing-answered}}
+use Rattle.soundness.{specs.Checks.{fits-sound}, proofs.SoundSite.{Sound-site, fits-sound-site, site-good-fits, number-entry, site-good-sound}}
+use Rattle.rows.{specs.Sets.{in-set, put-in, members, Listed}, proofs.SetLaws.{in-set-zeros, in-set-past, in-put-in, length-put-in}}
+use Rattle.floods.{specs.Floods.{Level-set, Flood-done}, proofs.FloodCore.{level-radios, member-flood}}
 use Rattle.queries.specs.Parts.{part-greatest, top-put, tops-put, part-put, Part-taken, Part-visited, Backbone-put}
-use Rattle.soundness.proofs.SoundSite.{site-good-sound}
-use Rattle.calls.specs.Outcomes.{value, backbone-outcome}
-use Rattle.calls.proofs.ContractLaws.{listing-refused, listing-answered}
+use Rattle.calls.specs.Chains.{backbone-refusal}
 
 -- ---- the greatest number of listed radios, as a loop
 
@@ -412,7 +388,7 @@ module _ (ts ns : List ℕ) (v : ℕ) (rest set : List ℕ) where
 
 module _ (n : ℕ) (t : Tables) (old : List ℕ) (q : ℕ) (asked : q ≡ site-refusal n (lengths-of t) (leb n (length old)) (sound n t) 0) where
   pub backbone-refused : (q ≡ 0 → ⊥) → Backbone-contract n t old (value q 0) old
-  unfolding Backbone-contract backbone-outcome sound backbone-refusal answer-length
+  unfolding Backbone-contract backbone-outcome sound answer-length
   backbone-refused h = listing-refused _ _ _ old q asked h
 
   module _ (e : q ≡ 0) where
@@ -431,7 +407,7 @@ module _ (n : ℕ) (t : Tables) (old : List ℕ) (q : ℕ) (asked : q ≡ site-r
 
     pub backbone-listed : (set : List ℕ) (c : ℕ) (now : List ℕ) → Backbone-put (t .links) (t .numbers) set → Listed set old c now
         → Backbone-contract n t old (value 0 c) now
-    unfolding Backbone-contract backbone-outcome sound backbone-refusal answer-length Backbone-put
+    unfolding Backbone-contract backbone-outcome sound answer-length Backbone-put
     backbone-listed set c now h listed =
         let long = site .numbers-long in
         let is : members set ≡ backbone (graph-in n (t .links)) =

@@ -1,21 +1,11 @@
 -- Chains of questions as the code puts them: questions 1 to 3 first, then the later ones. q is the number so far.
-use mathlib.Core.Path.{_≡_, refl, sym, _∙_}
-use mathlib.Core.Bool.{Bool, true, false, _&&_}
-use Prim.Native.Nat.{ℕ, _≤_, _<_}
-use native.Mathlib.Omega.{arith}
-use lib.Dec.{leb}
-use lib.ListN.{getD}
-use borrow.Author.Tests.{le-ltb, lt-leb}
-use Rattle.mesh.specs.Graph.{Graph}
-use Rattle.mesh.specs.Cores.{number}
-use Rattle.mesh.specs.Tables.{Tables, graph-in}
-use Rattle.mesh.specs.Sound.{sound}
-use Rattle.calls.specs.Questions.{ask, Lengths, lengths-of, size-good, site-lengths, answer-length, is-radio, are-radios, has-level, lent-refusal, site-refusal}
-use Rattle.calls.specs.Questions.{radio-refusal, pair-refusal, core-refusal, level-refusal}
-use Rattle.calls.proofs.QuestionLaws.{ask-yes, ask-no, true-is-radio}
-use Rattle.calls.proofs.ChainLaws.{site-zero, site-yes, radio-zero, pair-yes, core-yes}
-use Rattle.soundness.proofs.SoundSite.{Sound-site, site-good-sound, number-entry}
-use Rattle.soundness.proofs.RadioLaws.{site-later-no, site-later-yes, not-radio}
+use Rattle.lists.specs.Kit.{_≡_, sym, _∙_, Bool, true, false, _&&_, ℕ, _≤_, _<_, arith, leb, getD, lt-leb}
+use Rattle.mesh.specs.{Graph.{Graph}, Cores.{number}, Tables.{Tables, graph-in}, Sound.{sound}}
+use Rattle.calls.{specs.Questions.{ask, Lengths, lengths-of, answer-length, is-radio, are-radios, has-level, site-refusal, radio-refusal, pair-refusal}}
+use Rattle.calls.{proofs.QuestionLaws.{ask-yes, ask-no, true-is-radio}, proofs.ChainLaws.{site-zero, site-yes}}
+use Rattle.calls.{proofs.ChainLaws.{radio-zero, pair-yes, core-yes}}
+use Rattle.soundness.proofs.{SoundSite.{Sound-site, site-good-sound, number-entry}, RadioLaws.{site-later-no, site-later-yes, not-radio}}
+use Rattle.calls.specs.Chains.{core-refusal, level-refusal}
 
 -- ---- 4: two radios
 
@@ -46,19 +36,20 @@ module _ (n v k w : ℕ) (t : Tables) (q : ℕ) (asked : q ≡ site-refusal n (l
   g = graph-in n (t .links)
 
   pub core-no : (q ≡ 0 → ⊥) → q ≡ core-refusal n v k (lengths-of t) w (sound n t) g
-  unfolding core-refusal answer-length
+  unfolding answer-length
   core-no h = site-later-no n (lengths-of t) (leb n w) (sound n t) q asked (level-refusal n v k g) h
 
   pub core-four : q ≡ 0 → n ≤ v → 4 ≡ core-refusal n v k (lengths-of t) w (sound n t) g
-  unfolding core-refusal answer-length level-refusal
-  core-four e h = sym (site-later-yes n (lengths-of t) (leb n w) (sound n t) q asked _ e ∙ ask-no 4 (is-radio n v) (ask 8 (has-level g v k) 0) (not-radio n v h))
+  unfolding answer-length
+  core-four e h = sym (site-later-yes n (lengths-of t) (leb n w) (sound n t) q asked _ e ∙ ask-no 4 (is-radio n v) (ask 8 (has-level g v k) 0)
+      (not-radio n v h))
 
   -- the tables, once 1 to 3 got yes
   pub core-site : q ≡ 0 → Sound-site n t
   core-site e = site-good-sound n t (leb n w) (site-zero n (lengths-of t) (leb n w) (sound n t) 0 (sym asked ∙ e) .0)
 
   pub core-eight : q ≡ 0 → v < n → getD (t .numbers) v 0 < k → 8 ≡ core-refusal n v k (lengths-of t) w (sound n t) g
-  unfolding core-refusal answer-length level-refusal has-level
+  unfolding answer-length has-level
   core-eight e l h =
       sym (site-later-yes n (lengths-of t) (leb n w) (sound n t) q asked _ e
       ∙ ask-yes 4 (is-radio n v) (ask 8 (leb k (number g v)) 0) (true-is-radio n v l)

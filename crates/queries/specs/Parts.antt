@@ -6,15 +6,8 @@
 --   Part-visited          a radio: its part is taken where it is among the rest, and else nothing changes
 --   Backbone-put          a set that is the backbone, for sound tables
 -- Definitions only.
-use mathlib.Core.Path.{_≡_}
-use mathlib.Core.Bool.{true, false, cond}
-use mathlib.Core.List.{List, map}
-use Prim.Native.Nat.{ℕ}
-use lib.Dec.{eqb}
-use lib.ListN.{length, getD, take}
-use Rattle.lists.specs.Facts.{folded}
-use Rattle.mesh.specs.Tables.{tables, graph-in}
-use Rattle.mesh.specs.Connected.{greatest, backbone}
+use Rattle.lists.specs.{Kit.{_≡_, true, false, cond, List, map, ℕ, eqb, length, getD, take}, Facts.{folded}}
+use Rattle.mesh.specs.{Tables.{tables, graph-in}, Connected.{greatest, backbone}}
 use Rattle.rows.specs.Sets.{in-set, put-in, members}
 use Rattle.soundness.specs.Checks.{fits-sound}
 use Rattle.floods.specs.Floods.{Flood-done}

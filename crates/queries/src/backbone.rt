@@ -1,8 +1,6 @@
 // The backbone: the radios whose number is the greatest in their own connected part, where that is not 0. Parts are flooded in
 // turn, each from its lowest radio.
-ghost use mathlib.Core.Path.{_≡_};
-ghost use Prim.Native.Nat.{_≤_};
-ghost use lib.ListN.{length, getD, take, replicate};
+ghost use Rattle.lists.specs.Kit.{_≡_, _≤_, length, getD, take, replicate};
 ghost use Rattle.mesh.specs.Limits.{max-radios};
 ghost use Rattle.mesh.specs.Lent.{lent};
 ghost use Rattle.calls.specs.Contracts.{Backbone-contract};

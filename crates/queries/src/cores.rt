@@ -1,10 +1,11 @@
 // The connected core of a radio at a level: the radios that links lead to over radios with that number or more.
-ghost use mathlib.Core.Path.{_≡_};
+ghost use Rattle.lists.specs.Kit.{_≡_};
 ghost use Rattle.mesh.specs.Tables.{graph-in};
 ghost use Rattle.mesh.specs.Lent.{lent};
 ghost use Rattle.mesh.specs.Sound.{sound};
-ghost use Rattle.calls.specs.Questions.{lengths-of, core-refusal};
+ghost use Rattle.calls.specs.Questions.{lengths-of};
 ghost use Rattle.calls.specs.Contracts.{Core-contract};
+ghost use Rattle.calls.specs.Chains.{core-refusal};
 use calls::Refusal;
 use calls::Value;
 use mesh::Site;

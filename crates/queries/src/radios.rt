@@ -1,6 +1,6 @@
 // A radio's number, its neighbour count, whether two radios are linked, which of two stands first in the order.
 // Each answers with the refusal number of questions 1 to 4 and the value 0, or with number 0 and the value.
-ghost use mathlib.Core.Path.{_≡_};
+ghost use Rattle.lists.specs.Kit.{_≡_};
 ghost use Rattle.mesh.specs.Lent.{lent};
 ghost use Rattle.mesh.specs.Sound.{sound};
 ghost use Rattle.calls.specs.Questions.{lengths-of, pair-refusal};

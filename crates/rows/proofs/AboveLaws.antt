@@ -1,15 +1,7 @@
 -- Laws of the neighbours above a radio, as they are listed.
-use mathlib.Core.Path.{_≡_, refl, ap, _∙_}
-use mathlib.Core.List.{List}
-use Prim.Native.Nat.{ℕ, suc, _≤_, min}
-use native.Mathlib.Omega.{arith}
-use lib.Dec.{ltb}
-use lib.ListN.{length, take}
-use lib.Seq.{take-all}
+use Rattle.lists.{specs.Kit.{_≡_, refl, ap, _∙_, List, ℕ, suc, _≤_, min, arith, ltb, length, take, take-all}, specs.Lists.{overwrite}}
+use Rattle.lists.{proofs.Filter.{filter-le}, proofs.Overwrite.{take-overwrite}}
 use Rattle.mesh.specs.Limits.{max-neighbours}
-use Rattle.lists.specs.Lists.{filter, overwrite}
-use Rattle.lists.proofs.Filter.{filter-le}
-use Rattle.lists.proofs.Overwrite.{take-overwrite}
 use Rattle.rows.specs.Rows.{row-listed, neighbours-above}
 
 module _ (ts : List ℕ) (a : ℕ) where

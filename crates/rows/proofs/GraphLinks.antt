@@ -2,31 +2,26 @@
 --   rows-listed-few   rows that mark at most `most` radios fit a list of `most` places
 --   links-above-row   the links of a row
 --   links-graph-in    all links
-use mathlib.Core.Path.{_≡_, refl, ap, ap₂, _∙_}
-use mathlib.Core.Bool.{Bool, true}
-use mathlib.Core.List.{List, [], _++_, flatMap}
-use Prim.Native.Nat.{ℕ, zero, suc, _+_, _*_, _-_, _≤_, _<_, min}
-use native.Mathlib.Omega.{arith}
-use lib.Dec.{ltb}
-use lib.ListN.{length}
-use borrow.Author.Tests.{lt-ltb, le-ltb}
-use Rattle.mesh.specs.Limits.{max-radios, max-neighbours, row-bytes}
-use Rattle.lists.specs.Lists.{range, filter}
-use Rattle.mesh.specs.Graph.{Link}
-use Rattle.mesh.specs.Tables.{marked, row-links, graph-in}
-use Rattle.mesh.specs.Sound.{within, few}
-use Rattle.lists.proofs.Range.{range-in, range-append}
-use Rattle.lists.proofs.Filter.{in-filter, filter-append, filter-none, filter-all}
-use Rattle.mesh.proofs.Tables.Rows.{within-of, few-of}
-use Rattle.rows.specs.Rows.{row-listed, neighbours-above}
-use Rattle.rows.proofs.RowListLaws.{neighbours-of-filter, row-listed-radio, length-row-listed-radio}
-use Rattle.rows.specs.Links.{links-to, links-above, links-from, Rows-listed}
-use Rattle.rows.proofs.AboveLaws.{above-few}
+use Rattle.lists.{specs.Kit.{_≡_, refl, ap, ap₂, _∙_, Bool, true, List, [], _++_, flatMap, ℕ, zero, suc, _+_, _*_, _-_, _≤_, _<_, min, arith, ltb, length}}
+use Rattle.lists.{specs.Kit.{lt-ltb, le-ltb}, specs.Lists.{range, filter}, proofs.Range.{range-in, range-append}, proofs.Filter.{in-filter, filter-append}}
+use Rattle.lists.{proofs.Filter.{filter-none, filter-all}}
+use Rattle.mesh.{specs.Limits.{max-radios, max-neighbours, row-bytes}, specs.Graph.{Link}, specs.Tables.{marked, row-links, graph-in}, specs.Sound.{within}}
+use Rattle.mesh.{specs.Sound.{few}, proofs.Tables.Rows.{within-of, few-of}}
+use Rattle.rows.specs.{Rows.{row-listed, neighbours-above}, Links.{links-to, links-above, links-from, Rows-listed}}
+use Rattle.rows.proofs.{RowListLaws.{neighbours-of-filter, row-listed-radio, length-row-listed-radio}, AboveLaws.{above-few}}
 
 module _ (n : ℕ) (ts : List ℕ) (small : n ≤ max-radios) (long : length ts ≡ row-bytes * n) where
   pub rows-listed-few : (room : ℕ) → few (min room (suc max-neighbours)) n ts ≡ true → Rows-listed n ts room
   rows-listed-few room h =
-      record { most = small; few = λ a l. omega (arith, above-few ts a, length-row-listed-radio n ts long a l, few-of (min room (suc max-neighbours)) n ts h a l) }
+      record {
+        most = small;
+        few = λ a l. omega (
+          arith,
+          above-few ts a,
+          length-row-listed-radio n ts long a l,
+          few-of (min room (suc max-neighbours)) n ts h a l,
+        );
+      }
 
   module _ (w : within n ts ≡ true) where
     neighbours-above-row : (a : ℕ) → a < n → neighbours-above ts a ≡ filter (λ b. marked ts a b) (range (suc a) (n - suc a))

@@ -1,17 +1,20 @@
 -- Laws of the links from a row on.
--- In order: what is left, links counted.
-use mathlib.Core.Path.{_≡_, ap, _∙_}
-use mathlib.Core.List.{List, [], _++_, flatMap}
-use Prim.Native.Nat.{ℕ, suc, _+_, _*_, _-_, _≤_, _<_}
-use native.Mathlib.Omega.{arith}
-use lib.ListN.{length, drop, length-append}
-use lib.Seq.{drop-append-le, drop-nil}
-use Rattle.mesh.specs.Limits.{max-radios}
-use Rattle.lists.specs.Lists.{range}
-use Rattle.mesh.specs.Graph.{Link, link-of}
-use Rattle.lists.proofs.Map.{length-map, drop-map}
-use Rattle.rows.specs.Rows.{neighbours-above}
-use Rattle.rows.specs.Links.{links-to, links-above, links-from, Rows-listed}
+-- In order: the links of a word, what is left, links counted.
+use Rattle.lists.{specs.Kit.{_≡_, ap, _∙_, List, [], _∷_, _++_, flatMap, ℕ, suc, _+_, _*_, _-_, _^_, _≤_, _<_, arith, bitAnd, trailingZeros, length, drop}}
+use Rattle.lists.{specs.Kit.{length-append, drop-append-le}}
+use Rattle.lists.{specs.Kit.{drop-nil}, specs.Lists.{range}, proofs.Map.{length-map, drop-map}}
+use Rattle.mesh.specs.{Limits.{max-radios}, Graph.{Link, link-of}}
+use Rattle.rows.specs.{Rows.{neighbours-above, set-bits}, Links.{links-to, links-above, links-from}}
+use Rattle.rows.proofs.WordLaws.{word-lowest, word-none}
+
+-- ---- the links of a radio to the set bits of a word: the lowest and the others, and none left
+
+pub links-lowest : (a first rest : ℕ) → rest < 2 ^ 64 → (rest ≡ 0 → ⊥)
+    → links-to a (set-bits 64 first rest) ≡ (link-of a (first + trailingZeros 64 rest) ∷ []) ++ links-to a (set-bits 64 first (bitAnd rest (rest - 1)))
+links-lowest a first rest low some = ap (links-to a) (word-lowest first rest low some)
+
+pub links-none : (a first rest : ℕ) → rest ≡ 0 → links-to a (set-bits 64 first rest) ≡ []
+links-none a first rest z = ap (links-to a) (word-none first rest z)
 
 -- ---- what is left
 
@@ -40,31 +43,30 @@ module _ (n : ℕ) (ts : List ℕ) where
 
 -- ---- links counted: the links of the rows below a
 
-pub record Counting (n : ℕ) (ts : List ℕ) (room m a : ℕ) : Type 0 where
+pub record Counting (n : ℕ) (ts : List ℕ) (m a : ℕ) : Type 0 where
   pub low : a ≤ n
   pub small : m ≤ max-radios * a
-  pub is : Rows-listed n ts room → m + length (links-from n ts a 0) ≡ length (links-from n ts 0 0)
+  pub is : m + length (links-from n ts a 0) ≡ length (links-from n ts 0 0)
 
-module _ (n : ℕ) (ts : List ℕ) (room : ℕ) where
-  pub counting-none : Counting n ts room 0 0
-  counting-none = record { low = omega arith; small = omega arith; is = λ rows. omega arith }
+module _ (n : ℕ) (ts : List ℕ) where
+  pub counting-none : Counting n ts 0 0
+  counting-none = record { low = omega arith; small = omega arith; is = omega arith }
 
-  pub counting-turn : (m a k : ℕ) → Counting n ts room m a → a < n → k ≤ max-radios
-      → (Rows-listed n ts room → k ≡ length (neighbours-above ts a)) → Counting n ts room (m + k) (a + 1)
+  pub counting-turn : (m a k : ℕ) → Counting n ts m a → a < n → k ≤ max-radios → k ≡ length (neighbours-above ts a) → Counting n ts (m + k) (a + 1)
   counting-turn m a k c h few e =
       record {
         low = omega arith;
         small = omega (arith, c .small);
         is =
-            λ rows. omega (
+            omega (
               arith,
-              c .is rows,
-              e rows,
+              c .is,
+              e,
               ap length (links-from-row n ts a 0 h (omega arith)),
               length-append (links-to a (neighbours-above ts a)) (links-from n ts (a + 1) 0),
               length-map (link-of a) (neighbours-above ts a),
             );
       }
 
-  pub counting-end : (m a : ℕ) → Counting n ts room m a → n ≤ a → Rows-listed n ts room → m ≡ length (links-from n ts 0 0)
-  counting-end m a c h rows = omega (arith, c .is rows, ap length (links-from-end n ts a 0 h))
+  pub counting-end : (m a : ℕ) → Counting n ts m a → n ≤ a → m ≡ length (links-from n ts 0 0)
+  counting-end m a c h = omega (arith, c .is, ap length (links-from-end n ts a 0 h))

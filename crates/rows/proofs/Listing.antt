@@ -1,19 +1,12 @@
 -- A list of radios written entry by entry into a lent list, as a loop's invariant: what is left gives what the whole gives.
 -- In order: a loop that stops when the list is full, a part of a list, the set bits of a word.
-use mathlib.Core.Path.{_≡_, refl, sym, ap, _∙_}
-use mathlib.Core.List.{List, [], _∷_, _++_, append-nil}
-use Prim.Native.Nat.{ℕ, _+_, _-_, _^_, _≤_, _<_, min}
-use native.Mathlib.Omega.{arith}
-use native.Mathlib.Numerals.{add-one}
-use lib.Bits.{bitAnd, and-le-l}
-use lib.Count.{trailingZeros}
-use lib.ListN.{length, set, take, drop, length-set, length-append, length-take, length-drop}
-use lib.Seq.{sets, length-sets, take-all, drop-length, length-take-le}
+use Rattle.lists.{specs.Kit.{_≡_, refl, sym, ap, _∙_, List, [], _∷_, _++_, append-nil, ℕ, _+_, _-_, _^_, _≤_, _<_, min, arith, add-one, bitAnd}}
+use Rattle.lists.{specs.Kit.{trailingZeros, length, set, take, drop, length-set, length-append, length-take, length-drop, sets, length-sets, take-all}}
+use Rattle.lists.{specs.Kit.{drop-length, length-take-le}, specs.Lists.{overwrite}, proofs.Overwrite.{sets-append, sets-full, sets-min, sets-drop}}
+use Rattle.lists.{proofs.Overwrite.{overwrite-part}}
 use borrow.Rule.Slice.PartMut.{midOf, postOf, putMid, post-is}
-use Rattle.lists.specs.Lists.{overwrite}
 use Rattle.rows.specs.Rows.{set-bits}
-use Rattle.rows.proofs.WordLaws.{set-bits-lowest}
-use Rattle.lists.proofs.Overwrite.{sets-append, sets-full, sets-min, sets-drop, overwrite-part}
+use Rattle.rows.proofs.WordLaws.{word-lowest, word-less}
 
 -- ---- a loop that stops when the list is full
 
@@ -81,16 +74,24 @@ put-front list new xs k h e =
     ap (λ (z : List ℕ). z ++ drop k list) (e ∙ ap (λ (m : ℕ). overwrite (take m xs) (take k list)) (length-take-le k list h))
     ∙ overwrite-part (take k xs) list k (omega (arith, length-take k xs))
 
+-- the same, with how many they are
+pub front-part : (list new xs : List ℕ) (k n : ℕ) → k ≤ length list
+    → (n ≡ min (length (take k list)) (length xs)) × (new ≡ overwrite (take (length (take k list)) xs) (take k list))
+    → (n ≡ min k (length xs)) × (new ++ drop k list ≡ overwrite (take k xs) list)
+front-part list new xs k n h e = (omega (arith, e .0, length-take-le k list h), put-front list new xs k h (e .1))
+
+-- nothing written
+pub front-none : (list : List ℕ) (k : ℕ) → list ≡ overwrite (take k []) list
+unfolding overwrite
+front-none list k = rw (take-all {A = ℕ} k [] (omega arith))
+
 -- ---- the set bits of a word, the lowest first
 
 abbrev pub Word-listing : (first word count : ℕ) → (old : List ℕ) → (rest n : ℕ) → (list : List ℕ) → Type 0
 Word-listing first word count old rest n list = (rest < 2 ^ 64) × Partial-listing (set-bits 64 first word) count old (set-bits 64 first rest) n list
 
-pub word-listing-turn : (first word count : ℕ) (old : List ℕ) (rest n : ℕ) (list : List ℕ) → (rest ≡ 0 → ⊥) → n < length list → Word-listing first word count old rest n list
+pub word-listing-turn : (first word count : ℕ) (old : List ℕ) (rest n : ℕ) (list : List ℕ) → (rest ≡ 0 → ⊥) → n < length list
+    → Word-listing first word count old rest n list
     → Word-listing first word count old (bitAnd rest (rest - 1)) (n + 1) (set list n (first + trailingZeros 64 rest))
 word-listing-turn first word count old rest n list some l h =
-    let pos : 0 < rest = omega arith in
-    let step = set-bits-lowest 64 first rest pos (h .0) in (
-      omega (arith, and-le-l rest (rest - 1), h .0),
-      partial-one (first + trailingZeros 64 rest) (set-bits 64 first (bitAnd rest (rest - 1))) n list l (rw step at (h .1)),
-    )
+    (word-less rest (h .0), partial-one _ _ n list l (rw (word-lowest first rest (h .0) some) at (h .1)))

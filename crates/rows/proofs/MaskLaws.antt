@@ -1,17 +1,9 @@
 -- One bit of a links table by shift and mask: what the code computes is what `marked` and `put-bit` name.
-use mathlib.Core.Path.{_≡_, ap, _∙_}
-use mathlib.Core.Bool.{Bool, true, false}
-use mathlib.Core.List.{List}
-use Prim.Native.Nat.{ℕ, zero, suc, _+_, _*_, _-_, _/_, _%_, _^_, _≤_, _<_}
-use native.Mathlib.Omega.{arith}
-use native.Mathlib.Nat.{mod-lt, zero-lt-suc, one-mul, mod-eq-of-lt, pow-succ', le-of-suc-le-suc}
-use lib.Dec.{eqb}
+use Rattle.lists.specs.Kit.{_≡_, ap, _∙_, Bool, true, false, List, ℕ, zero, suc, _+_, _*_, _-_, _/_, _%_, _^_, _≤_, _<_, arith, mod-lt, zero-lt-suc, one-mul}
+use Rattle.lists.specs.Kit.{mod-eq-of-lt, pow-succ', le-of-suc-le-suc, eqb, bitAnd, bitOr, and-step, or-step, and-mask, or-zero-r, length, getD, set}
+use Rattle.lists.specs.Kit.{List·getD-eq-default, set-out}
 use lib.Pow.{pow-pos, pow-lt}
-use lib.Bits.{bitAnd, bitOr, and-step, or-step, and-mask, or-zero-r}
-use lib.ListN.{length, getD, set, List·getD-eq-default}
-use lib.Seq.{set-out}
-use Rattle.mesh.specs.Tables.{digit, byte-at, marked, put-digit, put-bit}
-use Rattle.mesh.proofs.Tables.Digits.{digit-nothing, put-digit-zero, put-digit-suc}
+use Rattle.mesh.{specs.Tables.{digit, byte-at, marked, put-digit, put-bit}, proofs.Tables.Digits.{digit-nothing, put-digit-zero, put-digit-suc}}
 
 -- ---- one digit put: `|` with its mask sets it, `&` with the mask's complement clears it
 

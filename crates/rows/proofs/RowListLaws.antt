@@ -1,31 +1,15 @@
 -- The neighbours that a row of the links table marks, as a list: laws for callers.
 -- In order: ascending entries, neighbours-of (order, repeats, membership, counts), the graph that the table marks, row-listed,
 -- row-count.
-use mathlib.Core.Path.{_≡_, sym, ap, _∙_}
-use mathlib.Core.Logic.{_⊎_, inl, inr}
-use mathlib.Core.Bool.{Bool, true, false, _&&_}
-use mathlib.Core.List.{List, _++_, append-nil}
-use Prim.Native.Nat.{ℕ, suc, _+_, _*_, _-_, _≤_, _<_, min}
-use native.Mathlib.Omega.{arith}
-use lib.Dec.{leb}
-use lib.ListN.{length, take, length-take}
-use lib.Seq.{take-all}
-use borrow.Author.Tests.{leb-true, leb-false, le-leb, lt-leb}
-use Rattle.mesh.specs.Limits.{max-radios, row-bytes}
-use Rattle.lists.specs.Lists.{range, count, filter, member, overwrite, In, Ascending}
-use Rattle.lists.specs.Facts.{Distinct}
-use Rattle.mesh.specs.Graph.{linked}
-use Rattle.mesh.specs.Tables.{marked, graph-in}
-use Rattle.mesh.specs.Sound.{symmetric, irreflexive, within, row-degree}
-use Rattle.lists.proofs.Tests.{bool-cases}
-use Rattle.lists.proofs.Range.{in-range, range-in, distinct-range, range-append}
-use Rattle.lists.proofs.Filter.{in-filter, member-filter, count-filter, length-filter, filter-none, filter-ext, filter-append, distinct-filter}
-use Rattle.lists.proofs.Overwrite.{take-overwrite}
-use Rattle.mesh.proofs.Tables.Rows.{within-of}
-use Rattle.mesh.proofs.Tables.ReadBack.{linked-graph-in}
+use Rattle.lists.{specs.Kit.{_≡_, sym, ap, _∙_, _⊎_, inl, inr, Bool, true, false, _&&_, List, _++_, append-nil, ℕ, suc, _+_, _*_, _-_, _≤_, _<_, min, arith}}
+use Rattle.lists.{specs.Kit.{leb, length, take, length-take, take-all, leb-true, leb-false, le-leb, lt-leb}, specs.Lists.{range, count, filter, member}}
+use Rattle.lists.{specs.Lists.{overwrite, In, Ascending}, specs.Facts.{Distinct}, proofs.Tests.{bool-cases}, proofs.Range.{in-range, range-in, distinct-range}}
+use Rattle.lists.{proofs.Range.{range-append}, proofs.Filter.{in-filter, member-filter, count-filter, length-filter, filter-none, filter-ext, filter-append}}
+use Rattle.lists.{proofs.Filter.{distinct-filter}, proofs.Overwrite.{take-overwrite}, proofs.Ascending.{ascending-range, ascending-filter}}
+use Rattle.mesh.{specs.Limits.{max-radios, row-bytes}, specs.Graph.{linked}, specs.Tables.{marked, graph-in}, specs.Sound.{symmetric, irreflexive, within}}
+use Rattle.mesh.{specs.Sound.{row-degree}, proofs.Tables.Rows.{within-of}, proofs.Tables.ReadBack.{linked-graph-in}}
 use Rattle.rows.specs.Rows.{neighbours-of, row-listed, row-count}
 use Rattle.rows.proofs.RowWords.{row-listed-whole}
-use Rattle.lists.proofs.Ascending.{ascending-range, ascending-filter}
 
 -- ---- neighbours-of
 

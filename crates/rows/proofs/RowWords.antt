@@ -1,22 +1,12 @@
 -- A row of the links table read word by word, as the loops over its words go: what is left of the row from word k on.
-use mathlib.Core.Path.{_≡_, refl, sym, ap, _∙_}
-use mathlib.Core.Bool.{Bool}
-use mathlib.Core.List.{List, [], _++_}
-use Prim.Native.Nat.{ℕ, zero, suc, _+_, _*_, _-_, _/_, _%_, _^_, _≤_, _<_, min}
-use native.Mathlib.Omega.{arith}
-use lib.ListN.{length, getD, take, drop, length-append, length-take, length-drop}
-use lib.Seq.{sets, length-sets, getD-take, getD-drop}
-use lib.Count.{ones, trailingZeros}
-use borrow.Author.Tests.{le-leb, lt-leb, lt-ltb, le-ltb}
-use Rattle.mesh.specs.Limits.{max-radios, max-neighbours, row-bytes}
-use Rattle.lists.specs.Lists.{range, filter, head-or, overwrite}
-use Rattle.mesh.specs.Tables.{digit, byte-at, marked}
-use Rattle.lists.proofs.Filter.{filter-append}
-use Rattle.rows.specs.Rows.{neighbours-of, row-listed, row-from, row-count, set-bits, word-radios, row-word, word-of}
-use Rattle.rows.proofs.WordLaws.{set-bits-filter, set-bits-nothing, set-bits-lowest, length-set-bits, length-set-bits-le, word-at-less, digit-word-at}
-use Rattle.lists.proofs.Range.{range-append}
-use Rattle.lists.proofs.Overwrite.{sets-front, sets-append}
-use Rattle.rows.proofs.Listing.{Partial-listing, partial-part, partial-end}
+use Rattle.lists.{specs.Kit.{_≡_, refl, sym, ap, _∙_, Bool, List, [], _++_, ℕ, zero, suc, _+_, _*_, _-_, _/_, _%_, _^_, _≤_, _<_, min, arith, length, getD}}
+use Rattle.lists.{specs.Kit.{take, drop, length-append, length-take, length-drop, sets, length-sets, getD-take, getD-drop, ones, trailingZeros, le-leb, lt-leb}}
+use Rattle.lists.{specs.Lists.{range, filter, head-or, overwrite}, proofs.Filter.{filter-append}, proofs.Range.{range-append}}
+use Rattle.lists.{proofs.Overwrite.{sets-front, sets-append}}
+use Rattle.mesh.specs.{Limits.{max-radios, max-neighbours, row-bytes}, Tables.{digit, byte-at, marked}}
+use Rattle.rows.specs.Rows.{neighbours-of, row-listed, row-from, row-count, set-bits, row-word, word-of}
+use Rattle.rows.proofs.{WordLaws.{set-bits-filter, word-lowest, word-none, length-set-bits, length-set-bits-le, word-at-less, digit-word-at}}
+use Rattle.rows.proofs.{Listing.{Partial-listing, partial-part, partial-end}}
 
 -- ---- row-listed: the whole row, or none of it
 
@@ -52,6 +42,14 @@ marked-word ts bytes a k m h =
     let f : (64 * k + m) % 8 ≡ m % 8 = omega arith in
     rw (e, f) (sym (digit-word-at ts bytes (row-bytes * a + 8 * k) 8 m h))
 
+-- the same of a word that was read
+pub marked-read : (ts : List ℕ) → ((j : ℕ) → getD ts j 0 < 256) → (a k w : ℕ) → w ≡ row-word 8 ts (row-bytes * a + 8 * k) → (m : ℕ) → m < 64
+    → marked ts a (64 * k + m) ≡ digit w m
+marked-read ts bytes a k w e m h = marked-word ts bytes a k m h ∙ ap (λ (x : ℕ). digit x m) (sym e)
+
+pub read-less : (ts : List ℕ) → ((j : ℕ) → getD ts j 0 < 256) → (i : ℕ) {w : ℕ} → w ≡ row-word 8 ts i → w < 2 ^ 64
+read-less ts bytes i e = omega (arith, e, word-at-less ts bytes i 8)
+
 -- radios from word k on that pass a test, where the word tells the test of its own
 pub words-from : (f : ℕ → Bool) (k w : ℕ) → k < 8 → ((m : ℕ) → m < 64 → f (64 * k + m) ≡ digit w m)
     → filter f (range (64 * k) (max-radios - 64 * k)) ≡ set-bits 64 (64 * k) w ++ filter f (range (64 * (k + 1)) (max-radios - 64 * (k + 1)))
@@ -71,6 +69,11 @@ pub row-from-word : (ts : List ℕ) → ((j : ℕ) → getD ts j 0 < 256) → (a
 unfolding row-from
 row-from-word ts bytes a k h =
     words-from (λ b. marked ts a b) k (row-word 8 ts (row-bytes * a + 8 * k)) h (λ m l. marked-word ts bytes a k m l)
+
+-- the same of a word that was read
+pub row-split : (ts : List ℕ) → ((j : ℕ) → getD ts j 0 < 256) → (a k word : ℕ) → k < 8 → word ≡ row-word 8 ts (row-bytes * a + 8 * k)
+    → row-from ts a k ≡ set-bits 64 (64 * k) word ++ row-from ts a (k + 1)
+row-split ts bytes a k word l e = row-from-word ts bytes a k l ∙ ap (λ (z : ℕ). set-bits 64 (64 * k) z ++ row-from ts a (k + 1)) (sym e)
 
 -- ---- a row that is lent by itself
 
@@ -140,7 +143,7 @@ pub words-listing-turn : (ts : List ℕ) → ((j : ℕ) → getD ts j 0 < 256) �
     → Words-listing ts a from count old n k list → Words-listing ts a from count old m (k + 1) new
 words-listing-turn ts bytes a from count old n k w m list new h e f g i = (
   omega arith,
-  rw (f, g, e) (partial-part (set-bits 64 (64 * k) (row-word 8 ts (row-bytes * a + 8 * k))) (row-from ts a (k + 1)) n list (rw (row-from-word ts bytes a k h) at (i .1))),
+  rw (f, g) (partial-part (set-bits 64 (64 * k) w) (row-from ts a (k + 1)) n list (rw (row-split ts bytes a k w h e) at (i .1))),
 )
 
 pub words-listing-end : (ts : List ℕ) (a from count : ℕ) (old : List ℕ) (n k : ℕ) (list : List ℕ) → 8 ≤ k → Words-listing ts a from count old n k list
@@ -184,7 +187,7 @@ module _ (set : List ℕ) (bytes : (j : ℕ) → getD set j 0 < 256) (old : List
       let rest = row-from set 0 (k + 1) in
       let count : length bits ≡ ones w =
       length-set-bits 64 (64 * k) w (omega (arith, word-at-less set bytes (row-bytes * 0 + 8 * k) 8, set-word)) in
-      let split : row-from set 0 k ≡ bits ++ rest = row-from-word set bytes 0 k h ∙ ap (λ (x : ℕ). set-bits 64 (64 * k) x ++ rest) (sym set-word) in
+      let split : row-from set 0 k ≡ bits ++ rest = row-split set bytes 0 k w h set-word in
       record {
         low = omega arith;
         few = omega (arith, set-word-few, i .few);
@@ -205,38 +208,24 @@ set-listing-end set old n k list h l i =
     rw (row-listed-whole set 0 (omega arith))
     (omega (arith, i .counted, ap length none), ap (sets list n) (sym none) ∙ i .listed ∙ sets-front old (neighbours-of set 0))
 
--- ---- the lowest radio of a row
+-- ---- the lowest radio that passes a test, where each word tells the test of its own
 
--- no radio is marked before word k
-abbrev pub Searching : (links : List ℕ) → (a k : ℕ) → Type 0
-Searching ts a k = (k ≤ 8) × (neighbours-of ts a ≡ row-from ts a k)
+-- none passes before word k
+abbrev pub Searching : (test : ℕ → Bool) → (k : ℕ) → Type 0
+Searching f k = (k ≤ 8) × (filter f (range 0 max-radios) ≡ filter f (range (64 * k) (max-radios - 64 * k)))
 
-pub searching-turn : (ts : List ℕ) → ((j : ℕ) → getD ts j 0 < 256) → (a k w : ℕ) → k < 8 → w ≡ row-word 8 ts (row-bytes * a + 8 * k) → w ≡ 0
-    → Searching ts a k → Searching ts a (k + 1)
-searching-turn ts bytes a k w h e z i = (
-  omega arith,
-  i .1
-      ∙ row-from-word ts bytes a k h
-      ∙ ap (λ (x : List ℕ). x ++ row-from ts a (k + 1)) (ap (set-bits 64 (64 * k)) (sym e ∙ z) ∙ set-bits-nothing 64 (64 * k)),
-)
+module _ (f : ℕ → Bool) (k w : ℕ) (h : k < 8) (tells : (m : ℕ) → m < 64 → f (64 * k + m) ≡ digit w m) (i : Searching f k) where
+  abbrev others : List ℕ
+  others = filter f (range (64 * (k + 1)) (max-radios - 64 * (k + 1)))
 
-pub searching-found : (ts : List ℕ) → ((j : ℕ) → getD ts j 0 < 256) → (a k w : ℕ) → k < 8 → w ≡ row-word 8 ts (row-bytes * a + 8 * k) → (w ≡ 0 → ⊥)
-    → Searching ts a k → head-or max-radios (neighbours-of ts a) ≡ 64 * k + trailingZeros 64 w
+  pub searching-turn : w ≡ 0 → Searching f (k + 1)
+  searching-turn z = (omega arith, i .1 ∙ words-from f k w h tells ∙ ap (λ (x : List ℕ). x ++ others) (word-none (64 * k) w z))
+
+  pub searching-found : w < 2 ^ 64 → (w ≡ 0 → ⊥) → head-or max-radios (filter f (range 0 max-radios)) ≡ 64 * k + trailingZeros 64 w
+  unfolding head-or
+  searching-found less some =
+      ap (head-or max-radios) (i .1 ∙ words-from f k w h tells ∙ ap (λ (x : List ℕ). x ++ others) (word-lowest (64 * k) w less some))
+
+pub searching-end : (f : ℕ → Bool) (k : ℕ) → 8 ≤ k → Searching f k → head-or max-radios (filter f (range 0 max-radios)) ≡ max-radios
 unfolding head-or
-searching-found ts bytes a k w h e some i =
-    let pos : 0 < w = omega arith in
-    let less : w < 2 ^ 64 = omega (arith, word-at-less ts bytes (row-bytes * a + 8 * k) 8) in
-    ap (head-or max-radios)
-    (i .1
-    ∙ row-from-word ts bytes a k h
-    ∙ ap (λ (x : List ℕ). x ++ row-from ts a (k + 1)) (ap (set-bits 64 (64 * k)) (sym e) ∙ set-bits-lowest 64 (64 * k) w pos less))
-
--- ---- the radios of a word of a set
-
-pub word-radios-below : (k w : ℕ) → k < 8 → word-radios k w ≡ set-bits 64 (64 * k) w
-unfolding word-radios
-word-radios-below k w h = rw (lt-ltb k 8 h)
-
-pub word-radios-past : (k w : ℕ) → 8 ≤ k → word-radios k w ≡ []
-unfolding word-radios
-word-radios-past k w h = rw (le-ltb k 8 h)
+searching-end f k h i = ap (head-or max-radios) (i .1 ∙ words-end f k h)

@@ -1,37 +1,20 @@
 -- Sets of eight words.
 -- In order: digits of words joined by `&`, `|` and `^`, one radio tested, taken out and put in, the radios of another set taken out and
 -- listed, the lowest radio of two sets, how many they have, words changed in turn, the radios of a set listed.
-use mathlib.Core.Path.{_≡_, refl, sym, ap, _∙_}
-use mathlib.Core.Logic.{_⊎_, inl, inr}
-use mathlib.Core.Bool.{Bool, true, false, _&&_, _||_, not, cond}
-use mathlib.Core.List.{List, [], _++_}
-use Prim.Native.Nat.{ℕ, zero, suc, _+_, _*_, _-_, _/_, _%_, _^_, _≤_, _<_, min, max}
-use native.Mathlib.Omega.{arith}
-use native.Mathlib.Nat.{mod-lt, zero-lt-suc, one-mul, mod-eq-of-lt}
-use lib.Bits.{differ, bitAnd, bitOr, bitXor, and-step, or-step, xor-step, and-shr, or-shr, xor-shr, xor-zero-r, and-mask, and-lt}
-use lib.Count.{trailingZeros, ones}
-use lib.Dec.{ltb, eqb}
-use lib.ListN.{length, getD, take, set, replicate, length-append, length-set, List·getD-eq-default}
+use Rattle.lists.{specs.Kit.{_≡_, refl, sym, ap, _∙_, _⊎_, inl, inr, Bool, true, false, _&&_, _||_, not, cond, List, _++_, ℕ, zero, suc, _+_, _*_, _-_, _/_}}
+use Rattle.lists.{specs.Kit.{_%_, _^_, _≤_, _<_, min, max, arith, mod-lt, zero-lt-suc, one-mul, mod-eq-of-lt, differ, bitAnd, bitOr, bitXor, and-step, or-step}}
+use Rattle.lists.{specs.Kit.{xor-step, and-shr, or-shr, xor-shr, xor-zero-r, and-mask, and-lt, ones, ltb, eqb, length, getD, set, replicate}}
+use Rattle.lists.{specs.Kit.{length-append, length-set, List·getD-eq-default, sets, set-out, set-getD, getD-set-same, getD-set-other, ltb-true, ltb-false}}
+use Rattle.lists.{specs.Kit.{eqb-true, eqb-false, eq-eqb, ne-eqb}, specs.Lists.{range, filter, member}, proofs.Filter.{member-filter}}
+use Rattle.lists.{proofs.Overwrite.{sets-front}, proofs.Parts.{getD-zeros}, proofs.Member.{not-member}, proofs.Range.{in-range}, proofs.Tests.{bool-cases}}
+use Rattle.lists.{proofs.Tests.{iff-eq}}
 use lib.Pow.{pow-lt}
-use lib.Seq.{sets, set-out, set-getD, getD-set-same, getD-set-other}
-use borrow.Author.Tests.{ltb-true, ltb-false, eqb-true, eqb-false, eq-eqb, ne-eqb}
-use Rattle.mesh.specs.Limits.{max-radios, row-bytes}
-use Rattle.lists.specs.Lists.{range, filter, member, head-or, overwrite}
-use Rattle.mesh.specs.Tables.{digit, marked, put-digit}
-use Rattle.lists.proofs.Filter.{member-filter}
-use Rattle.lists.proofs.Overwrite.{sets-front}
-use Rattle.lists.proofs.Parts.{getD-zeros}
-use Rattle.lists.proofs.Member.{not-member}
-use Rattle.lists.proofs.Range.{in-range}
-use Rattle.lists.proofs.Tests.{bool-cases, iff-eq}
-use Rattle.mesh.proofs.Tables.Digits.{digit-nothing, digit-put-digit}
-use Rattle.rows.specs.Rows.{neighbours-of, row-listed, set-bits, row-word}
-use Rattle.rows.specs.Sets.{in-set, take-out, put-in, word-left, word-taken, Row-joined, common, Common-taken, Set-taken, members, Listed}
-use Rattle.rows.proofs.MaskLaws.{put-digit-true, put-digit-false}
-use Rattle.rows.proofs.WordLaws.{set-bits-nothing, set-bits-lowest, length-set-bits, length-set-bits-le}
-use Rattle.rows.proofs.Listing.{Partial-listing, partial-none, partial-part, partial-end}
-use Rattle.rows.proofs.RowListLaws.{in-neighbours-of, member-neighbours-of}
-use Rattle.rows.proofs.RowWords.{marked-word, words-from, words-end, row-listed-whole, row-listed-short}
+use Rattle.mesh.{specs.Limits.{max-radios, row-bytes}, specs.Tables.{digit, marked, put-digit}, proofs.Tables.Digits.{digit-nothing, digit-put-digit}}
+use Rattle.rows.specs.{Rows.{neighbours-of, row-listed, set-bits, row-word}, Sets.{in-set, take-out, put-in, word-left, word-taken, Row-joined, common}}
+use Rattle.rows.specs.{Sets.{Common-taken, Set-taken, members, Listed}}
+use Rattle.rows.proofs.{MaskLaws.{put-digit-true, put-digit-false}, WordLaws.{word-none, length-set-bits, length-set-bits-le}}
+use Rattle.rows.proofs.{Listing.{Partial-listing, partial-none, partial-part, partial-end}, RowListLaws.{in-neighbours-of, member-neighbours-of}}
+use Rattle.rows.proofs.{RowWords.{marked-word, words-from, words-end, row-listed-whole, row-listed-short}}
 
 -- ---- digits of joined words
 
@@ -198,8 +181,7 @@ module _ (x k : ℕ) (ws list : List ℕ) (n : ℕ) where
       → (n ≡ min (length list) (n + length (set-bits 64 (64 * k) word))) × ((list ≡ sets list n (set-bits 64 (64 * k) word)) × (ws ≡ word-taken k x ws))
   unfolding word-taken word-left
   nothing-of-word room e =
-      let none = set-bits-nothing 64 (64 * k) in
-      rw (e, none) (omega arith, (refl, sym (ap (set ws k) (xor-zero-r (getD ws k 0)) ∙ set-getD ws k 0)))
+      rw (e, word-none (64 * k) 0 refl) (omega arith, (refl, sym (ap (set ws k) (xor-zero-r (getD ws k 0)) ∙ set-getD ws k 0)))
 
   pub some-of-word : (m : ℕ) (new : List ℕ) → n ≤ length list → m ≡ min (length list - n) (length (set-bits 64 (64 * k) word))
       → new ≡ sets list n (set-bits 64 (64 * k) word)
@@ -305,37 +287,6 @@ module _ (x ws : List ℕ) where
         listed = ended .1 ∙ sets-front old (both-from 0);
         left = left-out us lw (i .long) (λ j l. i .done j (omega arith));
       }
-
--- ---- the lowest radio that two sets have
-
--- both have no radio before word k
-abbrev pub Common-search : (x y : List ℕ) → (k : ℕ) → Type 0
-Common-search x y k = (k ≤ 8) × (both-from x y 0 ≡ both-from x y k)
-
-pub common-search-turn : (x y : List ℕ) (k : ℕ) → k < 8 → bitAnd (getD x k 0) (getD y k 0) ≡ 0 → Common-search x y k → Common-search x y (k + 1)
-common-search-turn x y k h z i = (
-  omega arith,
-  i .1
-      ∙ words-from (both x y) k (bitAnd (getD x k 0) (getD y k 0)) h (both-word x y k)
-      ∙ ap (λ (r : List ℕ). r ++ both-from x y (k + 1)) (ap (set-bits 64 (64 * k)) z ∙ set-bits-nothing 64 (64 * k)),
-)
-
-module _ (x y : List ℕ) where
-  pub common-search-found : (k : ℕ) → k < 8 → getD x k 0 < 2 ^ 64 → getD y k 0 < 2 ^ 64 → (bitAnd (getD x k 0) (getD y k 0) ≡ 0 → ⊥) → Common-search x y k
-      → 64 * k + trailingZeros 64 (bitAnd (getD x k 0) (getD y k 0)) ≡ head-or max-radios (common x y)
-  unfolding head-or common
-  common-search-found k h wx wy some i =
-      let w = bitAnd (getD x k 0) (getD y k 0) in
-      let pos : 0 < w = omega arith in
-      sym
-      (ap (head-or max-radios)
-      (i .1
-      ∙ words-from (both x y) k w h (both-word x y k)
-      ∙ ap (λ (r : List ℕ). r ++ both-from x y (k + 1)) (set-bits-lowest 64 (64 * k) w pos (and-lt 64 (getD x k 0) (getD y k 0) wx wy))))
-
-  pub common-search-end : (k : ℕ) → 8 ≤ k → Common-search x y k → max-radios ≡ head-or max-radios (common x y)
-  unfolding head-or common
-  common-search-end k h i = sym (ap (head-or max-radios) (i .1 ∙ words-end (both x y) k h))
 
 -- ---- how many radios two sets have
 
@@ -445,10 +396,10 @@ module _ (ts : List ℕ) (a : ℕ) (ws : List ℕ) where
 -- ---- the radios of a set, listed
 
 module _ (ws : List ℕ) where
-  abbrev members-from : ℕ → List ℕ
+  abbrev pub members-from : ℕ → List ℕ
   members-from k = filter (in-set ws) (range (64 * k) (max-radios - 64 * k))
 
-  member-word : (k m : ℕ) → m < 64 → in-set ws (64 * k + m) ≡ digit (getD ws k 0) m
+  pub member-word : (k m : ℕ) → m < 64 → in-set ws (64 * k + m) ≡ digit (getD ws k 0) m
   unfolding in-set
   member-word k m h =
       let q : (64 * k + m) / 64 ≡ k = omega arith in

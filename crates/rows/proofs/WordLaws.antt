@@ -1,23 +1,12 @@
 -- Words of a table and their set bits.
--- In order: set bits as a filter and as a count, the lowest set bit, bytes joined to a word, the digits of a word.
-use mathlib.Core.Path.{_≡_, refl, sym, ap, _∙_}
-use mathlib.Core.Logic.{_⊎_, inl, inr}
-use mathlib.Core.Bool.{Bool, true, false, cond}
-use mathlib.Core.List.{List, [], _∷_}
-use Prim.Native.Nat.{ℕ, zero, suc, _+_, _*_, _-_, _/_, _%_, _^_, _≤_, _<_}
-use native.Mathlib.Omega.{arith}
-use native.Mathlib.Nat.{pow-succ', suc-mul, mul-le-mul-right}
-use lib.Dec.{ltb, eqb}
-use lib.ListN.{length, getD}
-use lib.Arith.{lt-one}
-use lib.Pow.{pow-add, shl-exact, shr-shr, high}
-use lib.Bits.{bitAnd, bitOr, and-step, and-self, or-shifted-r, block-half, block-odd}
-use lib.Count.{ones, ones-step, trailingZeros}
-use borrow.Author.Tests.{ltb-true, ltb-false, eqb-true, eqb-false}
-use Rattle.lists.specs.Lists.{range, filter}
-use Rattle.mesh.specs.Tables.{digit}
-use Rattle.lists.proofs.Tests.{bool-cases}
-use Rattle.mesh.proofs.Tables.Digits.{digit-zero, digit-suc}
+-- In order: set bits as a filter and as a count, the lowest set bit, a word walked by its set bits, bytes joined to a word, the digits
+-- of a word.
+use Rattle.lists.{specs.Kit.{_≡_, refl, sym, ap, _∙_, _⊎_, inl, inr, Bool, true, false, cond, List, [], _∷_, ℕ, zero, suc, _+_, _*_, _-_, _/_, _%_, _^_, _≤_}}
+use Rattle.lists.{specs.Kit.{_<_, arith, pow-succ', suc-mul, mul-le-mul-right, ltb, eqb, length, getD, bitAnd, bitOr, and-le-l, and-step, and-self}}
+use Rattle.lists.{specs.Kit.{or-shifted-r, block-half, block-odd, ones, ones-step, trailingZeros, ltb-true, ltb-false, eqb-true, eqb-false}}
+use Rattle.lists.{specs.Lists.{range, filter}, proofs.Tests.{bool-cases}}
+use lib.{Arith.{lt-one}, Pow.{pow-add, shl-exact, shr-shr, high}}
+use Rattle.mesh.{specs.Tables.{digit}, proofs.Tables.Digits.{digit-zero, digit-suc}}
 use Rattle.rows.specs.Rows.{set-bits, row-word}
 
 -- ---- set bits
@@ -96,6 +85,18 @@ set-bits-lowest (suc d) i w p h = go (λ q. set-bits-lowest d (suc i) (w / 2) q 
         let even : w % 2 ≡ 0 = omega (arith, eqb-false (w % 2) 1 e) in
         let next : suc i + trailingZeros d (w / 2) ≡ i + suc (trailingZeros d (w / 2)) = omega arith in
         rw (clear-lowest-even w p even, double-half (bitAnd (w / 2) (w / 2 - 1)), double-even (bitAnd (w / 2) (w / 2 - 1)), even, rec (omega arith), next)
+
+-- ---- a word walked by its set bits: the lowest and the others, a word still, and none left
+
+pub word-lowest : (first rest : ℕ) → rest < 2 ^ 64 → (rest ≡ 0 → ⊥)
+    → set-bits 64 first rest ≡ (first + trailingZeros 64 rest) ∷ set-bits 64 first (bitAnd rest (rest - 1))
+word-lowest first rest h some = set-bits-lowest 64 first rest (omega (arith, some)) h
+
+pub word-less : (rest : ℕ) → rest < 2 ^ 64 → bitAnd rest (rest - 1) < 2 ^ 64
+word-less rest h = omega (arith, and-le-l rest (rest - 1), h)
+
+pub word-none : (first rest : ℕ) → rest ≡ 0 → set-bits 64 first rest ≡ []
+word-none first rest z = ap (set-bits 64 first) z ∙ set-bits-nothing 64 first
 
 -- ---- digits of a number in two parts
 

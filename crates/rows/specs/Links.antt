@@ -4,12 +4,8 @@
 --   links-from n ts a p     the links of the rows from a to n - 1 without the first p
 --   Rows-listed             rows that fit a list
 -- That these are the links of mesh's `graph-in` is `links-graph-in` in proofs/GraphLinks.antt. Definitions only.
-use mathlib.Core.List.{List, map, flatMap}
-use Prim.Native.Nat.{ℕ, suc, _-_, _≤_, _<_, min}
-use lib.ListN.{length, drop}
-use Rattle.mesh.specs.Limits.{max-radios, max-neighbours}
-use Rattle.lists.specs.Lists.{range}
-use Rattle.mesh.specs.Graph.{Link, link-of}
+use Rattle.lists.specs.{Kit.{List, map, flatMap, ℕ, suc, _-_, _≤_, _<_, min, length, drop}, Lists.{range}}
+use Rattle.mesh.specs.{Limits.{max-radios, max-neighbours}, Graph.{Link, link-of}}
 use Rattle.rows.specs.Rows.{neighbours-above}
 
 abbrev pub links-to : (a : ℕ) → List ℕ → List Link

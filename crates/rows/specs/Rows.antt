@@ -5,19 +5,12 @@
 --   row-from ts a k       the radios from 64 * k on that row a marks: its words from word k on
 --   row-count most ts a   how many radios row a marks, counted no further than one past `most`
 --   set-bits d i w        the places of the set bits among the d lowest of w, ascending, counted from i
---   word-radios k w       the radios of word k of a set, ascending; none past its eight words
 --   row-word k ts i        the k bytes of ts from place i on, as one number, lowest byte first
 --   word-of row k          word k of a row that stands by itself, 0 past it
 --   Words-room             what a private function of src/lib.rt wants of lengths
 -- Laws are in proofs/RowListLaws.antt and proofs/WordLaws.antt. Definitions only.
-use mathlib.Core.Bool.{cond}
-use mathlib.Core.List.{List, [], _∷_}
-use Prim.Native.Nat.{ℕ, zero, suc, _+_, _*_, _-_, _/_, _%_, _^_, _≤_, min}
-use lib.Dec.{ltb, leb, eqb}
-use lib.ListN.{length, getD}
-use Rattle.mesh.specs.Limits.{max-radios, max-neighbours, row-bytes}
-use Rattle.lists.specs.Lists.{range, filter}
-use Rattle.mesh.specs.Tables.{marked}
+use Rattle.lists.specs.{Kit.{cond, List, [], _∷_, ℕ, zero, suc, _+_, _*_, _-_, _/_, _%_, _^_, _≤_, min, ltb, leb, eqb, length, getD}, Lists.{range, filter}}
+use Rattle.mesh.specs.{Limits.{max-radios, max-neighbours, row-bytes}, Tables.{marked}}
 
 unfoldable pub neighbours-of : (links : List ℕ) → (a : ℕ) → List ℕ
 neighbours-of ts a = filter (λ b. marked ts a b) (range 0 max-radios)
@@ -37,9 +30,6 @@ row-count most ts a = min (suc most) (length (row-listed ts a))
 unfoldable pub set-bits : (d i w : ℕ) → List ℕ
 set-bits zero i w = []
 set-bits (suc d) i w = let rest = set-bits d (suc i) (w / 2) in cond (eqb (w % 2) 1) (i ∷ rest) rest
-
-unfoldable pub word-radios : (k w : ℕ) → List ℕ
-word-radios k w = cond (ltb k 8) (set-bits 64 (64 * k) w) []
 
 unfoldable pub row-word : (k : ℕ) → (bytes : List ℕ) → (i : ℕ) → ℕ
 row-word zero ts i = 0

@@ -11,15 +11,9 @@
 --   members ws             the radios of the set ws, ascending
 --   Listed                 these listed
 -- Laws are in proofs/SetLaws.antt. Definitions only.
-use mathlib.Core.Path.{_≡_}
-use mathlib.Core.Bool.{Bool, true, false, _&&_, _||_, not}
-use mathlib.Core.List.{List}
-use Prim.Native.Nat.{ℕ, _/_, _%_, min}
-use lib.Bits.{bitAnd, bitXor}
-use lib.ListN.{length, getD, take, set}
-use Rattle.mesh.specs.Limits.{max-radios}
-use Rattle.lists.specs.Lists.{range, filter, member, overwrite}
-use Rattle.mesh.specs.Tables.{digit, put-digit}
+use Rattle.lists.specs.{Kit.{_≡_, Bool, true, false, _&&_, _||_, not, List, ℕ, _/_, _%_, min, bitAnd, bitXor, length, getD, take, set}, Lists.{range, filter}}
+use Rattle.lists.specs.{Lists.{member, overwrite}}
+use Rattle.mesh.specs.{Limits.{max-radios}, Tables.{digit, put-digit}}
 use Rattle.rows.specs.Rows.{row-listed}
 
 unfoldable pub in-set : (words : List ℕ) → (v : ℕ) → Bool

@@ -1,14 +1,11 @@
 // Rows of the links table: one bit tested, set or cleared, a row's neighbours listed, all or the ones above its own radio, and counted in a
 // byte; the words of a row. `sets` has sets of radios, eight words each, `link_list` the links that a table marks. The bits of a row are
 // walked here, and where a loop over a whole row is the work itself.
-ghost use mathlib.Core.Path.{_≡_};
-ghost use Prim.Native.Nat.{suc, _≤_, _+_, _-_, min};
-ghost use lib.ListN.{length, take};
-ghost use lib.Seq.{sets};
+ghost use Rattle.lists.specs.Kit.{_≡_, suc, _≤_, _+_, _-_, min, length, take, sets};
 ghost use Rattle.mesh.specs.Limits.{max-radios, max-neighbours};
 ghost use Rattle.lists.specs.Lists.{head-or, overwrite};
 ghost use Rattle.mesh.specs.Tables.{marked, put-bit, put-link};
-ghost use Rattle.rows.specs.Rows.{row-listed, neighbours-above, row-from, row-count, set-bits, word-radios, row-word, word-of, Words-room};
+ghost use Rattle.rows.specs.Rows.{row-listed, neighbours-above, row-from, row-count, set-bits, row-word, word-of, Words-room};
 
 pub mod link_list;
 pub mod sets;
@@ -144,21 +141,8 @@ fn list_words(links: &[u8], a: u32, from: u32, list: &mut [u16], count: u8) -> u
     n
 }
 
-// Writes the radios that row a marks into a list of at most `STOP` entries, ascending, until it is full, and comes back with how
-// many it wrote.
-fn list_row(links: &[u8], a: u32, list: &mut [u16]) -> u8
-    requires { ⌜ length (now list) ≤ suc max-neighbours ⌝ }
-    ensures counted { λ r. ⌜ r ≡ min (length (now (list .entry))) (length (row-listed (now (links .entry)) a)) ⌝ }
-    ensures listed { λ _. ⌜ now (list .exit)
-        ≡ overwrite (take (length (now (list .entry))) (row-listed (now (links .entry)) a)) (now (list .entry)) ⌝ }
-{
-    if links.len() < mesh::Site::ROW_BYTES * a as usize + mesh::Site::ROW_BYTES {
-        return 0;
-    }
-    list_words(links, a, 0, list, 0)
-}
-
-// The same of the radios above a: the bits up to its own are shifted out of its word.
+// Writes the radios above a that row a marks into a list of at most `STOP` entries, ascending, until it is full, and comes back with
+// how many it wrote: the bits up to its own are shifted out of its word.
 fn list_above(links: &[u8], a: u32, list: &mut [u16]) -> u8
     requires { ⌜ length (now list) ≤ suc max-neighbours ⌝ }
     ensures counted { λ r. ⌜ r ≡ min (length (now (list .entry))) (length (neighbours-above (now (links .entry)) a)) ⌝ }
@@ -196,8 +180,11 @@ pub fn row_neighbours(links: &[u8], a: u32, list: &mut [u16]) -> u8
     ensures listed { λ _. ⌜ now (list .exit)
         ≡ overwrite (take (min (length (now (list .entry))) (suc max-neighbours)) (row-listed (now (links .entry)) a)) (now (list .entry)) ⌝ }
 {
+    if links.len() < mesh::Site::ROW_BYTES * a as usize + mesh::Site::ROW_BYTES {
+        return 0;
+    }
     let room = row_room(list.len());
-    list_row(links, a, &mut list[..room])
+    list_words(links, a, 0, &mut list[..room], 0)
 }
 
 // The same of the radios above a, which are the higher ends of the links of which a is the lower.
@@ -221,18 +208,6 @@ fn list_word(word: u64, first: u32, list: &mut [u16], at: usize) -> u8
         return 0;
     }
     list_bits(word, first, &mut list[at..], 0)
-}
-
-// Writes the radios of word k of a set into the list from place `at` on, ascending, as many as fit, and comes back with how many
-// these are. Past the words of a set nothing is written.
-pub fn list_radios(word: u64, k: u32, list: &mut [u16], at: usize) -> u8
-    ensures counted { λ r. ⌜ r ≡ min (length (now (list .entry)) - at) (length (word-radios k word)) ⌝ }
-    ensures listed { λ _. ⌜ now (list .exit) ≡ sets (now (list .entry)) at (word-radios k word) ⌝ }
-{
-    if ROW_WORDS <= k {
-        return 0;
-    }
-    list_word(word, WORD_BITS * k, list, at)
 }
 
 // Writes the radios of a set, kept as one row, into the list, ascending, as many as fit, and comes back with the count of all of

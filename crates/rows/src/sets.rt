@@ -1,9 +1,5 @@
 // Sets of radios as eight words, a bit for each radio: tested, put into, taken out of, joined with rows, compared and listed.
-ghost use mathlib.Core.Path.{_≡_};
-ghost use Prim.Native.Nat.{_+_, _*_, _≤_, _<_, min};
-ghost use lib.ListN.{length, getD};
-ghost use lib.Bits.{bitAnd};
-ghost use lib.Seq.{sets};
+ghost use Rattle.lists.specs.Kit.{_≡_, _+_, _*_, _≤_, _<_, min, length, getD, bitAnd, sets};
 ghost use Rattle.mesh.specs.Limits.{max-radios};
 ghost use Rattle.lists.specs.Lists.{head-or};
 ghost use Rattle.rows.specs.Rows.{set-bits};
@@ -55,7 +51,7 @@ fn take_word(other: u64, k: u32, set: &mut [u64], list: &mut [u16], n: usize) ->
         return n;
     }
     set[at] = set[at] ^ word;
-    n + super::list_radios(word, k, list, n) as usize
+    n + super::list_word(word, super::WORD_BITS * k, list, n) as usize
 }
 
 // Puts the radios that row a marks into the set. Where the row is not whole in the table nothing changes.
@@ -143,7 +139,7 @@ pub fn list(set: &[u64], list: &mut [u16]) -> u32
     let mut n: usize = 0;
     let mut k: u32 = 0;
     while k < super::ROW_WORDS {
-        n += super::list_radios(set[k as usize], k, list, n) as usize;
+        n += super::list_word(set[k as usize], super::WORD_BITS * k, list, n) as usize;
         k += 1;
     }
     n as u32

@@ -1,22 +1,21 @@
 -- How long the printed lines are at most: what a caller needs to know that its buffer is long enough.
-use mathlib.Core.Path.{refl}
-use mathlib.Core.Logic.{inl, inr}
-use mathlib.Core.List.{List, [], _∷_, map}
-use Prim.Native.Nat.{ℕ, zero, suc, _+_, _*_, _^_, _≤_, _<_}
-use native.Mathlib.Omega.{arith}
-use lib.IntN.{ℤ, pos, negsuc, natAbs}
-use lib.ListN.{length, length-append}
-use Rattle.lists.specs.Lists.{In}
-use Rattle.text.specs.Text.{decimal, further-fields, printed-line}
+use Rattle.lists.specs.{Kit.{refl, inl, inr, List, [], _∷_, map, ℕ, zero, suc, _+_, _*_, _^_, _≤_, _<_, arith, ℤ, pos, negsuc, natAbs, length, length-append}}
+use Rattle.lists.specs.{Lists.{In}}
+use Rattle.text.{specs.Text.{decimal, further-fields, printed-line}, proofs.DecimalLaws.{length-decimal-le}}
 use Rattle.calls.specs.Replay.{step-text, link-line}
-use Rattle.text.proofs.DecimalLaws.{length-decimal-le}
 
 -- fields of numbers below 10 ^ k, with their spaces and the line feed
 pub length-fields-le : (k : ℕ) (xs : List ℕ) → ((x : ℕ) → In x xs → x < 10 ^ suc k) → length (further-fields (map decimal xs)) ≤ (k + 2) * length xs + 1
 unfolding further-fields
 length-fields-le k [] h = omega arith
 length-fields-le k (x ∷ xs) h =
-    omega (arith, length-append (decimal x) (further-fields (map decimal xs)), length-decimal-le k x (h x (inl refl)), length-fields-le k xs (λ y m. h y (inr m)))
+    omega (
+      arith,
+      length-append (decimal x) (further-fields (map decimal xs)),
+      length-decimal-le k x (h x (inl refl)),
+      length-fields-le k xs
+          (λ y m. h y (inr m)),
+    )
 
 -- a word, and numbers below 10 ^ k
 pub length-line-le : (word : List ℕ) (k : ℕ) (xs : List ℕ) → ((x : ℕ) → In x xs → x < 10 ^ suc k)

@@ -1,20 +1,10 @@
 -- One step of each reading at a place of the text: what the parser's functions cite.
-use mathlib.Core.Path.{_≡_, sym, _∙_, ap}
-use mathlib.Core.Bool.{Bool, true, false, cond}
-use mathlib.Core.List.{List, [], _∷_}
-use Prim.Native.Nat.{ℕ, suc, _≤_, _<_, _-_, _+_, _*_}
-use native.Mathlib.Omega.{arith}
-use native.Mathlib.Numerals.{add-one}
-use lib.ListN.{length, drop, getD, drop-of-length-le}
-use lib.Seq.{drop-cons, drop-drop}
-use borrow.Author.Tests.{le-leb, lt-leb, eq-eqb, ne-eqb}
-use Rattle.lists.specs.Lists.{same}
+use Rattle.lists.specs.{Kit.{_≡_, sym, _∙_, ap, Bool, true, false, cond, List, [], _∷_, ℕ, suc, _≤_, _<_, _-_, _+_, _*_, arith, add-one, length, drop, getD}}
+use Rattle.lists.specs.{Kit.{drop-of-length-le, drop-cons, drop-drop, le-leb, lt-leb, eq-eqb, ne-eqb}, Lists.{same}}
 use Rattle.text.specs.Text.{bytes-of, space, line-feed, digit-byte}
-use Rattle.script.specs.declared.lines.Line.the-variants.{Up, Down, Bad}
-use Rattle.script.specs.declared.lines.Number.{Number}
-use Rattle.script.specs.Lines.{is-digit, Read, got, none, digits-on, number-of, ended, last-number-of, starts, radios-line, link-with, link-after}
-use Rattle.script.specs.Lines.{link-from, line-of}
-use Rattle.script.specs.Texts.{read-of, alone, alone-of}
+use Rattle.script.specs.{declared.lines.Line.the-variants.{Up, Down, Bad}, declared.lines.Number.{Number}, Lines.{is-digit, Read, got, none, digits-on}}
+use Rattle.script.specs.{Lines.{number-of, ended, last-number-of, starts, radios-line, link-with, link-after, link-from, line-of}, Texts.{read-of, alone}}
+use Rattle.script.specs.{Texts.{alone-of}}
 
 -- ---- read-of
 

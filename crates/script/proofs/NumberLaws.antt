@@ -1,18 +1,9 @@
 -- A number read from its decimal digits is that number, and what is read as a number is its decimal digits.
-use mathlib.Core.Path.{_≡_, refl, sym, ap, _∙_}
-use mathlib.Core.Logic.{_⊎_, inl, inr}
-use mathlib.Core.Bool.{true, false}
-use mathlib.Core.List.{List, [], _∷_, _++_, append-assoc}
-use Prim.Native.Nat.{ℕ, zero, suc, _+_, _*_, _-_, _/_, _%_, _≤_, _<_}
-use native.Mathlib.Omega.{arith}
-use lib.Dec.{ltb, leb, eqb}
-use borrow.Author.Tests.{ltb-true, ltb-false, leb-true, eqb-true, eqb-false, le-leb, ne-eqb}
-use Rattle.lists.proofs.Tests.{bool-cases, and-left, and-right, and-both}
-use Rattle.lists.proofs.All.{same-eq}
-use Rattle.lists.specs.Lists.{same}
-use Rattle.text.specs.Text.{line-feed, digit-byte, decimal}
+use Rattle.lists.{specs.Kit.{_≡_, refl, sym, ap, _∙_, _⊎_, inl, inr, true, false, List, [], _∷_, _++_, append-assoc, ℕ, zero, suc, _+_, _*_, _-_, _/_, _%_}}
+use Rattle.lists.{specs.Kit.{_≤_, _<_, arith, ltb, leb, eqb, ltb-true, ltb-false, leb-true, eqb-true, eqb-false, le-leb, ne-eqb}, proofs.Tests.{bool-cases}}
+use Rattle.lists.{proofs.Tests.{and-left, and-right, and-both}, proofs.All.{same-eq}, specs.Lists.{same}}
+use Rattle.text.{specs.Text.{line-feed, digit-byte, decimal}, proofs.DecimalLaws.{decimal-digit, decimal-more, decimal-append}}
 use Rattle.script.specs.Lines.{max-value, Read, got, none, is-digit, digits-on, number-of, ended, last-number-of}
-use Rattle.text.proofs.DecimalLaws.{decimal-digit, decimal-more, decimal-append}
 
 -- ---- is-digit
 
@@ -51,7 +42,8 @@ digits-decimal : (t x : ℕ) (ys : List ℕ) → x ≤ t → 0 < x → x ≤ max
 digits-decimal zero x ys h p m = absurd (omega arith)
 digits-decimal (suc t) x ys h p m = go (digits-decimal t (x / 10) (digit-byte (x % 10) ∷ ys)) (bool-cases (ltb x 10))
   where
-    go : (x / 10 ≤ t → 0 < x / 10 → x / 10 ≤ max-value → number-of (decimal (x / 10) ++ (digit-byte (x % 10) ∷ ys)) ≡ digits-on (x / 10) (digit-byte (x % 10) ∷ ys))
+    go : (x / 10 ≤ t → 0 < x / 10 → x / 10 ≤ max-value → number-of (decimal (x / 10) ++ (digit-byte (x % 10) ∷ ys)) ≡ digits-on (x / 10)
+        (digit-byte (x % 10) ∷ ys))
         → (ltb x 10 ≡ true) ⊎ (ltb x 10 ≡ false) → number-of (decimal x ++ ys) ≡ digits-on x ys
     go rec (inl e) = let k = ltb-true x 10 e in rw (decimal-digit x k) (number-of-digit x ys p k)
     go rec (inr e) =
@@ -88,7 +80,8 @@ digits-text v w [] rest p m e =
     record { text = rw (ev, er); small = omega arith }
 digits-text v w (b ∷ bs) rest p m e = go (λ q l. digits-text (10 * v + (b - digit-byte 0)) w bs rest q l) (bool-cases (is-digit b))
   where
-    go : (0 < 10 * v + (b - digit-byte 0) → 10 * v + (b - digit-byte 0) ≤ max-value → digits-on (10 * v + (b - digit-byte 0)) bs ≡ got w rest → Reads (decimal (10 * v + (b - digit-byte 0)) ++ bs) w rest)
+    go : (0 < 10 * v + (b - digit-byte 0) → 10 * v + (b - digit-byte 0) ≤ max-value → digits-on (10 * v + (b - digit-byte 0)) bs ≡ got w rest → Reads
+        (decimal (10 * v + (b - digit-byte 0)) ++ bs) w rest)
         → (is-digit b ≡ true) ⊎ (is-digit b ≡ false) → Reads (decimal v ++ b ∷ bs) w rest
     go rec (inr d) =
         let f : got v (b ∷ bs) ≡ got w rest = rw d at e in
@@ -103,7 +96,8 @@ digits-text v w (b ∷ bs) rest p m e = go (λ q l. digits-text (10 * v + (b - d
             let r = rec (omega arith) (leb-true (10 * v + (b - digit-byte 0)) max-value l) (rw (d, l) at e) in
             record {
               text = sym (append-assoc (decimal v) (b ∷ []) bs)
-                  ∙ ap (λ (ds : List ℕ). ds ++ bs) (sym (decimal-append v (b - digit-byte 0) p (digit-bound b d) ∙ ap (λ (x : ℕ). decimal v ++ (x ∷ [])) (digit-byte-of b d)))
+                  ∙ ap (λ (ds : List ℕ). ds ++ bs) (sym
+                  (decimal-append v (b - digit-byte 0) p (digit-bound b d) ∙ ap (λ (x : ℕ). decimal v ++ (x ∷ [])) (digit-byte-of b d)))
                   ∙ r .text;
               small = r .small;
             }

@@ -6,31 +6,18 @@
 --   Fitting             c is the buffer after the first pieces, and what is left takes it where the whole text takes b, and fits
 --   Ends, Rows          so after i pieces
 --   above-radios        the neighbours above a radio are radios
-use mathlib.Core.Path.{_≡_, refl, sym, ap, _∙_}
-use mathlib.Core.Bool.{Bool, true, false, cond}
-use mathlib.Core.List.{List, [], _∷_, _++_, append-assoc, flatMap}
-use Prim.Native.Nat.{ℕ, _+_, _*_, _-_, _/_, _%_, _≤_, _<_}
-use native.Mathlib.Omega.{arith}
-use native.Mathlib.Numerals.{add-one}
-use lib.Dec.{ltb, leb}
-use lib.ListN.{length, getD, take, drop, set, length-append, drop-of-length-le}
-use lib.Seq.{drop-cons}
+use Rattle.lists.{specs.Kit.{_≡_, refl, sym, ap, _∙_, Bool, true, false, cond, List, [], _∷_, _++_, append-assoc, flatMap, ℕ, _+_, _*_, _-_, _/_, _%_, _≤_}}
+use Rattle.lists.{specs.Kit.{_<_, arith, add-one, ltb, leb, length, getD, take, drop, set, length-append, drop-of-length-le, drop-cons}}
+use Rattle.lists.{specs.Lists.{overwrite, In, Entries-below}, proofs.Overwrite.{overwrite-take}, proofs.Map.{flatMap-append}, proofs.Filter.{in-filter}}
+use Rattle.lists.{proofs.Member.{in-getD}}
 use borrow.Rule.Slice.PartMut.{midOf, putMid, post-is, mid-len}
-use Rattle.lists.specs.Lists.{overwrite, In, Entries-below}
-use Rattle.lists.proofs.Overwrite.{overwrite-take}
-use Rattle.lists.proofs.Map.{flatMap-append}
-use Rattle.lists.proofs.Filter.{in-filter}
-use Rattle.lists.proofs.Member.{in-getD}
 use Rattle.mesh.specs.Limits.{max-radios, row-bytes}
-use Rattle.rows.specs.Rows.{neighbours-of, row-listed, neighbours-above}
-use Rattle.rows.proofs.RowListLaws.{in-neighbours-of}
-use Rattle.text.specs.Text.{bytes-of, space, line-feed, digit-byte, decimal, further-fields, printed-line}
-use Rattle.text.specs.Print.{Buffer, buffer-at, max-place, Puts}
-use Rattle.text.proofs.DecimalLaws.{decimal-digit, decimal-more}
-use Rattle.text.proofs.PrintLaws.{put-fits, puts-byte-in, puts-append, puts-as, at-put, Putting, putting-none, putting-piece, putting-end}
+use Rattle.rows.{specs.Rows.{neighbours-of, row-listed, neighbours-above}, proofs.RowListLaws.{in-neighbours-of}, specs.Links.{links-to, links-above}}
+use Rattle.rows.{specs.Links.{links-from}, proofs.LinksFrom.{links-from-row, links-from-end}}
+use Rattle.text.{specs.Text.{bytes-of, space, line-feed, digit-byte, decimal, further-fields, printed-line}, specs.Print.{Buffer, buffer-at, max-place, Puts}}
+use Rattle.text.{proofs.DecimalLaws.{decimal-digit, decimal-more}, proofs.PrintLaws.{put-fits, puts-byte-in, puts-append, puts-as, at-put, Putting}}
+use Rattle.text.{proofs.PrintLaws.{putting-none, putting-piece, putting-end}}
 use Rattle.calls.specs.Script.{radios-text, up-text, up-line}
-use Rattle.rows.specs.Links.{links-to, links-above, links-from}
-use Rattle.rows.proofs.LinksFrom.{links-from-row, links-from-end}
 use Rattle.script.proofs.ScriptLengths.{length-up-text}
 
 -- ---- the place after a text
@@ -92,7 +79,8 @@ up-put x y p q r s = puts-append p (puts-append q (puts-append r s))
 
 -- the word of a line that fits has room, and so have both its radios and its line feed
 module _ (bytes : List ℕ) (at a b : ℕ) (room : at + length (up-text a b) ≤ length bytes) (long : length bytes ≤ max-place) where
-  pub up-word : {xs : List ℕ} {w : ℕ} → Puts (buffer-at bytes at) (bytes-of "up ") (buffer-at xs w) → w + 2 + length (decimal a) + length (decimal b) ≤ length bytes
+  pub up-word : {xs : List ℕ} {w : ℕ} → Puts (buffer-at bytes at) (bytes-of "up ") (buffer-at xs w) → w + 2 + length (decimal a) + length (decimal b) ≤ length
+      bytes
   up-word o = omega (arith, length-up-text a b, puts-place o (omega (arith, length-up-text a b)))
 
   pub up-lower : {xs ys : List ℕ} {w s : ℕ} → Puts (buffer-at bytes at) (bytes-of "up ") (buffer-at xs w)

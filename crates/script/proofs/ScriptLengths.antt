@@ -2,21 +2,12 @@
 --   digits-two, ..               how many digits a number has
 --   length-radios, length-up-text, length-up, length-script   the bytes of a line, and of all
 --   Ends-counted, Rows-counted   after i pieces: what is counted and the bytes of what is left are the bytes of the whole
-use mathlib.Core.Path.{_≡_, ap, _∙_}
-use mathlib.Core.List.{List, _∷_, [], _++_, flatMap}
-use Prim.Native.Nat.{ℕ, _+_, _*_, _/_, _≤_, _<_}
-use native.Mathlib.Omega.{arith}
-use native.Mathlib.Numerals.{add-one}
-use lib.ListN.{length, getD, drop, length-append, drop-of-length-le}
-use lib.Seq.{drop-cons}
-use Rattle.lists.proofs.Map.{flatMap-append}
+use Rattle.lists.{specs.Kit.{_≡_, ap, _∙_, List, _∷_, [], _++_, flatMap, ℕ, _+_, _*_, _/_, _≤_, _<_, arith, add-one, length, getD, drop, length-append}}
+use Rattle.lists.{specs.Kit.{drop-of-length-le, drop-cons}, proofs.Map.{flatMap-append}}
 use Rattle.mesh.specs.Graph.{Link, link-of, graph}
-use Rattle.rows.specs.Rows.{neighbours-above}
-use Rattle.text.specs.Text.{decimal, further-fields, printed-line}
-use Rattle.text.proofs.DecimalLaws.{length-decimal-digit, length-decimal-more}
+use Rattle.rows.{specs.Rows.{neighbours-above}, specs.Links.{links-to, links-above, links-from}, proofs.LinksFrom.{links-from-row, links-from-end}}
+use Rattle.text.{specs.Text.{decimal, further-fields, printed-line}, proofs.DecimalLaws.{length-decimal-digit, length-decimal-more}}
 use Rattle.calls.specs.Script.{radios-text, up-text, up-line, script-of, script-length}
-use Rattle.rows.specs.Links.{links-to, links-above, links-from}
-use Rattle.rows.proofs.LinksFrom.{links-from-row, links-from-end}
 
 -- ---- digits
 

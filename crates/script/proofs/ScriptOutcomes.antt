@@ -1,30 +1,17 @@
 -- The calls for a site's script meet their contracts, on plain values: refused by 1 to 3, the length, refused by 13, the script in front
 -- of the buffer. What is put are the links that the rows mark, which are the graph's.
-use mathlib.Core.Path.{_≡_, sym, ap, _∙_}
-use mathlib.Core.Bool.{true}
-use mathlib.Core.List.{List, _++_}
-use Prim.Native.Nat.{ℕ, _+_, _≤_, _<_}
-use native.Mathlib.Omega.{arith}
-use lib.ListN.{length, drop}
-use Rattle.lists.specs.Lists.{overwrite}
-use Rattle.mesh.specs.Limits.{max-neighbours}
-use Rattle.mesh.specs.Graph.{Graph, graph}
-use Rattle.mesh.specs.Tables.{Tables, graph-in}
-use Rattle.mesh.specs.Sound.{sound}
-use Rattle.mesh.proofs.Images.Tables.{valid-graph-in}
-use Rattle.text.specs.Print.{Buffer, buffer-at, max-place, put, Puts}
-use Rattle.text.proofs.PrintLaws.{put-fits}
-use Rattle.calls.specs.Script.{script-of, script-length}
-use Rattle.calls.specs.Questions.{ask, lengths-of, site-refusal, holds-script, script-length-refusal, script-refusal}
-use Rattle.calls.specs.Contracts.{Script-length-contract, Script-contract}
-use Rattle.calls.specs.Outcomes.{value, script-length-outcome, script-outcome}
-use Rattle.calls.proofs.ContractLaws.{value-refused, value-answered, listing-refused, listing-answered}
-use Rattle.calls.proofs.ChainLaws.{Site-good, site-zero, site-stops}
-use Rattle.calls.proofs.ScriptLaws.{script-yes, script-no, script-most}
+use Rattle.lists.specs.{Kit.{_≡_, sym, ap, _∙_, true, List, _++_, ℕ, _+_, _≤_, _<_, arith, length, drop}, Lists.{overwrite}}
+use Rattle.mesh.{specs.Limits.{max-neighbours}, specs.Graph.{Graph, graph}, specs.Tables.{Tables, graph-in}, specs.Sound.{sound}}
+use Rattle.mesh.{proofs.Images.Tables.{valid-graph-in}}
+use Rattle.text.{specs.Print.{Buffer, buffer-at, max-place, put, Puts}, proofs.PrintLaws.{put-fits}}
+use Rattle.calls.{specs.Script.{script-of, script-length}, specs.Questions.{ask, lengths-of, site-refusal}}
+use Rattle.calls.{specs.Contracts.{Script-length-contract, Script-contract}, specs.Outcomes.{value, script-length-outcome, script-outcome}}
+use Rattle.calls.{proofs.ContractLaws.{value-refused, value-answered, listing-refused, listing-answered}, proofs.ChainLaws.{Site-good, site-zero, site-stops}}
+use Rattle.calls.{proofs.ScriptLaws.{script-yes, script-no, script-most}}
 use Rattle.soundness.proofs.SoundSite.{Sound-site, site-good-sound}
-use Rattle.rows.specs.Links.{links-from, Rows-listed}
-use Rattle.rows.proofs.GraphLinks.{rows-listed-few, links-graph-in}
+use Rattle.rows.{specs.Links.{links-from, Rows-listed}, proofs.GraphLinks.{rows-listed-few, links-graph-in}}
 use Rattle.script.specs.Longest.{longest-script}
+use Rattle.calls.specs.{Chains.{script-length-refusal, script-refusal, holds-script}}
 
 module _ (n : ℕ) (t : Tables) where
   abbrev questions : ℕ
@@ -41,11 +28,11 @@ module _ (n : ℕ) (t : Tables) where
   refusal w = script-refusal n (lengths-of t) (length w) (sound n t) g
 
   pub length-refused : (q : ℕ) → q ≡ questions → (q ≡ 0 → ⊥) → Script-length-contract n t (value q 0)
-  unfolding Script-length-contract script-length-outcome sound script-length-refusal
+  unfolding Script-length-contract script-length-outcome sound
   length-refused q e h = value-refused _ _ q e h
 
   pub write-refused : (w : List ℕ) (q : ℕ) → q ≡ questions → (q ≡ 0 → ⊥) → Script-contract n t w (value q 0) w
-  unfolding Script-contract script-outcome sound script-refusal
+  unfolding Script-contract script-outcome sound
   write-refused w q e h =
       listing-refused (refusal w) _ _ w q
       (e ∙ sym (site-stops n (lengths-of t) true (sound n t) (ask 13 (holds-script g (length w)) 0) (λ z. h (e ∙ z)))) h
@@ -78,7 +65,7 @@ module _ (n : ℕ) (t : Tables) where
       size-is = sized ∙ ap script-length marks-all
 
       pub length-answered : Script-length-contract n t (value 0 size)
-      unfolding Script-length-contract script-length-outcome sound script-length-refusal
+      unfolding Script-length-contract script-length-outcome sound
       length-answered = value-answered _ _ size (sym asked ∙ none) size-is
 
       module _ (w : List ℕ) where

@@ -1,8 +1,5 @@
 -- Every worked script is right: computed.
-use mathlib.Core.Path.{_≡_, refl}
-use mathlib.Core.Bool.{true}
-use mathlib.Core.List.{flatMap}
-use Rattle.lists.specs.Lists.{same}
+use Rattle.lists.specs.{Kit.{_≡_, refl, true, flatMap}, Lists.{same}}
 use Rattle.text.specs.Text.{digit-byte, digits-in, decimal, further-fields, printed-line}
 use Rattle.calls.specs.Script.{up-line, script-of, script-length}
 use Rattle.script.specs.Scripts.{case-good, cases-good, cases}

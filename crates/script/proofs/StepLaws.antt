@@ -1,17 +1,8 @@
 -- Laws of a step's size and of its text.
-use mathlib.Core.Path.{_≡_, refl, sym, ap, _∙_, subst}
-use mathlib.Core.Bool.{true, false}
-use mathlib.Core.List.{_∷_}
-use Prim.Native.Nat.{ℕ, zero, suc, _+_}
-use native.Mathlib.Omega.{arith}
-use mir.Syntax.{w8, w16, w64}
-use mir.Val.{Fits, SFits, toZ, ofZ}
-use mir.Facts.{toZ-ofZ, fits-natAbs}
-use lib.Dec.{T}
-use lib.IntN.{ℤ, pos, negsuc, _-ℤ_, natAbs}
+use Rattle.lists.{specs.Kit.{_≡_, refl, sym, ap, _∙_, subst, true, false, _∷_, ℕ, zero, suc, _+_, arith, T, ℤ, pos, negsuc, _-ℤ_, natAbs, ltb-true}}
+use Rattle.lists.{proofs.Tests.{never}}
+use mir.{Syntax.{w8, w16, w64}, Val.{Fits, SFits, toZ, ofZ}, Facts.{toZ-ofZ, fits-natAbs}}
 use lib.Signed.{ltZ, nonNeg}
-use borrow.Author.Tests.{ltb-true}
-use Rattle.lists.proofs.Tests.{never}
 use Rattle.text.specs.Text.{decimal}
 use Rattle.calls.specs.Replay.{step-text}
 

@@ -1,20 +1,10 @@
 -- The parser takes exactly the texts of the language: a line's text is read back as the line (`parse-text`), and a text that
 -- is read as a line is that line's text, with numbers to 65,535 (`text-parse`).
-use mathlib.Core.Path.{_≡_, refl, sym, ap, _∙_, subst}
-use mathlib.Core.Logic.{_⊎_, inl, inr}
-use mathlib.Core.Bool.{Bool, true, false, cond}
-use mathlib.Core.List.{List, [], _∷_, _++_}
-use Prim.Native.Nat.{ℕ, _≤_}
-use lib.Dec.{eqb}
-use lib.ListN.{length, drop}
-use borrow.Author.Tests.{eqb-true}
-use Rattle.lists.proofs.Tests.{bool-cases, never, and-left, and-right}
+use Rattle.lists.{specs.Kit.{_≡_, refl, sym, ap, _∙_, subst, _⊎_, inl, inr, Bool, true, false, cond, List, [], _∷_, _++_, ℕ, _≤_, eqb, length, drop, eqb-true}}
+use Rattle.lists.{proofs.Tests.{bool-cases, never, and-left, and-right}}
 use Rattle.text.specs.Text.{bytes-of, space, line-feed, digit-byte, decimal, further-fields, printed-line}
-use Rattle.script.specs.declared.lines.Line.{Line}
-use Rattle.script.specs.declared.lines.Line.the-variants.{Radios, Up, Down, Bad}
-use Rattle.script.specs.Texts.{text-of, Values}
-use Rattle.script.specs.Lines.{max-value, Read, got, none, is-digit, number-of, last-number-of, starts, radios-line, link-with}
-use Rattle.script.specs.Lines.{link-after, link-from, line-of}
+use Rattle.script.specs.{declared.lines.Line.{Line}, declared.lines.Line.the-variants.{Radios, Up, Down, Bad}, Texts.{text-of, Values}, Lines.{max-value}}
+use Rattle.script.specs.{Lines.{Read, got, none, is-digit, number-of, last-number-of, starts, radios-line, link-with, link-after, link-from, line-of}}
 use Rattle.script.proofs.NumberLaws.{number-of-decimal, last-number-of-decimal, number-of-text, last-number-of-text}
 
 -- ---- a line's text is read back

@@ -1,11 +1,9 @@
 -- Worked cases of the parser: texts of the language, and the nearest texts of another form.
 -- That every case holds is proved in proofs/Cases.antt. Definitions only.
-use mathlib.Core.List.{List, [], _∷_, _++_}
-use Prim.Native.Nat.{ℕ}
+use Rattle.lists.specs.Kit.{List, [], _∷_, _++_, ℕ}
 use Prim.Native.String.{String}
 use Rattle.text.specs.Text.{bytes-of, line-feed}
-use Rattle.script.specs.declared.lines.Line.{Line}
-use Rattle.script.specs.declared.lines.Line.the-variants.{Radios, Up, Down, Bad}
+use Rattle.script.specs.declared.lines.{Line.{Line}, Line.the-variants.{Radios, Up, Down, Bad}}
 
 pub record Case : Type 0 where
   pub text : List ℕ

@@ -8,15 +8,9 @@
 --   line-of s         what a text says: `Bad` for every text of another form
 -- The texts of the language are in Texts.antt. That line-of takes exactly the texts of the language, and each back to its line, is proved in proofs/Texts.antt.
 -- Definitions only.
-use mathlib.Core.Bool.{Bool, true, false, _&&_, cond}
-use mathlib.Core.List.{List, [], _∷_}
-use Prim.Native.Nat.{ℕ, _+_, _*_, _-_}
-use lib.Dec.{leb, eqb}
-use lib.ListN.{drop}
-use Rattle.lists.specs.Lists.{same}
+use Rattle.lists.specs.{Kit.{Bool, true, false, _&&_, cond, List, [], _∷_, ℕ, _+_, _*_, _-_, leb, eqb, drop}, Lists.{same}}
 use Rattle.text.specs.Text.{bytes-of, space, line-feed, digit-byte}
-use Rattle.script.specs.declared.lines.Line.{Line}
-use Rattle.script.specs.declared.lines.Line.the-variants.{Radios, Up, Down, Bad}
+use Rattle.script.specs.declared.lines.{Line.{Line}, Line.the-variants.{Radios, Up, Down, Bad}}
 
 -- ---- numbers
 

@@ -2,7 +2,7 @@
 --   max-links        the most links of a site
 --   longest-script   the most bytes of a script
 -- Definitions only.
-use Prim.Native.Nat.{ℕ, _+_, _*_, _/_}
+use Rattle.lists.specs.Kit.{ℕ, _+_, _*_, _/_}
 use Rattle.mesh.specs.Limits.{max-radios, max-neighbours}
 
 -- each radio has at most 40

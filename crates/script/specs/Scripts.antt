@@ -3,12 +3,8 @@
 --   case-good    is the row right
 --   cases        the table
 -- Definitions only.
-use mathlib.Core.Bool.{Bool, true, _&&_}
-use mathlib.Core.List.{List, [], _∷_, flatMap}
-use Prim.Native.Nat.{ℕ}
+use Rattle.lists.specs.{Kit.{Bool, true, _&&_, List, [], _∷_, flatMap, ℕ, eqb}, Lists.{same}}
 use Prim.Native.String.{String}
-use lib.Dec.{eqb}
-use Rattle.lists.specs.Lists.{same}
 use Rattle.mesh.specs.Graph.{Graph, graph, link-of}
 use Rattle.text.specs.Text.{bytes-of}
 use Rattle.calls.specs.Script.{script-of, script-length}

@@ -5,17 +5,11 @@
 --   read-of s r       what the parser's record r says about the text s
 --   alone-of s        the number that is the whole of s
 -- Definitions only.
-use mathlib.Core.Bool.{cond}
-use mathlib.Core.List.{List, [], _∷_}
-use Prim.Native.Nat.{ℕ, _≤_}
-use lib.ListN.{drop}
+use Rattle.lists.specs.{Kit.{cond, List, [], _∷_, ℕ, _≤_, drop}, Lists.{same}}
 use Rattle.text.specs.Text.{bytes-of, decimal, printed-line}
 use Rattle.calls.specs.Script.{radios-text, up-text}
-use Rattle.lists.specs.Lists.{same}
-use Rattle.script.specs.Lines.{max-value, Read, got, none, number-of}
-use Rattle.script.specs.declared.lines.Line.{Line}
-use Rattle.script.specs.declared.lines.Line.the-variants.{Radios, Up, Down, Bad}
-use Rattle.script.specs.declared.lines.Number.{Number}
+use Rattle.script.specs.{Lines.{max-value, Read, got, none, number-of}, declared.lines.Line.{Line}, declared.lines.Line.the-variants.{Radios, Up, Down}}
+use Rattle.script.specs.{declared.lines.Line.the-variants.{Bad}, declared.lines.Number.{Number}}
 
 -- ---- the language
 

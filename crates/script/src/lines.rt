@@ -1,8 +1,5 @@
 // Lines of the replay program: `radios N`, `up A B`, `down A B`.
-ghost use mathlib.Core.Path.{_≡_};
-ghost use mathlib.Core.Bool.{false};
-ghost use Prim.Native.Nat.{_≤_, _<_};
-ghost use lib.ListN.{length, drop};
+ghost use Rattle.lists.specs.Kit.{_≡_, false, _≤_, _<_, length, drop};
 ghost use Rattle.script.specs.Texts.{read-of, alone-of};
 ghost use Rattle.script.specs.Lines.{digits-on, number-of, last-number-of, link-from, starts, line-of};
 
@@ -47,13 +44,6 @@ fn none() -> Number
     }
 }
 
-// A byte as a number.
-fn wide(x: u8) -> u32
-    ensures { λ r. ⌜ r ≡ x ⌝ }
-{
-    x as u32
-}
-
 // Whether s starts with the word.
 fn starts_with(s: &[u8], word: &[u8]) -> bool
     ensures { λ r. ⌜ r ≡ starts (now (word .entry)) (now (s .entry)) ⌝ }
@@ -79,7 +69,7 @@ fn read_digits(s: &[u8], p: usize, v: u32) -> Number
     let mut v = v;
     let mut i = p;
     while i < s.len() {
-        let b = wide(s[i]);
+        let b = tables::numbers::wide8(s[i]);
         if b < ZERO {
             return Number {
                 ok: true,
@@ -115,7 +105,7 @@ fn read_number(s: &[u8], p: usize) -> Number
     if s.len() <= p {
         return none();
     }
-    let b = wide(s[p]);
+    let b = tables::numbers::wide8(s[p]);
     if b == ZERO {
         return Number {
             ok: true,

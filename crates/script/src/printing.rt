@@ -1,8 +1,5 @@
 // The replay program's lines, printed into a lent buffer by crate text: the step, a link call's line, the closing lines, `bad L`.
-ghost use mathlib.Core.Path.{_≡_};
-ghost use lib.IntN.{natAbs};
-ghost use lib.ListN.{take};
-ghost use Prim.Native.Nat.{_<_};
+ghost use Rattle.lists.specs.Kit.{_≡_, natAbs, take, _<_};
 ghost use Rattle.calls.specs.Replay.{step-text, link-line, numbers-line, order-line, bad-line};
 ghost use Rattle.text.specs.Print.{buffer-at, Puts};
 

@@ -1,10 +1,7 @@
 // The script that rebuilds a site: the replay program's line 1, then a line for each link, lower radio first, ascending by lower and
 // then higher. Its length is counted by digits beforehand, and is the length written. A buffer that is shorter is refused by 13; in a
 // longer one no byte of a link's line asks whether it fits. The words of the lines are crate script's.
-ghost use mathlib.Core.Path.{_≡_};
-ghost use mathlib.Core.List.{flatMap};
-ghost use Prim.Native.Nat.{_+_, _≤_, _<_};
-ghost use lib.ListN.{length};
+ghost use Rattle.lists.specs.Kit.{_≡_, flatMap, _+_, _≤_, _<_, length};
 ghost use Rattle.lists.specs.Lists.{Entries-below};
 ghost use Rattle.mesh.specs.Limits.{max-radios, max-neighbours};
 ghost use Rattle.mesh.specs.Graph.{graph};
@@ -82,13 +79,6 @@ fn put_up(buffer: &mut [u8], at: usize, a: u32, b: u32) -> usize
     feed + 1
 }
 
-// A radio as it is printed. As an argument it brings its range along, which the cast needs.
-fn wide(x: u16) -> u32
-    ensures { λ r. ⌜ r ≡ x ⌝ }
-{
-    x as u32
-}
-
 // Puts a line for each link of a to the listed radios.
 fn put_row(buffer: &mut [u8], at: usize, a: u32, list: &[u16]) -> usize
     requires radios { ⌜ (a < max-radios) × Entries-below max-radios (now list) ⌝ }
@@ -99,7 +89,7 @@ fn put_row(buffer: &mut [u8], at: usize, a: u32, list: &[u16]) -> usize
     let mut place = at;
     let mut i: usize = 0;
     while i < list.len() {
-        place = put_up(buffer, place, a, wide(list[i]));
+        place = put_up(buffer, place, a, tables::numbers::wide16(list[i]));
         i += 1;
     }
     place

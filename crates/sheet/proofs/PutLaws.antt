@@ -3,20 +3,13 @@
 --   cell-put               a cell from its columns
 --   Spaces, Cells, Lines   after i pieces: what is left takes the page where the whole text takes it
 --   line-put               a line from its cells, its spaces and its line feed
-use mathlib.Core.Path.{_≡_, sym, ap}
-use mathlib.Core.List.{List, [], _∷_, _++_, flatMap}
-use Prim.Native.Nat.{ℕ, suc, _+_, _*_, _-_, _/_, _%_, _≤_, _<_, min}
-use native.Mathlib.Omega.{arith}
-use lib.ListN.{length, replicate, set}
-use borrow.Author.Tests.{lt-ltb, le-ltb}
-use Rattle.lists.specs.Lists.{range}
+use Rattle.lists.specs.{Kit.{_≡_, sym, ap, List, [], _∷_, _++_, flatMap, ℕ, suc, _+_, _*_, _-_, _/_, _%_, _≤_, _<_, min, arith, length, replicate, set, lt-ltb}}
+use Rattle.lists.specs.{Kit.{le-ltb}, Lists.{range}}
 use Rattle.mesh.specs.Sound.{number-in}
-use Rattle.text.specs.Text.{space, line-feed, digit-byte}
-use Rattle.text.specs.Print.{Buffer, buffer-at, max-place, put, Puts}
-use Rattle.text.proofs.PrintLaws.{puts-byte-in, puts-append, puts-as, Putting, putting-none, putting-piece, putting-end}
-use Rattle.calls.specs.Sheet.{line-cells, line-width, line-bytes, cell-width, filled, cell, cells, sheet-line, sheet-lines, sheet}
-use Rattle.calls.specs.SheetCells.{digit-column, Cells-fit}
-use Rattle.calls.proofs.SheetLaws.{cell-columns, length-cells}
+use Rattle.text.{specs.Text.{space, line-feed, digit-byte}, specs.Print.{Buffer, buffer-at, max-place, put, Puts}, proofs.PrintLaws.{puts-byte-in, puts-append}}
+use Rattle.text.{proofs.PrintLaws.{puts-as, Putting, putting-none, putting-piece, putting-end}}
+use Rattle.calls.{specs.Sheet.{line-cells, line-width, line-bytes, cell-width, filled, cell, cells, sheet-line, sheet-lines, sheet}}
+use Rattle.calls.{specs.SheetCells.{digit-column, Cells-fit}, proofs.SheetLaws.{cell-columns, length-cells}}
 
 -- ---- columns
 

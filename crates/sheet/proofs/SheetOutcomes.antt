@@ -1,26 +1,12 @@
 -- The call for the site sheet meets its contract, on plain values: refused by 1 to 3, refused by 12, the sheet in front of the page.
-use mathlib.Core.Path.{_≡_, sym, ap, _∙_}
-use mathlib.Core.Bool.{true}
-use mathlib.Core.List.{List, _++_}
-use Prim.Native.Nat.{ℕ, _+_, _*_, _≤_, _<_}
-use native.Mathlib.Omega.{arith}
-use lib.ListN.{length, drop}
-use borrow.Author.Tests.{lt-leb}
-use Rattle.lists.specs.Lists.{overwrite}
-use Rattle.mesh.specs.Limits.{max-radios}
-use Rattle.mesh.specs.Tables.{Tables}
-use Rattle.mesh.specs.Sound.{sound}
-use Rattle.text.specs.Print.{Buffer, buffer-at, max-place, put}
-use Rattle.text.proofs.PrintLaws.{put-fits}
-use Rattle.calls.specs.Sheet.{line-bytes, sheet, sheet-lines, sheet-length}
-use Rattle.calls.specs.SheetCells.{Cells-fit}
-use Rattle.calls.specs.Questions.{ask, lengths-of, site-refusal, sheet-refusal, holds-sheet}
-use Rattle.calls.specs.Contracts.{Sheet-contract}
-use Rattle.calls.proofs.QuestionLaws.{ask-no}
-use Rattle.calls.specs.Outcomes.{sheet-outcome}
-use Rattle.calls.proofs.ContractLaws.{listing-refused, listing-answered}
-use Rattle.calls.proofs.ChainLaws.{Site-good, site-zero, site-yes, sheet-yes, site-stops}
-use Rattle.calls.proofs.SheetLaws.{length-sheet, sheet-fits}
+use Rattle.lists.specs.{Kit.{_≡_, sym, ap, _∙_, true, List, _++_, ℕ, _+_, _*_, _≤_, _<_, arith, length, drop, lt-leb}, Lists.{overwrite}}
+use Rattle.mesh.specs.{Limits.{max-radios}, Tables.{Tables}, Sound.{sound}}
+use Rattle.text.{specs.Print.{Buffer, buffer-at, max-place, put}, proofs.PrintLaws.{put-fits}}
+use Rattle.calls.{specs.Sheet.{line-bytes, sheet, sheet-lines, sheet-length}, specs.SheetCells.{Cells-fit}, specs.Questions.{ask, lengths-of, site-refusal}}
+use Rattle.calls.{specs.Contracts.{Sheet-contract}, proofs.QuestionLaws.{ask-no}, specs.Outcomes.{sheet-outcome}}
+use Rattle.calls.{proofs.ContractLaws.{listing-refused, listing-answered}, proofs.ChainLaws.{Site-good, site-zero, site-yes, sheet-yes, site-stops}}
+use Rattle.calls.{proofs.SheetLaws.{length-sheet, sheet-fits}}
+use Rattle.calls.specs.{Chains.{sheet-refusal, holds-sheet}}
 
 module _ (n : ℕ) (t : Tables) (w : List ℕ) where
   abbrev questions : ℕ
@@ -30,7 +16,7 @@ module _ (n : ℕ) (t : Tables) (w : List ℕ) where
   refusal = sheet-refusal n (lengths-of t) (length w) (sound n t)
 
   pub sheet-refused : (q : ℕ) → q ≡ questions → (q ≡ 0 → ⊥) → Sheet-contract n t w (record { number = q; value = 0 }) w
-  unfolding Sheet-contract sheet-outcome sound sheet-refusal
+  unfolding Sheet-contract sheet-outcome sound
   sheet-refused q e h =
       listing-refused refusal _ _ w q (e ∙ sym (site-stops n (lengths-of t) true (sound n t) (ask 12 (holds-sheet n (length w)) 0) (λ z. h (e ∙ z)))) h
 
@@ -53,7 +39,7 @@ module _ (n : ℕ) (t : Tables) (w : List ℕ) where
       sheet-room room = omega (arith, ap sheet-lines numbers-long)
 
       pub sheet-no-room : length w < size → Sheet-contract n t w (record { number = 12; value = 0 }) w
-      unfolding Sheet-contract sheet-outcome sound sheet-refusal sheet-length holds-sheet
+      unfolding Sheet-contract sheet-outcome sound sheet-length
       sheet-no-room h =
           let twelve : refusal ≡ 12 =
           site-yes n (lengths-of t) true (sound n t) (ask 12 (holds-sheet n (length w)) 0) passed

@@ -1,8 +1,6 @@
 // The site sheet on a printed page: all radios with their numbers, ascending along the lines, in cells of 8 columns, 8 cells to a line.
 // A page that is shorter than the sheet is refused by 12; on a longer one each byte has its place, and none asks whether it fits.
-ghost use mathlib.Core.Path.{_≡_};
-ghost use Prim.Native.Nat.{_+_, _*_, _%_, _<_, _≤_};
-ghost use lib.ListN.{length, replicate};
+ghost use Rattle.lists.specs.Kit.{_≡_, _+_, _*_, _%_, _<_, _≤_, length, replicate};
 ghost use Rattle.mesh.specs.Lent.{lent};
 ghost use Rattle.text.specs.Text.{space, digit-byte};
 ghost use Rattle.text.specs.Print.{buffer-at, put, Puts};
@@ -67,13 +65,6 @@ fn put_cell(page: &mut [u8], at: usize, v: u32, x: u32)
     page[at + 7] = b' ';
 }
 
-// A number as it is printed.
-fn wide(x: u8) -> u32
-    ensures { λ r. ⌜ r ≡ x ⌝ }
-{
-    x as u32
-}
-
 // Puts the cells of k radios from v on.
 fn put_cells(page: &mut [u8], at: usize, numbers: &[u8], v: usize, k: usize)
     requires fit { ⌜ Cells-fit (now numbers) ⌝ }
@@ -85,7 +76,12 @@ fn put_cells(page: &mut [u8], at: usize, numbers: &[u8], v: usize, k: usize)
     let mut i: usize = 0;
     while i < k {
         let w = v + i;
-        put_cell(page, at + CELL * i, w as u32, wide(numbers[w]));
+        put_cell(
+            page,
+            at + CELL * i,
+            w as u32,
+            tables::numbers::wide8(numbers[w]),
+        );
         i += 1;
     }
 }

@@ -1,12 +1,5 @@
 -- The first bad block: all before it are good.
-use mathlib.Core.Path.{_≡_, sym, subst, _∙_}
-use mathlib.Core.Logic.{_⊎_, inl, inr}
-use mathlib.Core.Bool.{true, false}
-use mathlib.Core.List.{List}
-use Prim.Native.Nat.{ℕ, _+_, _/_, _≤_, _<_}
-use native.Mathlib.Omega.{arith}
-use lib.ListN.{length}
-use Rattle.lists.proofs.Tests.{trichotomy}
+use Rattle.lists.{specs.Kit.{_≡_, sym, subst, _⊎_, inl, inr, true, false, List, ℕ, _+_, _/_, _<_, arith, length}, proofs.Tests.{trichotomy}}
 use Rattle.mesh.specs.Image.{block-bytes, block-check}
 use Rattle.site_program.specs.Blocks.{First-bad}
 

@@ -1,33 +1,15 @@
 -- Each way through the code is one thing that a byte, a line or a read does.
-use mathlib.Core.Path.{_≡_, refl, sym, ap, subst, _∙_}
-use mathlib.Core.Bool.{Bool, true, false, cond}
-use mathlib.Core.Logic.{_⊎_, inl, inr}
-use mathlib.Core.List.{List, [], _∷_, _++_, append-nil}
-use Prim.Native.Nat.{ℕ, suc, _+_, _-_, _≤_, _<_}
-use native.Mathlib.Omega.{arith}
-use native.Mathlib.Numerals.{add-one}
-use lib.Dec.{leb, eqb}
-use lib.ListN.{length, take, drop, set, getD, replicate, length-take, length-drop, drop-of-length-le}
-use lib.Seq.{take-suc-set, drop-cons, take-all}
-use borrow.Author.Tests.{eq-eqb, ne-eqb, le-leb, lt-leb, lt-ltb, le-ltb}
-use Rattle.mesh.specs.Limits.{max-radios}
-use Rattle.mesh.specs.Tables.{Tables}
-use Rattle.calls.specs.Outcomes.{Numbered, Linked, link-outcome, clear-outcome}
-use Rattle.calls.specs.Contracts.{Link-contract, Clear-contract}
-use Rattle.calls.specs.declared.Reply.{Reply}
-use Rattle.text.specs.Text.{line-feed}
-use Rattle.text.specs.Print.{max-place, next-place}
-use Rattle.script.specs.Lines.{line-of}
-use Rattle.script.specs.declared.lines.Line.{Line}
-use Rattle.script.specs.declared.lines.Line.the-variants.{Radios, Up, Down, Bad}
-use Rattle.player.specs.Reads.{goes-on, at-end, unread, Read, Found, input-of, Going, To-end}
-use Rattle.player.specs.declared.input.Brought.{Brought}
-use Rattle.player.proofs.ReadLaws.{none-found, take-none}
-use Rattle.site_program.specs.Errors.{form, no-feed, carriage}
-use Rattle.site_program.specs.Course.{form-of, Lined, lined-with, called, lined, Spot, spot, stopped, held-on, line-done, byte-live, byte-taken, bytes-taken}
-use Rattle.site_program.specs.Course.{first-end, first-room, Reads-once, Reads-on, Reads-rest, ended, line-room, begin, Plays}
-use Rattle.site_program.specs.declared.course.Course.{Course}
-use Rattle.site_program.specs.declared.course.Turned.{Turned}
+use Rattle.lists.specs.Kit.{_≡_, refl, sym, ap, subst, _∙_, Bool, true, false, cond, inl, inr, List, [], _∷_, _++_, ℕ, suc, _+_, _-_, _≤_, _<_, arith, add-one}
+use Rattle.lists.specs.Kit.{eqb, length, take, drop, set, getD, replicate, length-take, length-drop, drop-of-length-le, take-suc-set, drop-cons, take-all}
+use Rattle.lists.specs.Kit.{eq-eqb, ne-eqb, le-leb, lt-leb, lt-ltb, le-ltb}
+use Rattle.mesh.specs.{Limits.{max-radios}, Tables.{Tables}}
+use Rattle.calls.specs.{Outcomes.{Tabled, Linked, link-outcome}, Contracts.{Link-contract, Clear-contract}, declared.Reply.{Reply}}
+use Rattle.text.specs.{Text.{line-feed}, Print.{max-place, next-place}}
+use Rattle.script.specs.{Lines.{line-of}, declared.lines.Line.{Line}, declared.lines.Line.the-variants.{Radios, Up, Down, Bad}}
+use Rattle.player.{specs.Reads.{goes-on, at-end, unread, Read, Found, input-of, Going, To-end}, proofs.ReadLaws.{none-found, take-none}}
+use Rattle.site_program.specs.{Errors.{form, no-feed, carriage}, Course.{form-of, Lined, lined-with, called, lined, Spot, spot, stopped, held-on}}
+use Rattle.site_program.specs.{Course.{line-done, byte-live, byte-taken, bytes-taken, first-end, first-room, Reads-once, Reads-on, Reads-rest, ended}}
+use Rattle.site_program.specs.{Course.{line-room, begin, Plays}, declared.course.Course.{Course}, declared.course.Turned.{Turned}}
 
 -- ---- a line
 
@@ -56,8 +38,8 @@ pub called-is : (up : Bool) (n a b : ℕ) (t v : Tables) (r : Reply) (w x : List
     → lined-with (r .number) v ≡ called up n a b t
 unfolding Link-contract called
 called-is up n a b t v r w x e h =
-    let same : record { reply = r; tables = v; answer = x } ≡ link-outcome up n a b t (replicate max-radios 0) = h ∙ ap (link-outcome up n a b t) e in
-    ap (λ (o : Linked). lined-with (o .reply .number) (o .tables)) same
+    let same : record { reply = r; tables = v; lent = x } ≡ link-outcome up n a b t (replicate max-radios 0) = h ∙ ap (link-outcome up n a b t) e in
+    ap (λ (o : Linked Reply). lined-with (o .reply .number) (o .tables)) same
 
 -- the line l, as the parser tells it
 pub lined-by : (n : ℕ) (s : List ℕ) (l m : Line) (t : Tables) (o : Lined) → l ≡ line-of s → l ≡ m → o ≡ lined n s m t → o ≡ lined n s (line-of s) t
@@ -248,7 +230,7 @@ pub plays : (n from state k m : ℕ) (front chunk room spare : List ℕ) (t v af
 unfolding Clear-contract spot begin
 plays n from state k m front chunk room spare t v after p c last r begins long kept clear part first rest is =
     let start = spot v room (record { line = 2; held = 0; number = k }) in
-    let begun : start ≡ begin n t = ap (λ (x : Numbered). record { tables = x .tables; line = 2; held = []; number = x .reply }) clear in
+    let begun : start ≡ begin n t = ap (λ (x : Tabled ℕ). record { tables = x .tables; line = 2; held = []; number = x .reply }) clear in
     let reads = input-of (rest .reads) in
     let after-first = drop (first-end first-room front) front in
     let bytes : chunk ≡ after-first = part ∙ ap (λ (j : ℕ). drop j front) begins in

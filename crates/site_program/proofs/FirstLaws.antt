@@ -1,18 +1,9 @@
 -- The first line: where its end is found, byte by byte.
-use mathlib.Core.Path.{_≡_, refl, sym, ap, _∙_}
-use mathlib.Core.Bool.{cond}
-use mathlib.Core.List.{List, [], _∷_}
-use Prim.Native.Nat.{ℕ, zero, suc, _+_, _-_, _≤_, _<_}
-use native.Mathlib.Omega.{arith}
-use native.Mathlib.Numerals.{add-one}
-use lib.Dec.{eqb}
-use lib.ListN.{length, take, drop, getD, drop-of-length-le}
-use lib.Seq.{drop-cons}
-use borrow.Author.Tests.{eq-eqb, ne-eqb, lt-ltb, le-ltb}
+use Rattle.lists.specs.Kit.{_≡_, refl, sym, ap, _∙_, cond, List, [], _∷_, ℕ, zero, suc, _+_, _-_, _≤_, _<_, arith, add-one, eqb, length, take, drop, getD}
+use Rattle.lists.specs.Kit.{drop-of-length-le, drop-cons, eq-eqb, ne-eqb, lt-ltb, le-ltb}
 use Rattle.text.specs.Text.{line-feed}
-use Rattle.site_program.specs.Errors.{form, no-feed}
+use Rattle.site_program.specs.{Errors.{form, no-feed}, Course.{further, first-end, first-room, named-radios, line-room, form-of, first-fault}}
 use Rattle.player.specs.Play.{radios-of}
-use Rattle.site_program.specs.Course.{further, first-end, first-room, named-radios, line-room, form-of, first-fault}
 
 -- ---- places
 

@@ -1,17 +1,7 @@
 -- The numbers after a verb: a law for each way through `arguments::given`.
-use mathlib.Core.Path.{_≡_, refl, sym, _∙_}
-use mathlib.Core.Bool.{true, false, cond}
-use mathlib.Core.List.{List, [], _∷_}
-use Prim.Native.Nat.{ℕ, _≤_, _<_}
-use native.Mathlib.Omega.{arith}
-use lib.Dec.{ltb}
-use lib.ListN.{length, drop, getD}
-use borrow.Author.Tests.{eq-eqb, ne-eqb, lt-ltb, le-ltb}
-use Rattle.script.specs.Lines.{got, none}
-use Rattle.script.specs.Texts.{read-of, alone-of}
-use Rattle.script.specs.declared.lines.Number.{Number}
+use Rattle.lists.specs.Kit.{_≡_, refl, true, false, cond, List, [], _∷_, ℕ, _≤_, _<_, arith, ltb, length, drop, getD, eq-eqb, ne-eqb, lt-ltb, le-ltb}
+use Rattle.script.specs.{Lines.{got, none}, Texts.{read-of, alone-of}, declared.lines.Number.{Number}}
 use Rattle.site_program.specs.Given.{is-name, numbers, second, first, given-of}
-use Rattle.site_program.specs.declared.arguments.Numbers.{Numbers}
 
 -- what the parser's record says
 read-of-none : (s : List ℕ) (r : Number) → r .ok ≡ false → read-of s r ≡ none

@@ -12,3 +12,5 @@ pub mod LineLaws
 pub mod TreeLaws
 pub mod SaidLaws
 pub mod NameLaws
+-- `StatusLaws`: the status of a run.
+mod StatusLaws

@@ -1,11 +1,6 @@
 -- Lines of links and of nodes, one after another from the front of their tables.
-use mathlib.Core.Path.{_≡_, refl, sym, _∙_, ap}
-use mathlib.Core.List.{List, [], _∷_, _++_}
-use Prim.Native.Nat.{ℕ, zero, suc, _+_, _*_, _-_, _<_, _≤_}
-use native.Mathlib.Omega.{arith}
-use native.Mathlib.Numerals.{add-one}
-use lib.ListN.{length, drop, getD, length-drop, drop-of-length-le}
-use lib.Seq.{drop-cons}
+use Rattle.lists.specs.Kit.{_≡_, refl, List, [], _∷_, _++_, ℕ, suc, _+_, _*_, _<_, _≤_, arith, add-one, length, drop, getD, length-drop, drop-of-length-le}
+use Rattle.lists.specs.Kit.{drop-cons}
 use Rattle.text.specs.Text.{bytes-of, decimal, printed-line}
 use Rattle.site_program.specs.Texts.{link-line, pair-lines, node-lines}
 

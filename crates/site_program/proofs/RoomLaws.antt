@@ -1,33 +1,20 @@
 -- A buffer with room for the longest text holds the text of every verb: none is refused by 9, 12 or 13.
-use mathlib.Core.Path.{_≡_, refl, sym, ap, subst, _∙_}
-use mathlib.Core.Bool.{Bool, true, false}
-use mathlib.Core.List.{List}
-use Prim.Native.Nat.{ℕ, zero, suc, _≤_}
-use native.Mathlib.Omega.{arith}
-use lib.ListN.{length}
-use borrow.Author.Tests.{le-leb}
-use Rattle.mesh.specs.Limits.{max-radios, max-neighbours}
-use Rattle.mesh.specs.Image.{block-bytes}
-use Rattle.mesh.specs.Tables.{Tables, graph-in}
-use Rattle.mesh.specs.Sound.{sound}
-use Rattle.mesh.proofs.Tables.DegreeSum.{block-count-most}
-use Rattle.mesh.proofs.Images.Tables.{valid-graph-in}
-use Rattle.calls.specs.Outcomes.{by-number, Listing, listing, listing-outcome, write-outcome, sheet-outcome, script-outcome}
-use Rattle.calls.specs.Contracts.{Sheet-contract, Script-contract, Write-contract}
-use Rattle.calls.specs.Questions.{Lengths, lengths-of, ask, image-length, holds-image, holds-sheet, holds-script, lent-refusal, site-refusal, level-refusal}
-use Rattle.calls.specs.Questions.{core-refusal, backbone-refusal, tree-refusal, staircase-refusal, write-refusal, sheet-refusal, script-refusal}
-use Rattle.calls.specs.Lift.{lift-refusal}
-use Rattle.calls.specs.Sheet.{sheet-lines, sheet-length}
-use Rattle.calls.specs.Script.{script-length}
-use Rattle.calls.proofs.QuestionLaws.{ask-yes, ask-later}
-use Rattle.calls.proofs.ChainLaws.{Lent-good, lent-later}
-use Rattle.calls.proofs.ScriptLaws.{script-most}
-use Rattle.site_program.specs.declared.verbs.Text.{Text}
-use Rattle.site_program.specs.declared.names.Verb.{Verb}
-use Rattle.site_program.specs.declared.names.Verb.the-variants.{Help, Check, Numbers, Sheet, Script, Image, Backbone, Staircase, Tree, Core, Lift, Unknown}
-use Rattle.site_program.specs.Texts.{Text-accepted, Text-refused, Text-by}
-use Rattle.site_program.specs.Said.{value-of, Backbone-said, Core-said, Lift-said, Staircase-said, Tree-said, Said}
-use Rattle.site_program.specs.Room.{text-room, Held}
+use Rattle.lists.specs.Kit.{_≡_, sym, ap, _∙_, Bool, true, false, List, ℕ, zero, suc, _≤_, arith, length, le-leb}
+use Rattle.mesh.{specs.Limits.{max-radios, max-neighbours}, specs.Tables.{Tables, graph-in}, specs.Sound.{sound}, proofs.Tables.DegreeSum.{block-count-most}}
+use Rattle.mesh.{proofs.Images.Tables.{valid-graph-in}}
+use Rattle.calls.{specs.Outcomes.{Listing, listing, listing-outcome, write-outcome, sheet-outcome, script-outcome}, specs.Contracts.{Sheet-contract}}
+use Rattle.calls.{specs.Contracts.{Script-contract, Write-contract}, specs.Questions.{Lengths, lengths-of, ask, image-length}}
+use Rattle.calls.{specs.Questions.{lent-refusal, site-refusal}}
+use Rattle.calls.{specs.Sheet.{sheet-lines, sheet-length}}
+use Rattle.calls.{proofs.QuestionLaws.{ask-yes, ask-later}, proofs.ChainLaws.{lent-later}, proofs.ScriptLaws.{script-most}}
+use Rattle.site_program.specs.{declared.verbs.Text.{Text}, declared.names.Verb.{Verb}, declared.names.Verb.the-variants.{Help, Check, Numbers, Sheet}}
+use Rattle.site_program.specs.{declared.names.Verb.the-variants.{Script, Image, Backbone, Staircase, Tree, Core, Lift, Unknown}, Texts.{Text-by}}
+use Rattle.site_program.specs.{Said.{value-of, Backbone-said, Core-said, Lift-said, Staircase-said, Tree-said, Said}, Room.{text-room, Held}}
+use Rattle.calls.specs.Questions.{by-number}
+use Rattle.calls.specs.Chains.{level-refusal, core-refusal, backbone-refusal, tree-refusal, staircase-refusal, write-refusal, sheet-refusal, script-refusal}
+use Rattle.calls.specs.Chains.{lift-refusal}
+use Rattle.calls.specs.declared.Value.{Value}
+use Rattle.calls.specs.Chains.{holds-image, holds-sheet, holds-script}
 
 -- ---- numbers that are none of the three
 
@@ -75,31 +62,28 @@ module _ (n : ℕ) (t : Tables) (room : ℕ) (long : text-room ≤ room) where
   sound-later x h = lent-later n (lengths-of t) true _ _ (λ lent. ask-later 3 (sound n t) x 0 (λ s. h (lent .most) s))
 
   image-holds : n ≤ max-radios → sound n t ≡ true → ask 9 (holds-image (graph-in n (t .links)) room) 0 ≡ 0
-  unfolding holds-image image-length graph-in sound
+  unfolding image-length graph-in sound
   image-holds small s =
       let few = block-count-most (graph-in n (t .links)) (t .order) small (valid-graph-in max-neighbours n t small s) in
       ask-yes 9 _ 0 (le-leb _ room (omega (arith, few)))
 
   script-holds : n ≤ max-radios → sound n t ≡ true → ask 13 (holds-script (graph-in n (t .links)) room) 0 ≡ 0
-  unfolding holds-script graph-in sound
+  unfolding graph-in sound
   script-holds small s =
       let few = script-most (graph-in n (t .links)) (t .order) small (valid-graph-in max-neighbours n t small s) in
       ask-yes 13 _ 0 (le-leb _ room (omega (arith, few)))
 
   sheet-holds : n ≤ max-radios → sound n t ≡ true → ask 12 (holds-sheet n room) 0 ≡ 0
-  unfolding holds-sheet sheet-length sheet-lines
+  unfolding sheet-length sheet-lines
   sheet-holds small s = ask-yes 12 _ 0 (le-leb _ room (omega (arith, small)))
 
   pub image-held : Held (write-refusal n (lengths-of t) room (sound n t) (graph-in n (t .links)))
-  unfolding write-refusal
   image-held = held-is (sound-later _ image-holds) (held-site n (lengths-of t) true (sound n t) 0 held-zero)
 
   pub script-held : Held (script-refusal n (lengths-of t) room (sound n t) (graph-in n (t .links)))
-  unfolding script-refusal
   script-held = held-is (sound-later _ script-holds) (held-site n (lengths-of t) true (sound n t) 0 held-zero)
 
   pub sheet-held : Held (sheet-refusal n (lengths-of t) room (sound n t))
-  unfolding sheet-refusal
   sheet-held = held-is (sound-later _ sheet-holds) (held-site n (lengths-of t) true (sound n t) 0 held-zero)
 
 -- ---- the verbs
@@ -107,8 +91,8 @@ module _ (n : ℕ) (t : Tables) (room : ℕ) (long : text-room ≤ room) where
 -- an outcome's number is its refusal
 number-by : (q x : ℕ) (new old : List ℕ) (r : Text) (after : List ℕ) → listing (value-of r) after ≡ listing-outcome q x new old → r .number ≡ q
 unfolding listing-outcome by-number
-number-by zero x new old r after e = ap (λ (o : Listing). o .reply .number) e
-number-by (suc q) x new old r after e = ap (λ (o : Listing). o .reply .number) e
+number-by zero x new old r after e = ap (λ (o : Listing Value (List ℕ)). o .reply .number) e
+number-by (suc q) x new old r after e = ap (λ (o : Listing Value (List ℕ)). o .reply .number) e
 
 text-by : (q : ℕ) (text old : List ℕ) (r : Text) (after : List ℕ) → Text-by q text old r after → r .number ≡ q
 unfolding Text-by
@@ -117,7 +101,7 @@ text-by (suc q) text old r after h = h .number
 
 -- everything that a verb's contract says of its number
 unfoldable compute : Unit {0}
-unfolding Said Backbone-said Core-said Lift-said Staircase-said Tree-said backbone-refusal core-refusal lift-refusal staircase-refusal tree-refusal level-refusal
+unfolding Said Backbone-said Core-said Lift-said Staircase-said Tree-said
     Sheet-contract Script-contract Write-contract sheet-outcome script-outcome write-outcome sound
 compute = tt
 

@@ -1,13 +1,8 @@
 -- The contract of a verb, told which verb it is; contracts of calls that write a text themselves.
-use mathlib.Core.Path.{_≡_, sym, subst}
-use mathlib.Core.List.{List}
-use Prim.Native.Nat.{ℕ}
+use Rattle.lists.specs.Kit.{_≡_, sym, subst, List, ℕ}
 use Rattle.mesh.specs.Tables.{Tables}
-use Rattle.calls.specs.Contracts.{Sheet-contract, Script-contract, Write-contract}
-use Rattle.calls.specs.declared.Value.{Value}
-use Rattle.site_program.specs.declared.verbs.Text.{Text}
-use Rattle.site_program.specs.declared.names.Verb.{Verb}
-use Rattle.site_program.specs.Said.{value-of, Said}
+use Rattle.calls.specs.{Contracts.{Sheet-contract, Script-contract, Write-contract}, declared.Value.{Value}}
+use Rattle.site_program.specs.{declared.verbs.Text.{Text}, declared.names.Verb.{Verb}, Said.{value-of, Said}}
 
 pub as-verb : {e f : Verb} (v k n : ℕ) (t : Tables) (w : List ℕ) (r : Text) (x : List ℕ) → e ≡ f → Said f v k n t w r x → Said e v k n t w r x
 as-verb v k n t w r x p s = subst (λ (y : Verb). Said y v k n t w r x) (sym p) s

@@ -1,19 +1,10 @@
 -- Texts put in front of a buffer: refused, accepted, of a list that a call put in front of a table, and of a pair.
-use mathlib.Core.Path.{_≡_, refl, sym, _∙_, ap, subst}
-use mathlib.Core.List.{List}
-use Prim.Native.Nat.{ℕ, zero, suc, _<_, min}
-use native.Mathlib.Omega.{arith}
-use lib.ListN.{length, take}
-use Rattle.lists.specs.Lists.{overwrite}
-use Rattle.lists.proofs.Overwrite.{take-overwrite}
-use Rattle.lists.proofs.Parts.{take-min}
+use Rattle.lists.{specs.Kit.{_≡_, refl, sym, _∙_, ap, subst, List, ℕ, zero, suc, _<_, min, arith, length, take}, specs.Lists.{overwrite}}
+use Rattle.lists.{proofs.Overwrite.{take-overwrite}, proofs.Parts.{take-min}}
 use Rattle.text.specs.Print.{buffer-at, Puts}
-use Rattle.calls.specs.Outcomes.{by-number, Listing, listing, listing-outcome}
-use Rattle.calls.specs.LiftOutcome.{pair}
-use Rattle.calls.specs.declared.Pair.{Pair}
-use Rattle.calls.specs.declared.Value.{Value}
-use Rattle.site_program.specs.declared.verbs.Text.{Text}
-use Rattle.site_program.specs.Texts.{link-line, Text-by}
+use Rattle.calls.specs.{Outcomes.{Listing, listing, listing-outcome}, LiftOutcome.{pair}, declared.Pair.{Pair}, declared.Value.{Value}}
+use Rattle.site_program.specs.{declared.verbs.Text.{Text}, Texts.{link-line, Text-by}}
+use Rattle.calls.specs.Questions.{by-number}
 
 -- ---- Text-by
 
@@ -37,7 +28,7 @@ pub by-listed : (F : List ℕ → List ℕ) (size : ℕ → ℕ) (R count : ℕ)
     Text-by (reply .number) (F (take (size (reply .value)) now)) w r x → Text-by R (F new) w r x
 unfolding listing-outcome by-number Text-by
 by-listed F size R count new old reply now w r x e d t =
-    go R (subst (λ (o : Listing). Text-by (o .reply .number) (F (take (size (o .reply .value)) (o .lent))) w r x) d t)
+    go R (subst (λ (o : Listing Value (List ℕ)). Text-by (o .reply .number) (F (take (size (o .reply .value)) (o .lent))) w r x) d t)
   where
     go : (Q : ℕ) → let o = listing-outcome Q count new old in
         Text-by (o .reply .number) (F (take (size (o .reply .value)) (o .lent))) w r x → Text-by Q (F new) w r x

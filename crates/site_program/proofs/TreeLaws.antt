@@ -1,28 +1,13 @@
 -- The shell tree's text, from the tables that its call fills.
-use mathlib.Core.Path.{_≡_, refl, sym, _∙_, ap, subst}
-use mathlib.Core.Bool.{_&&_}
-use mathlib.Core.List.{List, _++_, map}
-use Prim.Native.Nat.{ℕ, zero, suc, _≤_, min}
-use native.Mathlib.Omega.{arith}
-use lib.ListN.{length, take}
-use Rattle.lists.specs.Lists.{overwrite, range}
-use Rattle.lists.proofs.Overwrite.{take-overwrite}
-use Rattle.lists.proofs.Map.{length-map}
-use Rattle.lists.proofs.Range.{length-range}
+use Rattle.lists.{specs.Kit.{_≡_, refl, sym, _∙_, ap, subst, _&&_, List, _++_, map, ℕ, zero, suc, _≤_, min, arith, length, take}, specs.Lists.{overwrite}}
+use Rattle.lists.{specs.Lists.{range}, proofs.Overwrite.{take-overwrite}, proofs.Map.{length-map}, proofs.Range.{length-range}}
 use Rattle.text.specs.Text.{bytes-of}
-use Rattle.mesh.specs.Graph.{Graph, radios}
-use Rattle.mesh.specs.Tables.{Tables, graph-in}
-use Rattle.mesh.specs.Sound.{sound}
-use Rattle.mesh.specs.Tree.{tree, node-name, node-names}
-use Rattle.mesh.specs.declared.Node.{Node}
-use Rattle.calls.specs.Questions.{lengths-of, nodes-length, answer-length, tree-refusal}
-use Rattle.calls.specs.Outcomes.{by-number}
-use Rattle.calls.specs.declared.Value.{Value}
-use Rattle.calls.proofs.ChainLaws.{site-zero}
+use Rattle.mesh.specs.{Graph.{Graph, radios}, Tables.{Tables, graph-in}, Sound.{sound}, Tree.{tree, node-name, node-names}, declared.Node.{Node}}
+use Rattle.calls.{specs.Questions.{lengths-of, answer-length}, specs.declared.Value.{Value}}
+use Rattle.calls.{proofs.ChainLaws.{site-zero}}
 use Rattle.tree.specs.Trees.{Lists, with-front, places, Filled, tables-outcome, Tables-contract}
-use Rattle.site_program.specs.declared.verbs.Text.{Text}
-use Rattle.site_program.specs.Texts.{radios-line, node-lines, tree-text, Text-by}
-use Rattle.site_program.specs.Said.{Tree-said}
+use Rattle.site_program.specs.{declared.verbs.Text.{Text}, Texts.{radios-line, node-lines, tree-text, Text-by}, Said.{Tree-said}}
+use Rattle.calls.specs.{Chains.{tree-refusal, nodes-length}, Questions.{by-number}}
 
 -- what tables and radios' names print
 abbrev told : (k many : ℕ) → Lists → List ℕ
@@ -48,7 +33,7 @@ told-tree g s u k many d e h =
 -- where the call is not refused there are at most 512 radios
 named : (n many : ℕ) (t : Tables) → many ≡ min n 512 → tree-refusal n (lengths-of t) 513 512 (sound n t) ≡ 0
     → many ≡ length (node-names (graph-in n (t .links)))
-unfolding tree-refusal node-names radios graph-in
+unfolding node-names radios graph-in
 named n many t d z =
     let few : n ≤ 512 = site-zero n (lengths-of t) (nodes-length n 513 && answer-length n 512) (sound n t) 0 z .0 .lent .most in
     let g = graph-in n (t .links) in

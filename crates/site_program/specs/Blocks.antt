@@ -1,11 +1,7 @@
 -- The block that an error line names.
 --   First-bad image i   block i is the first that does not pass its check; i is their count where all pass
 -- Definitions only.
-use mathlib.Core.Path.{_≡_}
-use mathlib.Core.Bool.{true, false}
-use mathlib.Core.List.{List}
-use Prim.Native.Nat.{ℕ, _/_, _≤_, _<_}
-use lib.ListN.{length}
+use Rattle.lists.specs.Kit.{_≡_, true, false, List, ℕ, _/_, _≤_, _<_, length}
 use Rattle.mesh.specs.Image.{block-bytes, block-check}
 
 pub record First-bad (image : List ℕ) (i : ℕ) : Type 0 where

@@ -12,26 +12,13 @@
 --   ended s                the end of the input: a last line without a line feed
 --   begin, Plays           the whole of a script, of which the front is read before
 -- No contract can say what a read brings: of it `Read` has some bytes. Definitions only.
-use mathlib.Core.Path.{_≡_}
-use mathlib.Core.Bool.{Bool, true, false, cond}
-use mathlib.Core.Logic.{_⊎_}
-use mathlib.Core.List.{List, [], _∷_, _++_}
-use Prim.Native.Nat.{ℕ, zero, suc, _+_, _-_}
-use lib.Dec.{leb, ltb, eqb}
-use lib.ListN.{length, take, drop, getD, replicate}
-use Rattle.mesh.specs.Limits.{max-radios}
-use Rattle.mesh.specs.Tables.{Tables}
+use Rattle.lists.specs.Kit.{_≡_, Bool, true, false, cond, _⊎_, List, [], _∷_, _++_, ℕ, zero, suc, _+_, _-_, leb, ltb, eqb, length, take, drop, getD, replicate}
+use Rattle.mesh.specs.{Limits.{max-radios}, Tables.{Tables}}
 use Rattle.calls.specs.Outcomes.{clear-outcome, link-outcome}
-use Rattle.text.specs.Text.{line-feed}
-use Rattle.text.specs.Print.{next-place}
-use Rattle.script.specs.Lines.{line-of}
-use Rattle.script.specs.declared.lines.Line.{Line}
-use Rattle.script.specs.declared.lines.Line.the-variants.{Radios, Up, Down, Bad}
-use Rattle.player.specs.Play.{radios-of}
-use Rattle.player.specs.Reads.{goes-on, at-end, Read, input-of, To-end}
-use Rattle.site_program.specs.Errors.{form, no-feed, carriage}
-use Rattle.site_program.specs.declared.course.Course.{Course}
-use Rattle.site_program.specs.declared.course.Turned.{Turned}
+use Rattle.text.specs.{Text.{line-feed}, Print.{next-place}}
+use Rattle.script.specs.{Lines.{line-of}, declared.lines.Line.{Line}, declared.lines.Line.the-variants.{Radios, Up, Down, Bad}}
+use Rattle.player.specs.{Play.{radios-of}, Reads.{at-end, Read, input-of, To-end}}
+use Rattle.site_program.specs.{Errors.{form, no-feed, carriage}, declared.course.Course.{Course}, declared.course.Turned.{Turned}}
 
 -- ---- the first line
 

@@ -6,10 +6,7 @@
 --   usage-words k             what a verb takes
 --   file-words verb           that a verb takes no file name
 -- Definitions only.
-use mathlib.Core.Bool.{cond}
-use mathlib.Core.List.{List, _∷_, _++_}
-use Prim.Native.Nat.{ℕ}
-use lib.Dec.{eqb}
+use Rattle.lists.specs.Kit.{cond, List, _∷_, _++_, ℕ, eqb}
 use Rattle.text.specs.Text.{bytes-of, space, decimal}
 use Rattle.site_program.specs.Words.{refused-text}
 

@@ -3,12 +3,8 @@
 --   is-name word          may the word be a file's name
 --   given-of takes count v k   the numbers of a verb that takes so many, of so many words, of which v and k are the first
 -- Definitions only.
-use mathlib.Core.Bool.{Bool, true, false, cond}
-use mathlib.Core.List.{List, [], _∷_}
-use Prim.Native.Nat.{ℕ, zero, suc}
-use lib.Dec.{eqb, ltb}
-use Rattle.script.specs.Lines.{Read, got, none}
-use Rattle.script.specs.Texts.{alone-of}
+use Rattle.lists.specs.Kit.{Bool, true, false, cond, List, [], _∷_, ℕ, eqb, ltb}
+use Rattle.script.specs.{Lines.{Read, got, none}, Texts.{alone-of}}
 use Rattle.site_program.specs.declared.arguments.Numbers.{Numbers}
 
 -- it does not begin with a digit: '0' is 48, '9' is 57

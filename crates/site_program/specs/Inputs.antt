@@ -3,11 +3,7 @@
 --   is-script bytes  is the input a script; any other is an image
 --   wrong            the status of a run in which something goes wrong: 0 is that of the others
 -- Definitions only.
-use mathlib.Core.Bool.{Bool}
-use mathlib.Core.List.{List}
-use Prim.Native.Nat.{ℕ}
-use lib.ListN.{take}
-use Rattle.lists.specs.Lists.{same}
+use Rattle.lists.specs.{Kit.{Bool, List, ℕ, take}, Lists.{same}}
 use Rattle.text.specs.Text.{bytes-of}
 
 -- document 01: line 1 is `radios N`

@@ -13,3 +13,5 @@ pub mod Course
 pub mod Names
 pub mod Texts
 pub mod Said
+-- The status of a run.
+pub mod Status

@@ -3,13 +3,10 @@
 --   verb-of word         the verb of a word; `Unknown` where it is none
 --   numbers-of verb      how many numbers follow the verb
 -- Laws are in proofs/NameLaws.antt. Definitions only.
-use mathlib.Core.Bool.{cond}
-use mathlib.Core.List.{List}
-use Prim.Native.Nat.{ℕ}
-use Rattle.lists.specs.Lists.{same}
+use Rattle.lists.specs.{Kit.{cond, List, ℕ}, Lists.{same}}
 use Rattle.text.specs.Text.{bytes-of}
-use Rattle.site_program.specs.declared.names.Verb.{Verb}
-use Rattle.site_program.specs.declared.names.Verb.the-variants.{Help, Check, Numbers, Sheet, Script, Image, Backbone, Staircase, Tree, Core, Lift, Unknown}
+use Rattle.site_program.specs.declared.names.{Verb.{Verb}, Verb.the-variants.{Help, Check, Numbers, Sheet, Script, Image, Backbone, Staircase, Tree}}
+use Rattle.site_program.specs.declared.names.{Verb.the-variants.{Core, Lift, Unknown}}
 
 unfoldable pub plain-verb-of : (word : List ℕ) → Verb
 plain-verb-of w =

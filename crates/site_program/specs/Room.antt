@@ -2,8 +2,7 @@
 --   text-room   its bytes: the longest script
 --   Held q      the number q does not say that the buffer is too short: for an image, a sheet or a script
 -- Definitions only.
-use mathlib.Core.Path.{_≡_}
-use Prim.Native.Nat.{ℕ}
+use Rattle.lists.specs.Kit.{_≡_, ℕ}
 use Rattle.script.specs.Longest.{longest-script}
 
 abbrev pub text-room : ℕ

@@ -3,23 +3,15 @@
 --   Backbone-said .. Tree-said   texts of lists, which have room for every site; Lift-said a link's line
 --   Said verb       the contract of a verb
 -- Definitions only.
-use mathlib.Core.List.{List, []}
-use Prim.Native.Nat.{ℕ, _+_, _*_}
+use Rattle.lists.specs.Kit.{List, [], ℕ, _+_, _*_}
 use Rattle.text.specs.Text.{bytes-of}
-use Rattle.mesh.specs.Limits.{max-radios}
-use Rattle.mesh.specs.Tables.{Tables, graph-in}
-use Rattle.mesh.specs.Sound.{sound}
-use Rattle.mesh.specs.Connected.{core-of, backbone}
-use Rattle.mesh.specs.Staircase.{staircase, link-entries}
-use Rattle.calls.specs.Questions.{lengths-of, core-refusal, backbone-refusal, staircase-refusal, tree-refusal}
-use Rattle.calls.specs.Lift.{lifting, first-pair, lift-refusal}
-use Rattle.calls.specs.Replay.{numbers-line}
-use Rattle.calls.specs.Contracts.{Sheet-contract, Script-contract, Write-contract}
-use Rattle.calls.specs.declared.Value.{Value}
-use Rattle.site_program.specs.declared.verbs.Text.{Text}
-use Rattle.site_program.specs.declared.names.Verb.{Verb}
-use Rattle.site_program.specs.declared.names.Verb.the-variants.{Help, Check, Numbers, Sheet, Script, Image, Backbone, Staircase, Tree, Core, Lift, Unknown}
-use Rattle.site_program.specs.Texts.{radios-line, link-line, pair-lines, tree-text, accepted-line, Text-by}
+use Rattle.mesh.specs.{Limits.{max-radios}, Tables.{Tables, graph-in}, Sound.{sound}, Connected.{core-of, backbone}, Staircase.{staircase, link-entries}}
+use Rattle.calls.specs.{Questions.{lengths-of}, Lift.{lifting, first-pair}}
+use Rattle.calls.specs.{Replay.{numbers-line}, Contracts.{Sheet-contract, Script-contract, Write-contract}, declared.Value.{Value}}
+use Rattle.site_program.specs.{declared.verbs.Text.{Text}, declared.names.Verb.{Verb}, declared.names.Verb.the-variants.{Help, Check, Numbers, Sheet}}
+use Rattle.site_program.specs.{declared.names.Verb.the-variants.{Script, Image, Backbone, Staircase, Tree, Core, Lift, Unknown}, Texts.{radios-line}}
+use Rattle.site_program.specs.{Texts.{link-line, pair-lines, tree-text, accepted-line, Text-by}}
+use Rattle.calls.specs.Chains.{core-refusal, backbone-refusal, staircase-refusal, tree-refusal, lift-refusal}
 
 -- the number, and the length as the value
 abbrev pub value-of : Text → Value

@@ -7,15 +7,9 @@
 --   accepted-line n        what is said of a site that nothing is wrong with
 --   Text-by                a text in front of a buffer, or the refusal
 -- Numbers, sheet, script and image are the replay program's line and what their calls write. Definitions only.
-use mathlib.Core.Path.{_≡_}
-use mathlib.Core.List.{List, [], _∷_, _++_, map}
-use Prim.Native.Nat.{ℕ, zero, suc}
-use Rattle.text.specs.Text.{bytes-of, decimal, printed-line}
-use Rattle.text.specs.Print.{buffer-at, Puts}
-use Rattle.mesh.specs.Graph.{Graph}
-use Rattle.mesh.specs.Cores.{number}
-use Rattle.mesh.specs.Tree.{tree, node-names}
-use Rattle.mesh.specs.declared.Node.{Node}
+use Rattle.lists.specs.Kit.{_≡_, List, [], _∷_, _++_, map, ℕ, zero, suc}
+use Rattle.text.specs.{Text.{bytes-of, decimal, printed-line}, Print.{buffer-at, Puts}}
+use Rattle.mesh.specs.{Graph.{Graph}, Cores.{number}, Tree.{tree, node-names}, declared.Node.{Node}}
 use Rattle.site_program.specs.declared.verbs.Text.{Text}
 
 -- a word, then the radios

@@ -1,10 +1,7 @@
 -- What the refusal numbers mean, in words. Definitions only.
 --   words-of q        what the number means
 --   refused-text q    "refused by", the number, a colon, and the words
-use mathlib.Core.Bool.{cond}
-use mathlib.Core.List.{List, _∷_, _++_}
-use Prim.Native.Nat.{ℕ}
-use lib.Dec.{eqb}
+use Rattle.lists.specs.Kit.{cond, List, _∷_, _++_, ℕ, eqb}
 use Rattle.text.specs.Text.{bytes-of, space, decimal}
 
 -- proposals, marks and lifts

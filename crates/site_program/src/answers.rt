@@ -1,5 +1,5 @@
 // The text of each verb.
-ghost use mathlib.Core.Path.{_≡_};
+ghost use Rattle.lists.specs.Kit.{_≡_};
 ghost use Rattle.mesh.specs.Lent.{lent};
 ghost use Rattle.calls.specs.Replay.{numbers-line};
 ghost use Rattle.site_program.specs.Texts.{accepted-line, Text-accepted};

@@ -1,5 +1,5 @@
 // The numbers after a verb, in the form that a script's numbers have: 0 to 65,535, no leading zeros.
-ghost use mathlib.Core.Path.{_≡_};
+ghost use Rattle.lists.specs.Kit.{_≡_};
 ghost use Rattle.site_program.specs.Given.{numbers, given-of};
 use script::lines;
 

@@ -1,6 +1,5 @@
 // A script, played on a site's tables, line by line, as its bytes come. A line of another form or a refused one ends the run.
-ghost use mathlib.Core.Path.{_≡_};
-ghost use lib.ListN.{length};
+ghost use Rattle.lists.specs.Kit.{_≡_, length};
 ghost use Rattle.io.specs.Counts.{Counts};
 ghost use Rattle.script.specs.Lines.{line-of};
 ghost use Rattle.mesh.specs.Lent.{lent};
@@ -285,7 +284,8 @@ fn read_rest(
     numbers: &mut [u8],
     order: &mut [u16],
 ) -> Turned
-    ensures { λ r. ⌜ Reads-rest (length (now (line .entry))) n front (spot (lent (links .entry) (numbers .entry) (order .entry)) (now (line .entry)) (front .course))
+    ensures { λ r. ⌜ Reads-rest (length (now (line .entry))) n front
+        (spot (lent (links .entry) (numbers .entry) (order .entry)) (now (line .entry)) (front .course))
         r (spot (lent (links .exit) (numbers .exit) (order .exit)) (now (line .exit)) (r .course)) ⌝ }
 {
     if front.state != input::GOES_ON {

@@ -1,9 +1,10 @@
 // An image, read into a site's tables.
-ghost use mathlib.Core.Path.{_≡_};
-ghost use Prim.Native.Nat.{_≤_};
+ghost use Rattle.lists.specs.Kit.{_≡_, _≤_};
 ghost use Rattle.mesh.specs.Limits.{max-radios};
+ghost use Rattle.mesh.specs.Lent.{lent};
 ghost use Rattle.site_program.specs.Inputs.{wrong};
 ghost use Rattle.site_program.specs.Blocks.{First-bad};
+ghost use Rattle.site_program.specs.Status.{Image-read};
 use super::refusals;
 use crate::sizes;
 use calls::Refusal;
@@ -81,7 +82,8 @@ pub(crate) fn read(
     numbers: &mut [u8],
     order: &mut [u16],
 ) -> u32
-    ensures { λ r. ⌜ r ≤ 1 ⌝ }
+    ensures { λ r. ⌜ Image-read n (now (image .entry)) (lent (links .entry) (numbers .entry) (order .entry)) r
+        (lent (links .exit) (numbers .exit) (order .exit)) ⌝ }
 {
     if sizes::IMAGE_BYTES < image.len() {
         return refusals::say(

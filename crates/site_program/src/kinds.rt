@@ -1,5 +1,5 @@
 // What an input is, by its first bytes: a script or an image.
-ghost use mathlib.Core.Path.{_≡_};
+ghost use Rattle.lists.specs.Kit.{_≡_};
 ghost use Rattle.site_program.specs.Inputs.{is-script};
 use player::input;
 

@@ -1,12 +1,14 @@
 // The program `site` as a library: reads an image or a script from a descriptor, and prints what a verb says of its site. The input is
 // read to its end and checked before anything is printed. What goes wrong is one line on the error descriptor, and status 1.
-ghost use mathlib.Core.Path.{_≡_};
-ghost use Prim.Native.Nat.{_≤_};
-ghost use lib.ListN.{length};
+ghost use Rattle.lists.specs.Kit.{_≡_, _≤_, length};
 ghost use Rattle.mesh.specs.Limits.{max-radios};
+ghost use Rattle.mesh.specs.Lent.{lent};
+ghost use Rattle.player.specs.Reads.{at-end};
 ghost use Rattle.site_program.specs.Inputs.{wrong};
 ghost use Rattle.site_program.specs.Given.{is-name};
 ghost use Rattle.site_program.specs.Room.{text-room, Held};
+ghost use Rattle.site_program.specs.Said.{Said};
+ghost use Rattle.site_program.specs.Status.{Prints, Answers, Input-answers, Site-status};
 
 mod answers;
 mod arguments;
@@ -28,6 +30,7 @@ use mesh::Site;
 use player::faults;
 use player::input;
 use player::input::Ends;
+use player::words::WORD_BYTES;
 use verbs::Text;
 use verbs::Verb;
 
@@ -42,7 +45,9 @@ fn text_of<'a>(
     out: &mut [u8],
 ) -> Text
     requires { ⌜ text-room ≤ length (now out) ⌝ }
-    ensures { λ r. ⌜ Held (r .number) ⌝ }
+    ensures held { λ r. ⌜ Held (r .number) ⌝ }
+    ensures said { λ r. ⌜ Said verb (given .v) (given .k) n (lent (links .entry) (numbers .entry) (order .entry))
+        (now (out .entry)) r (now (out .exit)) ⌝ }
 {
     verbs::answer(verb, given.v, given.k, n, links, numbers, order, out)
 }
@@ -57,7 +62,7 @@ fn print<'a>(
     numbers: &'a [u8],
     order: &'a [u16],
 ) -> u32
-    ensures { λ r. ⌜ r ≤ 1 ⌝ }
+    ensures { λ r. ⌜ Prints verb given n (lent (links .entry) (numbers .entry) (order .entry)) r ⌝ }
 {
     let mut out = [0u8; sizes::TEXT_BYTES];
     let text = text_of(verb, given, n, links, numbers, order, &mut out);
@@ -68,7 +73,7 @@ fn print<'a>(
     faults::print(ends, b"site", &out[..length])
 }
 
-// Reads the site into the tables and prints: the status.
+// Reads the site into the tables and prints: the status. `state` is what the last read of the front found.
 fn run_on(
     ends: Ends,
     most: usize,
@@ -82,7 +87,8 @@ fn run_on(
     numbers: &mut [u8],
     order: &mut [u16],
 ) -> u32
-    ensures { λ r. ⌜ r ≤ 1 ⌝ }
+    requires { ⌜ state ≤ at-end ⌝ }
+    ensures { λ r. ⌜ Answers (now (front .entry)) state verb given r ⌝ }
 {
     let status = source::read(ends, most, shown, n, front, state, links, numbers, order);
     if status != 0 {
@@ -102,8 +108,9 @@ fn run_site(
     front: &[u8],
     state: u32,
 ) -> u32
-    requires { ⌜ n ≤ max-radios ⌝ }
-    ensures { λ r. ⌜ r ≤ 1 ⌝ }
+    requires few { ⌜ n ≤ max-radios ⌝ }
+    requires unbroken { ⌜ state ≤ at-end ⌝ }
+    ensures { λ r. ⌜ Answers (now (front .entry)) state verb given r ⌝ }
 {
     let many = n as usize;
     let bytes = Site::ROW_BYTES * many;
@@ -135,7 +142,7 @@ fn run_front(
     front: &[u8],
     state: u32,
 ) -> u32
-    ensures { λ r. ⌜ r ≤ 1 ⌝ }
+    ensures { λ r. ⌜ Answers (now (front .entry)) state verb given r ⌝ }
 {
     if input::END < state {
         return refusals::say_unread(ends.errors, state);
@@ -152,7 +159,7 @@ fn run_front(
 
 // Reads the front of the input, which holds any image whole, and goes on: the status.
 fn run_input(ends: Ends, most: usize, shown: bool, verb: Verb, given: Numbers) -> u32
-    ensures { λ r. ⌜ r ≤ 1 ⌝ }
+    ensures { λ r. ⌜ Input-answers verb given r ⌝ }
 {
     let mut front = [0u8; sizes::FRONT_BYTES];
     let got = input::fill(ends.input, most, false, &mut front);
@@ -198,7 +205,7 @@ fn run_verb(
     v: &[u8],
     k: &[u8],
 ) -> u32
-    ensures { λ r. ⌜ r ≤ 1 ⌝ }
+    ensures { λ r. ⌜ Site-status (now (word .entry)) count (now (v .entry)) (now (k .entry)) r ⌝ }
 {
     let verb = verbs::verb_of(word);
     match verb {
@@ -207,10 +214,10 @@ fn run_verb(
         _ => {}
     }
     let given = arguments::given(verbs::takes(verb), count, v, k);
-    if !given.ok {
-        return say_words(ends.errors, verb, word, v);
+    if given.ok {
+        return run_input(ends, most, shown, verb, given);
     }
-    run_input(ends, most, shown, verb, given)
+    say_words(ends.errors, verb, word, v)
 }
 
 // The same, and the words that ask what the program is.
@@ -223,7 +230,7 @@ pub fn run(
     v: &[u8],
     k: &[u8],
 ) -> u32
-    ensures { λ r. ⌜ r ≤ 1 ⌝ }
+    ensures { λ r. ⌜ Site-status (now (word .entry)) count (now (v .entry)) (now (k .entry)) r ⌝ }
 {
     if tables::fill::same8(word, b"--help") {
         return faults::print(ends, b"site", &help::PAGE);
@@ -232,4 +239,34 @@ pub fn run(
         return faults::print(ends, b"site", &input::VERSION);
     }
     run_verb(ends, most, shown, word, count, v, k)
+}
+
+// Runs the verb that is word `at` of the command, with the words after it: the status.
+fn run_at(ends: Ends, at: usize) -> u32
+    ensures { λ r. ⌜ r ≤ 1 ⌝ }
+{
+    let mut verb = [0u8; WORD_BYTES];
+    let mut v = [0u8; WORD_BYTES];
+    let mut k = [0u8; WORD_BYTES];
+    let after = std::num::wrapping_add_usize(at, 1);
+    let verb_bytes = player::words::word_at(at, &mut verb);
+    let v_bytes = player::words::word_at(after, &mut v);
+    let k_bytes = player::words::word_at(std::num::wrapping_add_usize(at, 2), &mut k);
+    let count = std::num::wrapping_sub_usize(os::arg_count(), after);
+    run(
+        ends,
+        usize::MAX,
+        input::is_terminal(ends.errors),
+        &verb[..verb_bytes],
+        count,
+        &v[..v_bytes],
+        &k[..k_bytes],
+    )
+}
+
+// Runs the program with the words and descriptors that it is started with, and tells its status.
+pub fn start() {
+    let started = player::words::started();
+    let status = run_at(input::standard(), started.at);
+    player::words::tell(started.told, status);
 }

@@ -1,7 +1,5 @@
 // Texts of lists: radios in a line, links a line each.
-ghost use mathlib.Core.Path.{_≡_};
-ghost use Prim.Native.Nat.{_*_};
-ghost use lib.ListN.{take};
+ghost use Rattle.lists.specs.Kit.{_≡_, _*_, take};
 ghost use Rattle.mesh.specs.Lent.{lent};
 ghost use Rattle.text.specs.Print.{buffer-at, Puts};
 ghost use Rattle.site_program.specs.Texts.{radios-line, link-line, pair-lines, Text-by};

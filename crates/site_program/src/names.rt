@@ -1,6 +1,5 @@
 // The table of verbs. A new verb has a line in the functions here, and one in `answers::answer`.
-ghost use mathlib.Core.Path.{_≡_};
-ghost use mathlib.Core.Bool.{cond};
+ghost use Rattle.lists.specs.Kit.{_≡_, cond};
 ghost use Rattle.lists.specs.Lists.{same};
 ghost use Rattle.site_program.specs.Names.{plain-verb-of, verb-of, numbers-of};
 use tables::fill::same8;

@@ -1,6 +1,5 @@
 // What goes wrong, as one line on the error descriptor: where, the refusal number, and what it means in words. Each answers status 1.
-ghost use mathlib.Core.Path.{_≡_};
-ghost use mathlib.Core.List.{_++_};
+ghost use Rattle.lists.specs.Kit.{_≡_, _++_};
 ghost use Rattle.text.specs.Print.{buffer-at, Puts};
 ghost use Rattle.site_program.specs.Inputs.{wrong};
 ghost use Rattle.site_program.specs.Errors.{line-words, script-text, image-text, usage-words, file-words};

@@ -1,7 +1,5 @@
 // The text of the shell tree: a line for each node, then each radio's node in one line.
-ghost use mathlib.Core.Path.{_≡_};
-ghost use mathlib.Core.List.{[], _∷_, _++_};
-ghost use lib.ListN.{length, take};
+ghost use Rattle.lists.specs.Kit.{_≡_, [], _∷_, _++_, length, take};
 ghost use Rattle.mesh.specs.Lent.{lent};
 ghost use Rattle.text.specs.Text.{bytes-of, decimal, printed-line};
 ghost use Rattle.text.specs.Print.{buffer-at, Puts};

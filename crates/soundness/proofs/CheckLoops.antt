@@ -1,27 +1,13 @@
 -- The loops over the order on plain values: each invariant, its start, a turn, its end.
 -- In order: numbers along the order, places of the order.
-use mathlib.Core.Path.{_≡_, refl, sym, ap, _∙_}
-use mathlib.Core.Logic.{_⊎_, inl, inr}
-use mathlib.Core.Bool.{Bool, true, false, _&&_}
-use mathlib.Core.List.{List, _++_}
-use Prim.Native.Nat.{ℕ, zero, suc, _+_, _≤_, _<_, min}
-use native.Mathlib.Omega.{arith}
-use native.Mathlib.Numerals.{add-one}
-use lib.Dec.{leb, eqb}
-use lib.ListN.{length, getD, take, drop, set, replicate, length-set, length-append, length-drop, length-replicate}
-use lib.Seq.{drop-cons, drop-length, getD-set-same, getD-set-other, length-take-le}
-use borrow.Author.Tests.{le-leb, lt-leb, eqb-true, eqb-false}
-use Rattle.mesh.specs.Limits.{max-radios}
-use Rattle.mesh.specs.Orders.{each-once, rising}
-use Rattle.lists.proofs.Tests.{bool-cases, never, trichotomy}
-use Rattle.lists.specs.Facts.{Each-once}
-use Rattle.lists.proofs.Range.{once-of, once-below, once-distinct}
-use Rattle.mesh.proofs.Cores.Orders.{each-once-of, of-each-once}
-use Rattle.conditions.specs.Conditions.{rising-from}
-use Rattle.conditions.proofs.RowByRow.{rising-from-zero}
+use Rattle.lists.{specs.Kit.{_≡_, refl, sym, ap, _∙_, _⊎_, inl, inr, Bool, true, false, _&&_, List, _++_, ℕ, zero, suc, _+_, _≤_, _<_, min, arith, add-one}}
+use Rattle.lists.{specs.Kit.{leb, eqb, length, getD, take, drop, set, replicate, length-set, length-append, length-drop, length-replicate, drop-cons}}
+use Rattle.lists.{specs.Kit.{drop-length, getD-set-same, getD-set-other, length-take-le, le-leb, lt-leb, eqb-true, eqb-false}, proofs.Tests.{bool-cases, never}}
+use Rattle.lists.{proofs.Tests.{trichotomy}, specs.Facts.{Each-once}, proofs.Range.{once-of, once-below, once-distinct}, proofs.Member.{in-getD, getD-of-in}}
+use Rattle.lists.{proofs.Distinct.{distinct-at, distinct-twice}}
+use Rattle.mesh.{specs.Limits.{max-radios}, specs.Orders.{each-once, rising}, proofs.Cores.Orders.{each-once-of, of-each-once}}
+use Rattle.conditions.{specs.Conditions.{rising-from}, proofs.RowByRow.{rising-from-zero}}
 use Rattle.soundness.specs.Checks.{Placing, Places-found, nowhere}
-use Rattle.lists.proofs.Member.{in-getD, getD-of-in}
-use Rattle.lists.proofs.Distinct.{distinct-at, distinct-twice}
 
 -- ---- numbers along the order
 
@@ -98,7 +84,8 @@ module _ (order before part : List ℕ) (pre : (length order ≤ length before) 
     low = omega arith;
     long = refl;
     at = λ j l. absurd (omega arith);
-    from = λ v l. inl (ap (λ (xs : List ℕ). getD (xs ++ drop (length order) before) v 0) many ∙ getD-replicated (length order) v l (drop (length order) before));
+    from = λ v l. inl (ap (λ (xs : List ℕ). getD (xs ++ drop (length order) before) v 0) many ∙ getD-replicated (length order) v l
+        (drop (length order) before));
   }
 
   module _ (places : List ℕ) (i : ℕ) (l : i < length order) (s : Placing-so-far order (length filled) places i) where
@@ -110,10 +97,12 @@ module _ (order before part : List ℕ) (pre : (length order ≤ length before) 
     pub placing-again : getD order i 0 < length order → (getD places (getD order i 0) 0 ≡ nowhere → ⊥) → each-once (length order) order ≡ false
     placing-again h some = pick (s .from (getD order i 0) h)
       where
-        pick : (getD places (getD order i 0) 0 ≡ nowhere) ⊎ ((getD places (getD order i 0) 0 < i) × (getD order (getD places (getD order i 0) 0) 0 ≡ getD order i 0))
+        pick : (getD places (getD order i 0) 0 ≡ nowhere) ⊎
+            ((getD places (getD order i 0) 0 < i) × (getD order (getD places (getD order i 0) 0) 0 ≡ getD order i 0))
             → each-once (length order) order ≡ false
         pick (inl e) = absurd (some e)
-        pick (inr r) = not-once (length order) order (λ o. distinct-twice order (getD places (getD order i 0) 0) i (r .0) l (r .1) (once-distinct (length order) order o))
+        pick (inr r) = not-once (length order) order
+            (λ o. distinct-twice order (getD places (getD order i 0) 0) i (r .0) l (r .1) (once-distinct (length order) order o))
 
     pub placing-room : getD order i 0 < length order → getD order i 0 < length places
     placing-room h = omega (arith, s .long, size)
@@ -166,7 +155,8 @@ module _ (order before part : List ℕ) (pre : (length order ≤ length before) 
     long = s .long ∙ size;
   }
 
-  pub placing-not : (places : List ℕ) (i : ℕ) → Placing-so-far order (length filled) places i → each-once (length order) order ≡ false → Placing order before places false
+  pub placing-not : (places : List ℕ) (i : ℕ) → Placing-so-far order (length filled) places i → each-once (length order) order ≡ false → Placing order before
+      places false
   placing-not places i s h = record { answer = sym h; placed = λ f. never false f refl; long = s .long ∙ size }
 
   pub placing-long : (places : List ℕ) (i : ℕ) → Placing-so-far order (length filled) places i → length places ≡ length before

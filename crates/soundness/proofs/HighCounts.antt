@@ -1,27 +1,13 @@
--- The high counts of sound tables, over the graph that the links table marks: for the callers of `soundness::examine`.
+-- The high counts of sound tables, over the graph that the links table marks: for the callers of `soundness::asked`.
 --   sound-symmetric .. sound-within-n   the conditions on rows that reading over the graph wants
 --   high-count-neighbours-in            a high count is the count of neighbours that are not below the radio
---   examined-sound, examined-high       what a caller of examine knows when the answer is yes
-use mathlib.Core.Path.{_≡_, refl, sym, ap, _∙_}
-use mathlib.Core.Bool.{Bool, true, _&&_}
-use mathlib.Core.List.{List}
-use Prim.Native.Nat.{ℕ, _≤_, _<_}
-use lib.Dec.{leb}
-use lib.ListN.{length, getD}
-use Rattle.mesh.specs.Limits.{max-radios, max-neighbours}
-use Rattle.lists.specs.Lists.{range, count}
-use Rattle.mesh.specs.Graph.{linked, radios, neighbours-in}
-use Rattle.mesh.specs.Orders.{each-once, rising, few-later}
-use Rattle.mesh.specs.Tables.{Tables, marked, graph-in}
-use Rattle.mesh.specs.Sound.{symmetric, irreflexive, within, few, rows-proper, enough, number-in, sound, sound-within}
-use Rattle.lists.proofs.Tests.{and-left, and-right}
-use Rattle.lists.proofs.Filter.{count-filter}
-use Rattle.calls.specs.Questions.{lengths-of}
-use Rattle.rows.specs.Rows.{neighbours-of}
-use Rattle.conditions.specs.Conditions.{high-count}
-use Rattle.soundness.specs.Checks.{Sizes, examinable, Examined}
-use Rattle.rows.proofs.RowListLaws.{neighbours-of-linked}
-use Rattle.soundness.proofs.ExamineLaws.{examinable-true}
+--   counts-neighbours-in                the same of a table that the check filled
+use Rattle.lists.{specs.Kit.{_≡_, ap, _∙_, Bool, true, _&&_, List, ℕ, _≤_, _<_, leb, getD}, specs.Lists.{range, count}}
+use Rattle.lists.{proofs.Tests.{and-left, and-right}, proofs.Filter.{count-filter}}
+use Rattle.mesh.specs.{Limits.{max-radios, max-neighbours}, Graph.{linked, radios, neighbours-in}, Orders.{each-once, rising, few-later}, Tables.{Tables}}
+use Rattle.mesh.specs.{Tables.{marked, graph-in}, Sound.{symmetric, irreflexive, within, few, rows-proper, enough, number-in, sound, sound-within}}
+use Rattle.rows.{specs.Rows.{neighbours-of}, proofs.RowListLaws.{neighbours-of-linked}}
+use Rattle.conditions.specs.Conditions.{Not-lower, high-count}
 
 module _ (n : ℕ) (t : Tables) (yes : sound n t ≡ true) where
   abbrev ts : List ℕ
@@ -60,16 +46,7 @@ module _ (n : ℕ) (t : Tables) (yes : sound n t ≡ true) where
       ap (count high) (neighbours-of-linked n ts small sound-symmetric sound-irreflexive sound-within-n v l)
       ∙ count-filter high (linked (graph-in n ts) v) (range 0 n)
 
-module _ {n : ℕ} {t : Tables} {ps qs hs is : List ℕ} (d : Examined n t ps qs hs is true) where
-  abbrev fitting : Bool
-  fitting = examinable n (lengths-of t) (length ps) (length hs)
-
-  pub examined-sizes : Sizes n (lengths-of t) (length ps) (length hs)
-  examined-sizes = examinable-true n (lengths-of t) (length ps) (length hs) (and-left fitting (sound n t) (sym (d .answer)))
-
-  pub examined-sound : sound n t ≡ true
-  examined-sound = and-right fitting (sound n t) (sym (d .answer))
-
-  pub examined-high : (v : ℕ) → v < n
-      → getD is v 0 ≡ neighbours-in (graph-in n (t .links)) v (λ w. leb (number-in (t .numbers) v) (number-in (t .numbers) w))
-  examined-high v l = d .highs refl .at v l ∙ high-count-neighbours-in n t examined-sound (examined-sizes .small) v l
+  -- what the check leaves in the table of not-lower counts
+  pub counts-neighbours-in : n ≤ max-radios → (counts : List ℕ) → Not-lower n ts (t .numbers) counts → (v : ℕ) → v < n
+      → getD counts v 0 ≡ neighbours-in (graph-in n ts) v (λ w. leb (num v) (num w))
+  counts-neighbours-in small counts h v l = h .at v l ∙ high-count-neighbours-in small v l

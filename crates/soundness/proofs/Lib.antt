@@ -9,7 +9,7 @@ pub mod RadioLaws
 -- the later neighbours of a radio
 pub mod WakeLaws
 -- the whole check, and its callers
-pub mod ExamineLaws
+pub mod CheckLaws
 -- what sound tables say
 pub mod SoundSite
 -- the high counts, over the graph that the table marks

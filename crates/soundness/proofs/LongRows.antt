@@ -1,24 +1,10 @@
 -- Rows with too many bits: the byte stops one past the limit, whatever the row has, and tables with such a row are not sound.
 -- 256 + 32 and 256 + 40 are what a byte that wraps would take for a sound row's.
-use mathlib.Core.Path.{_≡_, refl}
-use mathlib.Core.Logic.{_⊎_, inl, inr}
-use mathlib.Core.Bool.{Bool, true, false, _&&_}
-use mathlib.Core.List.{List, [], _∷_}
-use Prim.Native.Nat.{ℕ, suc, _*_, _<_}
-use native.Mathlib.Omega.{arith}
-use lib.Dec.{ltb}
-use lib.ListN.{length}
-use borrow.Author.Tests.{ltb-true}
-use Rattle.mesh.specs.Limits.{max-neighbours, row-bytes}
-use Rattle.lists.specs.Lists.{all, In}
-use Rattle.mesh.specs.Orders.{each-once, rising, few-later}
-use Rattle.mesh.specs.Tables.{Tables, marked}
-use Rattle.mesh.specs.Sound.{symmetric, irreflexive, within, row-degree, few, rows-proper, enough, number-in, sound-within, sound}
-use Rattle.lists.proofs.Tests.{bool-cases, never, and-left, and-right}
-use Rattle.lists.proofs.All.{all-in}
-use Rattle.mesh.proofs.Tables.Rows.{few-of}
-use Rattle.rows.specs.Rows.{row-count}
-use Rattle.rows.proofs.RowListLaws.{row-count-many}
+use Rattle.lists.{specs.Kit.{_≡_, refl, _⊎_, inl, inr, true, false, _&&_, List, [], _∷_, ℕ, suc, _*_, _<_, arith, ltb, length, ltb-true}, specs.Lists.{all, In}}
+use Rattle.lists.{proofs.Tests.{bool-cases, and-left, and-right}, proofs.All.{all-in}}
+use Rattle.mesh.{specs.Limits.{max-neighbours, row-bytes}, specs.Orders.{each-once, rising, few-later}, specs.Tables.{Tables, marked}, specs.Sound.{symmetric}}
+use Rattle.mesh.{specs.Sound.{irreflexive, within, row-degree, few, rows-proper, enough, number-in, sound-within, sound}, proofs.Tables.Rows.{few-of}}
+use Rattle.rows.{specs.Rows.{row-count}, proofs.RowListLaws.{row-count-many}}
 
 sound-few : (n : ℕ) (t : Tables) → sound n t ≡ true → few max-neighbours n (t .links) ≡ true
 unfolding sound sound-within rows-proper

@@ -1,11 +1,7 @@
 -- Chains of questions as the code puts them: questions 1 to 3 first, then the later ones. q is the number so far.
-use mathlib.Core.Path.{_≡_, refl, sym, _∙_}
-use mathlib.Core.Bool.{Bool, true, false, _&&_}
-use Prim.Native.Nat.{ℕ, _≤_, _<_}
-use borrow.Author.Tests.{le-ltb}
-use Rattle.calls.specs.Questions.{ask, Lengths, size-good, site-lengths, is-radio, lent-refusal, site-refusal, radio-refusal}
-use Rattle.calls.proofs.QuestionLaws.{ask-no}
-use Rattle.calls.proofs.ChainLaws.{site-zero, site-yes, radio-yes}
+use Rattle.lists.specs.Kit.{_≡_, refl, sym, _∙_, Bool, true, false, _&&_, ℕ, _≤_, _<_, le-ltb}
+use Rattle.calls.{specs.Questions.{ask, Lengths, size-good, site-lengths, is-radio, lent-refusal, site-refusal, radio-refusal}, proofs.QuestionLaws.{ask-no}}
+use Rattle.calls.{proofs.ChainLaws.{site-zero, site-yes, radio-yes}}
 
 -- ---- 1 to 3, and later questions
 

@@ -1,27 +1,11 @@
 -- One row of the check on plain values: its ends good or not, the row good or not.
-use mathlib.Core.Path.{_≡_, refl, sym, ap, _∙_}
-use mathlib.Core.Logic.{_⊎_, inl, inr}
-use mathlib.Core.Bool.{Bool, true, false, _&&_, not, and-false}
-use mathlib.Core.List.{List, []}
-use Prim.Native.Nat.{ℕ, _%_, _*_, _≤_, _<_}
-use native.Mathlib.Omega.{arith}
-use lib.Dec.{ltb, leb, eqb}
-use lib.ListN.{length}
-use borrow.Author.Tests.{ltb-true, ltb-false, lt-ltb, le-leb, lt-leb, eq-eqb, ne-eqb}
-use Rattle.mesh.specs.Limits.{max-radios, max-neighbours, row-bytes}
-use Rattle.lists.specs.Lists.{range, count, all, In}
-use Rattle.mesh.specs.Tables.{marked}
-use Rattle.mesh.specs.Sound.{number-in}
-use Rattle.lists.proofs.Tests.{bool-cases, never, iff-eq}
-use Rattle.lists.proofs.All.{all-in, in-all}
-use Rattle.lists.proofs.Filter.{filter-in}
-use Rattle.lists.proofs.Range.{in-range}
-use Rattle.rows.specs.Rows.{neighbours-of}
-use Rattle.rows.proofs.MaskLaws.{marked-past}
-use Rattle.rows.proofs.RowListLaws.{in-neighbours-of}
+use Rattle.lists.{specs.Kit.{_≡_, refl, sym, ap, _∙_, _⊎_, inl, inr, Bool, true, false, _&&_, not, and-false, List, [], ℕ, _%_, _*_, _≤_, _<_, arith, ltb, leb}}
+use Rattle.lists.{specs.Kit.{eqb, length, ltb-true, ltb-false, lt-ltb, le-leb, lt-leb, eq-eqb, ne-eqb}, specs.Lists.{range, count, all, In}}
+use Rattle.lists.{proofs.Tests.{bool-cases, never, iff-eq}, proofs.All.{all-in, in-all}, proofs.Filter.{filter-in}, proofs.Range.{in-range}}
+use Rattle.mesh.specs.{Limits.{max-radios, max-neighbours, row-bytes}, Tables.{marked}, Sound.{number-in}}
+use Rattle.rows.{specs.Rows.{neighbours-of}, proofs.MaskLaws.{marked-past}, proofs.RowListLaws.{in-neighbours-of}}
 use Rattle.conditions.specs.Conditions.{first-key, later-count, high-count, ends-good, row-good}
-use Rattle.soundness.specs.Checks.{ends-mark, Tally, tally, Tallied}
-use Rattle.soundness.specs.Checks.{Highest-words, Ends-room, Ends-counted, Rows-room, Row-checked}
+use Rattle.soundness.specs.Checks.{ends-mark, Tally, tally, Tallied, Highest-words, Ends-room, Ends-counted, Rows-room, Row-checked}
 use Rattle.soundness.proofs.Tallies.{first-key-most}
 
 -- only a radio of the site has a row that marks

@@ -1,26 +1,11 @@
 -- What sound tables say of the graph that they mark: links by bits, numbers by entries, a row's neighbours.
-use mathlib.Core.Path.{_≡_, sym, ap, _∙_}
-use mathlib.Core.Bool.{Bool, true, _&&_}
-use mathlib.Core.List.{List}
-use Prim.Native.Nat.{ℕ, _*_, _≤_, _<_}
-use native.Mathlib.Omega.{arith}
-use lib.ListN.{length, getD}
-use Rattle.mesh.specs.Limits.{max-radios, max-neighbours, row-bytes}
-use Rattle.mesh.specs.Graph.{linked, degree}
-use Rattle.mesh.specs.Cores.{number, numbers}
-use Rattle.mesh.specs.Tables.{Tables, marked, graph-in}
-use Rattle.mesh.specs.Sound.{symmetric, irreflexive, within, few, rows-proper, sound}
-use Rattle.lists.proofs.Tests.{and-left, and-right, and-both}
-use Rattle.mesh.proofs.Cores.Peeling.{getD-numbers}
-use Rattle.mesh.proofs.Tables.ReadBack.{linked-graph-in, degree-graph-in}
-use Rattle.mesh.proofs.Tables.Rows.{few-of}
-use Rattle.mesh.proofs.Tables.Soundness.{Right, sound-right}
-use Rattle.calls.specs.Questions.{lengths-of, size-good, site-lengths}
-use Rattle.calls.proofs.QuestionLaws.{Site-lengths, size-good-true, true-size-good, site-lengths-true, true-site-lengths}
-use Rattle.calls.proofs.ChainLaws.{Site-good}
-use Rattle.rows.specs.Rows.{neighbours-of, row-listed, row-count}
-use Rattle.rows.proofs.RowListLaws.{row-count-few}
-use Rattle.rows.proofs.RowWords.{row-listed-whole}
+use Rattle.lists.{specs.Kit.{_≡_, sym, ap, _∙_, Bool, true, _&&_, List, ℕ, _≤_, _<_, arith, getD}, proofs.Tests.{and-left, and-right, and-both}}
+use Rattle.mesh.{specs.Limits.{max-radios, max-neighbours}, specs.Graph.{linked, degree}, specs.Cores.{number, numbers}, specs.Tables.{Tables, marked}}
+use Rattle.mesh.{specs.Tables.{graph-in}, specs.Sound.{symmetric, irreflexive, within, few, rows-proper, sound}, proofs.Cores.Peeling.{getD-numbers}}
+use Rattle.mesh.{proofs.Tables.ReadBack.{linked-graph-in, degree-graph-in}, proofs.Tables.Rows.{few-of}, proofs.Tables.Soundness.{Right, sound-right}}
+use Rattle.calls.{specs.Questions.{lengths-of, size-good, site-lengths}, proofs.QuestionLaws.{Site-lengths, size-good-true, true-size-good, site-lengths-true}}
+use Rattle.calls.{proofs.QuestionLaws.{true-site-lengths}, proofs.ChainLaws.{Site-good}}
+use Rattle.rows.{specs.Rows.{neighbours-of, row-listed, row-count}, proofs.RowListLaws.{row-count-few}, proofs.RowWords.{row-listed-whole}}
 use Rattle.soundness.specs.Checks.{fits-sound}
 pub use Rattle.soundness.specs.Checks.{Sound-site}
 

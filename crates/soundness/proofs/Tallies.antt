@@ -1,30 +1,14 @@
 -- The ends of a row counted, on plain values.
 -- In order: the first of the later ends by its key, ends counted one by one and part by part, a word walked, a row walked.
-use mathlib.Core.Path.{_≡_, refl, sym, ap, _∙_}
-use mathlib.Core.Logic.{_⊎_, inl, inr}
-use mathlib.Core.Bool.{Bool, true, false, _&&_, cond}
-use mathlib.Core.List.{List, [], _∷_, _++_}
-use Prim.Native.Nat.{ℕ, zero, suc, _+_, _*_, _-_, _^_, _≤_, _<_, min}
-use native.Mathlib.Omega.{arith}
-use mir.Syntax.{w8}
-use mir.Val.{boolByte, Fits}
-use lib.Bits.{bitAnd, and-le-l}
-use lib.Count.{trailingZeros}
-use lib.Dec.{ltb, leb}
-use lib.ListN.{length, getD, length-append}
-use borrow.Author.Tests.{lt-ltb, le-ltb}
-use Rattle.mesh.specs.Limits.{max-neighbours, row-bytes}
-use Rattle.lists.specs.Lists.{count, all}
-use Rattle.mesh.specs.Tables.{marked}
-use Rattle.lists.proofs.Tests.{bool-cases, never, bit-one, byte-bit}
-use Rattle.lists.proofs.Count.{count-append}
-use Rattle.lists.proofs.All.{all-append}
-use Rattle.rows.specs.Rows.{neighbours-of, row-from, set-bits, row-word}
-use Rattle.rows.proofs.WordLaws.{set-bits-nothing, set-bits-lowest, length-set-bits-le}
-use Rattle.rows.proofs.RowWords.{row-from-zero, row-from-word, row-from-end}
-use Rattle.rows.proofs.MaskLaws.{marked-past}
-use Rattle.conditions.specs.Conditions.{sooner-key, first-key, later-count, high-count, highest-word}
-use Rattle.conditions.proofs.HighestWord.{highest-word-below, highest-word-above}
+use Rattle.lists.{specs.Kit.{_≡_, refl, sym, ap, _∙_, _⊎_, inl, inr, Bool, true, false, _&&_, cond, List, [], _∷_, _++_, ℕ, zero, suc, _+_, _*_, _-_, _^_, _≤_}}
+use Rattle.lists.{specs.Kit.{_<_, min, arith, bitAnd, and-le-l, trailingZeros, ltb, leb, length, getD, length-append, lt-ltb, le-ltb}, specs.Lists.{count, all}}
+use Rattle.lists.{proofs.Tests.{bool-cases, never, bit-one, byte-bit}, proofs.Count.{count-append}, proofs.All.{all-append}}
+use mir.{Syntax.{w8}, Val.{boolByte, Fits}}
+use Rattle.mesh.specs.{Limits.{max-neighbours, row-bytes}, Tables.{marked}}
+use Rattle.rows.{specs.Rows.{neighbours-of, row-from, set-bits, row-word}, proofs.WordLaws.{word-lowest, word-less, word-none, length-set-bits-le}}
+use Rattle.rows.{proofs.RowWords.{row-from-zero, row-split, row-from-end}, proofs.MaskLaws.{marked-past}}
+use Rattle.conditions.{specs.Conditions.{sooner-key, first-key, later-count, high-count, highest-word}, proofs.HighestWord.{highest-word-below}}
+use Rattle.conditions.{proofs.HighestWord.{highest-word-above}}
 use Rattle.soundness.specs.Checks.{ends-mark, Highest-words, Tally, tally, Tallied, Walked, Walk-room}
 
 pub count-fits : (x : ℕ) (t : Bool) → x < 255 → Fits w8 (x + boolByte t)
@@ -173,7 +157,7 @@ module _ (links numbers places : List ℕ) (a first word : ℕ) (s : Tally) wher
     others = bitAnd rest (rest - 1)
 
     lowest : set-bits 64 first rest ≡ b ∷ set-bits 64 first others
-    lowest = set-bits-lowest 64 first rest (omega arith) (h .small)
+    lowest = word-lowest first rest (h .small) some
 
     mark-next : (marked links b a && ends-mark links a (set-bits 64 first others)) ≡ ends-mark links a (set-bits 64 first word)
     unfolding ends-mark all
@@ -196,7 +180,7 @@ module _ (links numbers places : List ℕ) (a first word : ℕ) (s : Tally) wher
         → Walking links numbers places a first word s others (more numbers places a b t new)
     walking-turn new m e = record {
       low = omega (arith, and-le-l rest (rest - 1), h .low);
-      small = omega (arith, and-le-l rest (rest - 1), h .small);
+      small = word-less rest (h .small);
       same = sym (ap (λ (x : Bool). x && ends-mark links a (set-bits 64 first others)) m) ∙ mark-next;
       so-far = tallied-one numbers places a s (set-bits 64 first word) b (set-bits 64 first others) t new e (rw lowest at (h .so-far));
     }
@@ -205,7 +189,7 @@ module _ (links numbers places : List ℕ) (a first word : ℕ) (s : Tally) wher
       → Walked links numbers places a s (set-bits 64 first word) true t
   unfolding ends-mark all
   walking-end rest t e h =
-      let none : set-bits 64 first rest ≡ [] = ap (set-bits 64 first) e ∙ set-bits-nothing 64 first in
+      let none = word-none first rest e in
       record { answer = sym (ap (ends-mark links a) none) ∙ h .same; tallied = λ _. rw none at (h .so-far) }
 
   pub walking-zero : word ≡ 0 → Walk-room first s → Walked links numbers places a s (set-bits 64 first word) true s
@@ -250,7 +234,7 @@ module _ (links numbers places : List ℕ) (a : ℕ) where
     rest = row-from links a (k + 1)
 
     split : row-from links a k ≡ bits ++ rest
-    split = row-from-word links bytes a k h ∙ ap (λ (x : ℕ). set-bits 64 (64 * k) x ++ rest) (sym e)
+    split = row-split links bytes a k w h e
 
     row-mark-next : (good && ends-mark links a rest) ≡ ends-mark links a (neighbours-of links a)
     unfolding ends-mark

@@ -1,35 +1,17 @@
 -- The later neighbours of a radio of sound tables: what the count of its row's ends gives is what the order says.
 -- In order: as the code counts them, the answer.
-use mathlib.Core.Path.{_≡_, sym, subst, _∙_}
-use mathlib.Core.Bool.{Bool, true, _&&_}
-use mathlib.Core.List.{List}
-use Prim.Native.Nat.{ℕ}
-use native.Mathlib.Omega.{arith}
-use lib.Dec.{leb}
-use lib.ListN.{length}
-use Rattle.mesh.specs.Limits.{max-radios, max-neighbours}
-use Rattle.lists.specs.Lists.{range, all}
-use Rattle.lists.specs.Facts.{Each-once}
-use Rattle.mesh.specs.Orders.{rising}
-use Rattle.mesh.specs.Tables.{Tables, graph-in}
-use Rattle.mesh.specs.Sound.{number-in, rows-proper, sound, sound-within}
-use Rattle.lists.proofs.Tests.{and-left, and-right, and-both}
-use Rattle.lists.proofs.All.{all-below}
-use Rattle.mesh.proofs.Cores.Orders.{of-each-once}
-use Rattle.mesh.proofs.Cores.KOrders.{k-order-certificate}
-use Rattle.mesh.proofs.Tables.Soundness.{sound-right}
-use Rattle.calls.specs.Questions.{lengths-of, size-good, site-lengths, radio-refusal}
-use Rattle.calls.specs.Outcomes.{later, later-outcome}
-use Rattle.calls.specs.Contracts.{Later-contract}
-use Rattle.calls.proofs.ChainLaws.{radio-zero}
-use Rattle.calls.proofs.ContractLaws.{by-accepted, by-refused}
+use Rattle.lists.{specs.Kit.{_≡_, sym, subst, _∙_, Bool, true, _&&_, List, ℕ, arith, leb, length}, specs.Lists.{range, all}, specs.Facts.{Each-once}}
+use Rattle.lists.{proofs.Tests.{and-left, and-right, and-both}, proofs.All.{all-below}}
+use Rattle.mesh.{specs.Limits.{max-radios, max-neighbours}, specs.Orders.{rising}, specs.Tables.{Tables, graph-in}, specs.Sound.{number-in, rows-proper, sound}}
+use Rattle.mesh.{specs.Sound.{sound-within}, proofs.Cores.Orders.{of-each-once}, proofs.Cores.KOrders.{k-order-certificate}}
+use Rattle.mesh.{proofs.Tables.Soundness.{sound-right}}
+use Rattle.calls.{specs.Questions.{lengths-of, size-good, site-lengths, radio-refusal}, specs.Outcomes.{later, later-outcome}, specs.Contracts.{Later-contract}}
+use Rattle.calls.{proofs.ChainLaws.{radio-zero}, proofs.ContractLaws.{by-accepted, by-refused}}
 use Rattle.rows.specs.Rows.{neighbours-of}
-use Rattle.conditions.specs.Conditions.{Placed, later-count, high-count, ends-good, row-good}
-use Rattle.conditions.proofs.RowByRow.{sound-rows}
-use Rattle.conditions.proofs.FirstLater.{later-count-rest, first-key-rest}
+use Rattle.conditions.{specs.Conditions.{Placed, later-count, high-count, ends-good, row-good}, proofs.RowByRow.{sound-rows}}
+use Rattle.conditions.{proofs.FirstLater.{later-count-rest, first-key-rest}}
 use Rattle.soundness.specs.Checks.{Placing, fits-sound, Sound-radio, Ends-room, Ends-counted, Later-counted}
-use Rattle.soundness.proofs.SoundSite.{Sound-site, fits-sound-site, site-good-fits}
-use Rattle.soundness.proofs.HighCounts.{proper-rows}
+use Rattle.soundness.proofs.{SoundSite.{Sound-site, fits-sound-site, site-good-fits}, HighCounts.{proper-rows}}
 
 -- ---- as the code counts them
 
@@ -108,7 +90,10 @@ module _ (n v : ℕ) (t : Tables) where
     pub later-radio : Sound-radio (length (t .order)) v t
     later-radio =
         let r = radio-zero n v (lengths-of t) (sound n t) e in
-        record { is-sound = subst (λ (m : ℕ). fits-sound m t ≡ true) (sym order-long) (site-good-fits n t true (r .0)); radio = omega (arith, r .1, order-long) }
+        record {
+          is-sound = subst (λ (m : ℕ). fits-sound m t ≡ true) (sym order-long) (site-good-fits n t true (r .0));
+          radio = omega (arith, r .1, order-long);
+        }
 
     pub later-answered : (k w : ℕ) → Later-counted (length (t .order)) v t k w → Later-contract n v t (later 0 k w)
     unfolding Later-contract later-outcome sound

@@ -3,29 +3,19 @@
 --   Highest-words            the highest word of each word of a row
 --   Tally                    what is counted of some ends of a row
 --   Sound-radio, Ends-room, Walk-room, Rows-room   what private functions of src/lib.rt want of the tables that they read
---   Placing, Places-found, Tallied, Walked, Ends-counted, Later-counted, Row-checked, Rows-checked, Held, Asked, Examined
+--   Placing, Places-found, Tallied, Walked, Ends-counted, Later-counted, Row-checked, Rows-checked, Held, Asked
 --                            what the functions of src/lib.rt come back with
 --   nowhere                  a place that no entry of an order has
---   Sizes, examinable        questions 1 and 2 get yes, and the lent tables of places and not-lower counts are long enough
+--   Sizes                    questions 1 and 2 get yes, and the lent tables of places and not-lower counts are long enough
 --   fits-sound               questions 1 to 3 get yes
 --   Sound-site               what sound tables say of the graph that they mark
 -- The conditions on a row that they speak of are in crate row_conditions. Definitions only.
-use mathlib.Core.Path.{_≡_}
-use mathlib.Core.Bool.{Bool, true, _&&_}
-use mathlib.Core.List.{List, []}
-use Prim.Native.Nat.{ℕ, _+_, _*_, _%_, _≤_, _<_, min}
-use lib.Dec.{leb}
-use lib.ListN.{length, getD}
-use Rattle.mesh.specs.Limits.{max-radios, max-neighbours, row-bytes}
-use Rattle.lists.specs.Lists.{range, all, head-or}
-use Rattle.mesh.specs.Orders.{each-once, later-in, nobody}
-use Rattle.mesh.specs.Tables.{Tables, marked, graph-in}
-use Rattle.mesh.specs.Graph.{linked}
-use Rattle.mesh.specs.Cores.{numbers}
-use Rattle.mesh.specs.Sound.{symmetric, irreflexive, within, few, sound}
-use Rattle.calls.specs.Questions.{Lengths, lengths-of, size-good, site-lengths, answer-length, site-refusal}
+use Rattle.lists.specs.{Kit.{_≡_, Bool, true, _&&_, List, [], ℕ, _+_, _*_, _%_, _≤_, _<_, min, leb, length, getD}, Lists.{range, all, head-or}}
+use Rattle.mesh.specs.{Limits.{max-radios, max-neighbours, row-bytes}, Orders.{each-once, later-in, nobody}, Tables.{Tables, marked, graph-in}, Graph.{linked}}
+use Rattle.mesh.specs.{Cores.{numbers}, Sound.{symmetric, irreflexive, within, few, sound}}
+use Rattle.calls.specs.Questions.{Lengths, lengths-of, size-good, site-lengths, site-refusal}
 use Rattle.rows.specs.Rows.{neighbours-of}
-use Rattle.conditions.specs.Conditions.{Placed, Highs, later-count, first-key, high-count, ends-good, row-good, highest-word}
+use Rattle.conditions.specs.Conditions.{Placed, Not-lower, later-count, first-key, high-count, ends-good, row-good, highest-word}
 
 unfoldable pub ends-mark : (links : List ℕ) → (a : ℕ) → (radios : List ℕ) → Bool
 ends-mark ts a xs = all (λ b. marked ts b a) xs
@@ -127,7 +117,7 @@ pub record Row-checked (n : ℕ) (links numbers places : List ℕ) (a : ℕ) (go
 -- whether all rows are good, and then the high counts
 pub record Rows-checked (n : ℕ) (links numbers places before after : List ℕ) (r : Bool) : Type 0 where
   pub answer : r ≡ all (row-good max-neighbours n links numbers places) (range 0 n)
-  pub highs : r ≡ true → Highs n links numbers after
+  pub counts : r ≡ true → Not-lower n links numbers after
   pub long : length after ≡ length before
 
 -- ---- questions 1 to 3
@@ -145,24 +135,13 @@ pub record Sizes (n : ℕ) (l : Lengths) (p h : ℕ) : Type 0 where
 pub record Held (n : ℕ) (t : Tables) (places not-lower : List ℕ) (r : Bool) : Type 0 where
   pub answer : r ≡ sound n t
   pub placed : r ≡ true → Placed n (t .order) places
-  pub counts : r ≡ true → Highs n (t .links) (t .numbers) not-lower
+  pub counts : r ≡ true → Not-lower n (t .links) (t .numbers) not-lower
 
 -- the number of questions 1 to 3, and at 0 the places and the not-lower counts
 pub record Asked (n : ℕ) (t : Tables) (others : Bool) (places not-lower : List ℕ) (q : ℕ) : Type 0 where
   pub number : q ≡ site-refusal n (lengths-of t) others (sound n t) 0
   pub placed : q ≡ 0 → Placed n (t .order) places
-  pub counts : q ≡ 0 → Highs n (t .links) (t .numbers) not-lower
-
-unfoldable pub examinable : (n : ℕ) → Lengths → (places not-lower : ℕ) → Bool
-examinable n l p h = size-good n && (site-lengths n l && answer-length n (min p h))
-
--- the same, where questions 1 and 2 may get no; ps and hs are the tables of places and of not-lower counts before, qs and is after
-pub record Examined (n : ℕ) (t : Tables) (ps qs hs is : List ℕ) (r : Bool) : Type 0 where
-  pub answer : r ≡ (examinable n (lengths-of t) (length ps) (length hs) && sound n t)
-  pub placed : r ≡ true → Placed n (t .order) qs
-  pub highs : r ≡ true → Highs n (t .links) (t .numbers) is
-  pub places-long : length qs ≡ length ps
-  pub highs-long : length is ≡ length hs
+  pub counts : q ≡ 0 → Not-lower n (t .links) (t .numbers) not-lower
 
 -- ---- sound tables
 

@@ -1,9 +1,6 @@
 // The soundness check: document 01's local conditions, decided for any content of tables of the right lengths, and questions 1 to 3,
 // which every call over a site puts. An entry is tested before it is used as an index.
-ghost use mathlib.Core.Path.{_≡_};
-ghost use mathlib.Core.Bool.{true};
-ghost use Prim.Native.Nat.{_+_, _*_, _/_, _≤_, _<_};
-ghost use lib.ListN.{length};
+ghost use Rattle.lists.specs.Kit.{_≡_, true, _+_, _*_, _/_, _≤_, _<_, length};
 ghost use Rattle.mesh.specs.Limits.{max-radios, row-bytes};
 ghost use Rattle.mesh.specs.Orders.{rising};
 ghost use Rattle.mesh.specs.Sound.{number-in, sound};
@@ -11,13 +8,12 @@ ghost use Rattle.mesh.specs.Lent.{lent};
 ghost use Rattle.mesh.specs.Tables.{marked, tables};
 ghost use Rattle.calls.specs.Questions.{lengths-of, site-refusal};
 ghost use Rattle.calls.specs.Contracts.{Check-contract};
-ghost use Rattle.tables.specs.Sizes.{lengths};
 ghost use Rattle.lists.specs.Lists.{Entries-below};
 ghost use Rattle.rows.specs.Rows.{set-bits};
 ghost use Rattle.conditions.specs.Conditions.{sooner-key, highest-word};
 ghost use Rattle.soundness.specs.Checks.{Placing, Places-found, Highest-words, tally, Walk-room, Walked, Ends-room, Ends-counted};
 ghost use Rattle.soundness.specs.Checks.{Rows-room, Row-checked, Rows-checked};
-ghost use Rattle.soundness.specs.Checks.{Sizes, Held, Asked, examinable, Examined};
+ghost use Rattle.soundness.specs.Checks.{Sizes, Held, Asked};
 use calls::Refusal;
 use calls::Value;
 use mesh::Site;
@@ -430,52 +426,4 @@ pub fn check(n: u32, links: &[u8], numbers: &[u8], order: &[u16]) -> Value
         };
     }
     Value { number, value: 0 }
-}
-
-// Whether n is from 1 to 512, links, numbers and order have their lengths, and places and not_lower an entry for each radio.
-fn is_examinable(
-    n: u32,
-    links: usize,
-    numbers: usize,
-    order: usize,
-    places: usize,
-    not_lower: usize,
-) -> bool
-    ensures { λ r. ⌜ r ≡ examinable n (lengths links numbers order) places «not_lower» ⌝ }
-{
-    tables::sizes::with_answer(
-        Site { radios: n },
-        links,
-        numbers,
-        order,
-        tables::fill::least(places, not_lower),
-    )
-        == 0
-}
-
-// Whether the tables are sound, for callers that put questions 1 and 2 themselves. Then `places` and `not_lower` are as `asked` leaves
-// them at 0; else both hold anything. Not where n is not from 1 to 512, a table has another length than document 01 says, or `places`
-// or `not_lower` has fewer than n entries.
-pub fn examine(
-    n: u32,
-    links: &[u8],
-    numbers: &[u8],
-    order: &[u16],
-    places: &mut [u16],
-    not_lower: &mut [u8],
-) -> bool
-    ensures { λ r. ⌜ Examined n (lent (links .entry) (numbers .entry) (order .entry)) (now (places .entry)) (now (places .exit))
-        (now («not_lower» .entry)) (now («not_lower» .exit)) r ⌝ }
-{
-    if !is_examinable(
-        n,
-        links.len(),
-        numbers.len(),
-        order.len(),
-        places.len(),
-        not_lower.len(),
-    ) {
-        return false;
-    }
-    is_sound(n, links, numbers, order, places, not_lower)
 }

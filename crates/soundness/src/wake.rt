@@ -1,7 +1,5 @@
 // The later neighbours of a radio: how many, and the first of them in the order, through which the radio is woken.
-ghost use mathlib.Core.Path.{_≡_};
-ghost use Prim.Native.Nat.{_<_};
-ghost use lib.ListN.{length};
+ghost use Rattle.lists.specs.Kit.{_≡_, _<_, length};
 ghost use Rattle.mesh.specs.Lent.{lent};
 ghost use Rattle.mesh.specs.Tables.{tables};
 ghost use Rattle.mesh.specs.Sound.{sound};

@@ -1,34 +1,20 @@
 -- The call's contract, met: refused and answered.
-use mathlib.Core.Path.{_≡_, sym, _∙_}
-use mathlib.Core.List.{List}
-use Prim.Native.Nat.{ℕ, _*_, _≤_}
-use native.Mathlib.Omega.{arith}
-use lib.Dec.{leb}
-use lib.ListN.{length}
-use borrow.Author.Tests.{leb-true}
-use Rattle.lists.specs.Lists.{range}
-use Rattle.mesh.specs.Limits.{max-radios, max-neighbours}
-use Rattle.mesh.specs.Connected.{greatest}
-use Rattle.mesh.specs.Tables.{Tables}
-use Rattle.mesh.specs.Sound.{sound}
-use Rattle.calls.specs.Questions.{lengths-of, site-refusal, staircase-length, staircase-refusal}
-use Rattle.calls.specs.Contracts.{Staircase-contract}
-use Rattle.rows.specs.Links.{links-from, Rows-listed}
-use Rattle.mesh.proofs.Tables.Rows.{symmetric-of}
-use Rattle.mesh.proofs.Trees.Listed.{greatest-le}
-use Rattle.calls.proofs.SheetLaws.{numbers-two-digits}
-use Rattle.calls.proofs.ChainLaws.{Site-good, site-zero}
-use Rattle.calls.specs.Outcomes.{value, staircase-outcome}
-use Rattle.calls.proofs.ContractLaws.{listing-refused, listing-answered}
+use Rattle.lists.specs.{Kit.{_≡_, sym, _∙_, List, ℕ, _*_, _≤_, arith, leb, length, leb-true}, Lists.{range}}
+use Rattle.mesh.{specs.Limits.{max-radios, max-neighbours}, specs.Connected.{greatest}, specs.Tables.{Tables}, specs.Sound.{sound}}
+use Rattle.mesh.{proofs.Tables.Rows.{symmetric-of}, proofs.Trees.Listed.{greatest-le}}
+use Rattle.calls.{specs.Questions.{lengths-of, site-refusal}, specs.Contracts.{Staircase-contract}}
+use Rattle.calls.{proofs.SheetLaws.{numbers-two-digits}, proofs.ChainLaws.{Site-good, site-zero}, specs.Outcomes.{value, staircase-outcome}}
+use Rattle.calls.{proofs.ContractLaws.{listing-refused, listing-answered}}
+use Rattle.rows.{specs.Links.{links-from, Rows-listed}, proofs.GraphLinks.{rows-listed-few}}
 use Rattle.soundness.proofs.SoundSite.{Sound-site, site-good-sound}
-use Rattle.rows.proofs.GraphLinks.{rows-listed-few}
 use Rattle.forests.specs.Growing.{growing, grown-all, table-weight, levels-falling}
 use Rattle.staircase.specs.Rows.{Mutual}
 use Rattle.staircase.proofs.LevelLaws.{staircase-count, staircase-table}
+use Rattle.calls.specs.{Chains.{staircase-refusal, staircase-length}}
 
 module _ (n : ℕ) (t : Tables) (old : List ℕ) (q : ℕ) (asked : q ≡ site-refusal n (lengths-of t) (leb (2 * n) (length old)) (sound n t) 0) where
   pub staircase-refused : (q ≡ 0 → ⊥) → Staircase-contract n t old (value q 0) old
-  unfolding Staircase-contract staircase-outcome sound staircase-refusal staircase-length
+  unfolding Staircase-contract staircase-outcome sound
   staircase-refused h = listing-refused _ _ _ old q asked h
 
   module _ (e : q ≡ 0) where
@@ -57,7 +43,7 @@ module _ (n : ℕ) (t : Tables) (old : List ℕ) (q : ℕ) (asked : q ≡ site-r
         (levels-falling (table-weight (t .numbers)) (greatest (t .numbers)) (links-from (length (t .numbers)) (t .links) 0 0))
         (growing (range 0 (length (t .numbers))) old 0)
         → Staircase-contract n t old (value 0 count) table
-    unfolding Staircase-contract staircase-outcome sound staircase-refusal staircase-length
+    unfolding Staircase-contract staircase-outcome sound
     staircase-answered labels table count h =
         let room = leb-true (2 * n) (length old) (good .lent .further) in
         listing-answered _ _ _ old count table (sym asked ∙ e)

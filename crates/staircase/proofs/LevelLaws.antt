@@ -1,32 +1,16 @@
 -- On sound tables the links of the rows, by weight falling, are the graph's; so what grows is the staircase tree.
 --   levels-graph       the links taken are the graph's links by weight falling
 --   staircase-count, staircase-table   what the call answers, and what the lent table holds
-use mathlib.Core.Path.{_≡_, ap, ap₂, _∙_}
-use mathlib.Core.List.{List, []}
-use Prim.Native.Nat.{ℕ, _*_, _≤_, _<_, min}
-use native.Mathlib.Omega.{arith}
-use lib.ListN.{length}
-use lib.Seq.{take-all}
-use Rattle.lists.specs.Lists.{range, overwrite}
-use Rattle.mesh.specs.Graph.{Link, Graph, In-links}
-use Rattle.mesh.specs.Cores.{number, numbers}
-use Rattle.mesh.specs.Connected.{greatest}
-use Rattle.mesh.specs.Tables.{Tables, graph-in}
-use Rattle.mesh.specs.Staircase.{weight, falling, staircase, link-entries}
-use Rattle.rows.specs.Links.{links-from}
-use Rattle.lists.proofs.Overwrite.{sets-front}
-use Rattle.mesh.proofs.GraphLaws.{linked-sym}
-use Rattle.mesh.proofs.Links.Call.{linked-positive}
-use Rattle.mesh.proofs.Tables.ReadBack.{Marks, in-graph-in, proper-graph-in}
+use Rattle.lists.{specs.Kit.{_≡_, ap, ap₂, _∙_, List, [], ℕ, _*_, _≤_, _<_, min, arith, length, take-all}, specs.Lists.{range, overwrite}}
+use Rattle.lists.{proofs.Overwrite.{sets-front}}
+use Rattle.mesh.{specs.Graph.{Link, Graph, In-links}, specs.Cores.{number, numbers}, specs.Connected.{greatest}, specs.Tables.{Tables, graph-in}}
+use Rattle.mesh.{specs.Staircase.{weight, falling, staircase, link-entries}, proofs.GraphLaws.{linked-sym}, proofs.Links.Call.{linked-positive}}
+use Rattle.mesh.{proofs.Tables.ReadBack.{Marks, in-graph-in, proper-graph-in}}
+use Rattle.rows.{specs.Links.{links-from}, proofs.GraphLinks.{links-graph-in}}
 use Rattle.soundness.proofs.SoundSite.{Sound-site, linked-marked, number-entry}
-use Rattle.rows.proofs.GraphLinks.{links-graph-in}
-use Rattle.forests.proofs.JoinedLaws.{Inside}
-use Rattle.forests.proofs.Keeping.{in-falling}
-use Rattle.forests.proofs.Heaviest.{links-inside, staircase-fewer}
-use Rattle.forests.proofs.Tree.{length-link-entries}
-use Rattle.forests.proofs.Levels.{levels-ext, levels-all}
-use Rattle.forests.proofs.Shows.{Shows, shows-none, shows-all}
-use Rattle.forests.specs.Growing.{Growing, growing, grown-all, table-weight, levels-falling}
+use Rattle.forests.{proofs.JoinedLaws.{Inside}, proofs.Keeping.{in-falling}, proofs.Heaviest.{links-inside, staircase-fewer}, proofs.Tree.{length-link-entries}}
+use Rattle.forests.{proofs.Levels.{levels-ext, levels-all}, proofs.Shows.{Shows, shows-none, shows-all}, specs.Growing.{Growing, growing, grown-all}}
+use Rattle.forests.{specs.Growing.{table-weight, levels-falling}}
 
 module _ (n : ℕ) (t : Tables) (s : Sound-site n t) where
   abbrev site : Graph
@@ -70,7 +54,8 @@ module _ (n : ℕ) (t : Tables) (s : Sound-site n t) where
     shown =
         rw (is-end, s .numbers-long, levels-graph (greatest (t .numbers)), s .numbers)
         (shows-all n old (falling (weight site) (greatest (numbers site)) (site .links)) []
-        (λ l i. inside l (in-falling (weight site) (greatest (numbers site)) (site .links) l i .0)) (λ l i. absurd i) (growing (range 0 n) old 0) (shows-none n old))
+        (λ l i. inside l (in-falling (weight site) (greatest (numbers site)) (site .links) l i .0)) (λ l i. absurd i) (growing (range 0 n) old 0)
+        (shows-none n old))
 
     fewer : length (staircase site) < n
     unfolding graph-in

@@ -4,41 +4,21 @@
 --   radios-putting-.., neighbours-putting-..   listed radios, and their neighbours, put into a set
 --   level-rows        the rows listed
 --   level-links       the links of the listed rows are the links of the level's weight
-use mathlib.Core.Path.{_≡_, refl, sym, ap, ap₂, _∙_}
-use mathlib.Core.Logic.{_⊎_, inl, inr}
-use mathlib.Core.Bool.{Bool, true, false, _&&_, not, cond}
-use mathlib.Core.List.{List, [], _∷_, _++_, flatMap, append-nil}
-use Prim.Native.Nat.{ℕ, _+_, _*_, _-_, _/_, _%_, _≤_, _<_, min}
-use native.Mathlib.Omega.{arith}
-use lib.Dec.{ltb, leb, eqb}
-use lib.ListN.{length, getD, take, replicate, length-take, List·getD-eq-default}
-use lib.Seq.{take-all}
-use borrow.Author.Tests.{ltb-true, lt-ltb, leb-true, leb-false, le-leb, lt-leb, eqb-true, eqb-false, eq-eqb, ne-eqb}
-use Rattle.mesh.specs.Limits.{max-radios, row-bytes}
-use Rattle.lists.specs.Lists.{range, filter, member, overwrite, In, Entries-below}
-use Rattle.mesh.specs.Connected.{greatest}
-use Rattle.mesh.specs.Graph.{Link, link-of}
-use Rattle.mesh.specs.Tables.{marked}
-use Rattle.mesh.specs.Staircase.{filter-links, of-weight}
-use Rattle.lists.proofs.Tests.{bool-cases, never, and-left, and-right, and-both, or-left, or-right, iff-eq}
-use Rattle.lists.proofs.Range.{range-in, in-range, range-append, length-range}
-use Rattle.lists.proofs.Filter.{in-filter, filter-in, filter-none, filter-ext, filter-le}
-use Rattle.lists.proofs.Member.{in-getD, getD-of-in}
-use Rattle.lists.proofs.Map.{flatMap-none, flatMap-append}
-use Rattle.lists.proofs.Overwrite.{take-overwrite}
-use Rattle.mesh.proofs.Trees.Listed.{getD-le-greatest}
-use Rattle.rows.specs.Rows.{row-listed, neighbours-above}
-use Rattle.rows.proofs.RowListLaws.{in-neighbours-of, member-neighbours-of}
-use Rattle.rows.proofs.RowWords.{row-listed-whole, row-listed-short}
-use Rattle.rows.specs.Sets.{in-set, put-in, Row-joined, common, Common-taken, Set-taken, members, Listed}
-use Rattle.rows.proofs.SetLaws.{in-set-zeros, in-set-radio, in-put-in, length-put-in}
-use Rattle.rows.specs.Links.{links-to, links-above, links-from}
+use Rattle.lists.{specs.Kit.{_≡_, refl, sym, ap, ap₂, _∙_, _⊎_, inl, inr, Bool, true, false, _&&_, not, cond, List, [], _∷_, _++_, flatMap, append-nil, ℕ, _+_}}
+use Rattle.lists.{specs.Kit.{_*_, _-_, _≤_, _<_, min, arith, ltb, leb, eqb, length, getD, take, replicate, length-take, List·getD-eq-default, take-all}}
+use Rattle.lists.{specs.Kit.{ltb-true, lt-ltb, leb-true, leb-false, le-leb, lt-leb, eqb-true, eqb-false, eq-eqb, ne-eqb}, specs.Lists.{range, filter, member}}
+use Rattle.lists.{specs.Lists.{overwrite, In, Entries-below}, proofs.Tests.{bool-cases, never, and-left, and-right, and-both, or-left, or-right, iff-eq}}
+use Rattle.lists.{proofs.Range.{range-in, in-range, range-append, length-range}, proofs.Filter.{in-filter, filter-in, filter-none, filter-ext, filter-le}}
+use Rattle.lists.{proofs.Member.{in-getD, getD-of-in}, proofs.Map.{flatMap-none, flatMap-append}, proofs.Overwrite.{take-overwrite}}
+use Rattle.mesh.{specs.Limits.{max-radios, row-bytes}, specs.Connected.{greatest}, specs.Graph.{Link, link-of}, specs.Tables.{marked}}
+use Rattle.mesh.{specs.Staircase.{filter-links, of-weight}, proofs.Trees.Listed.{getD-le-greatest}}
+use Rattle.rows.{specs.Rows.{row-listed, neighbours-above}, proofs.RowListLaws.{in-neighbours-of, member-neighbours-of}, proofs.RowWords.{row-listed-whole}}
+use Rattle.rows.{proofs.RowWords.{row-listed-short}, specs.Sets.{in-set, put-in, Row-joined, common, Common-taken, Set-taken, members, Listed}}
+use Rattle.rows.{proofs.SetLaws.{in-set-zeros, in-set-radio, in-put-in, length-put-in}, specs.Links.{links-to, links-above, links-from}}
 use Rattle.floods.specs.Floods.{of-level, Level-set}
-use Rattle.forests.proofs.Forests.{filter-links-append}
-use Rattle.forests.specs.Growing.{table-weight}
-use Rattle.staircase.specs.Taking.{greatest-below}
+use Rattle.forests.{proofs.Forests.{filter-links-append}, specs.Growing.{table-weight}}
+use Rattle.staircase.specs.{Taking.{greatest-below}, Rows.{row-among, level-row, Rows-whole, Radios-put, Neighbours-put, Level-sets, Level-rows, Mutual}}
 use Rattle.staircase.proofs.SkipLaws.{number-radio, number-below}
-use Rattle.staircase.specs.Rows.{row-among, level-row, Rows-whole, Radios-put, Neighbours-put, Level-sets, Level-rows, Mutual}
 
 -- ---- the radios of a level
 
@@ -158,7 +138,8 @@ neighbours-putting-turn ts list old i set after l same joined h = record {
         ∙ or-right (in-set set x) (member x (row-listed ts (getD list i 0))) (ap (λ (u : ℕ). member x (row-listed ts (getD list u 0))) (sym z) ∙ m)
     go j x (inr q) r m = let d = eqb-false j i q in stays x (h .near j x (omega (arith, d)) m)
 
-pub neighbours-putting-end : (ts list old : List ℕ) (i : ℕ) (set : List ℕ) → length list ≤ i → Neighbours-putting ts list old i set → Neighbours-put ts list old set
+pub neighbours-putting-end : (ts list old : List ℕ) (i : ℕ) (set : List ℕ) → length list ≤ i → Neighbours-putting ts list old i set → Neighbours-put ts list old
+    set
 neighbours-putting-end ts list old i set l h = record { kept = h .kept; near = λ j x r m. h .near j x (omega arith) m }
 
 -- ---- the rows listed
@@ -168,7 +149,8 @@ listed-front : (xs old list : List ℕ) (r : ℕ) → length xs ≤ length old �
     → take r list ≡ xs
 listed-front xs old list r fits counted listed =
     let all : r ≡ length xs = omega arith in
-    ap (λ (k : ℕ). take k list) all ∙ ap (take (length xs)) (listed ∙ ap (λ (ys : List ℕ). overwrite ys old) (take-all (length old) xs fits)) ∙ take-overwrite xs old
+    ap (λ (k : ℕ). take k list) all ∙ ap (take (length xs)) (listed ∙ ap (λ (ys : List ℕ). overwrite ys old) (take-all (length old) xs fits)) ∙ take-overwrite
+    xs old
 
 few-radios : (f : ℕ → Bool) → length (filter f (range 0 max-radios)) ≤ max-radios
 few-radios f = filter-le f (range 0 max-radios) max-radios (length-range 0 max-radios)
@@ -270,7 +252,8 @@ filter-links-flatMap f h (x ∷ xs) =
     filter-links-append f (h x) (flatMap h xs) ∙ ap {B = List Link} (λ ls. filter-links f (h x) ++ ls) (filter-links-flatMap f h xs)
 
 -- entries that give nothing may be left out
-flatMap-filter : (g : ℕ → Bool) (h k : ℕ → List Link) (xs : List ℕ) → ((a : ℕ) → In a xs → g a ≡ false → h a ≡ []) → ((a : ℕ) → In a xs → g a ≡ true → k a ≡ h a)
+flatMap-filter : (g : ℕ → Bool) (h k : ℕ → List Link) (xs : List ℕ) → ((a : ℕ) → In a xs → g a ≡ false → h a ≡ []) →
+    ((a : ℕ) → In a xs → g a ≡ true → k a ≡ h a)
     → flatMap k (filter g xs) ≡ flatMap h xs
 unfolding flatMap filter
 flatMap-filter g h k [] none same = refl
@@ -375,7 +358,8 @@ module _ (ts ns : List ℕ) (k : ℕ) (some : 1 ≤ k) (rows : Mutual (length ns
       where
         none : (b : ℕ) → (b < max-radios) × (marked ts a b ≡ true) → min (getD ns a 0) (getD ns b 0) ≡ k → ⊥
         none b m q =
-            never (taken a) (and-both (in-set reach a) (found .rows a) (of-reach a l ∙ le-leb k (getD ns a 0) (omega arith)) (row-found a b l (m .0) (m .1) q)) e
+            never (taken a) (and-both (in-set reach a) (found .rows a) (of-reach a l ∙ le-leb k (getD ns a 0) (omega arith)) (row-found a b l (m .0) (m .1) q))
+            e
 
     pub level-links : flatMap (level-row ts own reach) (take r list) ≡ of-weight (table-weight ns) k (links-from n ts 0 0)
     unfolding links-from

@@ -2,31 +2,15 @@
 --   levels-next       a level and the next one that some radio has
 --   levels-takeable   the links of all levels may be taken
 --   levels-all        from each radio its own parent, and the greatest number on
-use mathlib.Core.Path.{_≡_, refl, ap, _∙_}
-use mathlib.Core.Logic.{_⊎_, inl, inr}
-use mathlib.Core.Bool.{Bool, true, false, cond}
-use mathlib.Core.List.{List, [], _∷_, _++_, flatMap}
-use Prim.Native.Nat.{ℕ, zero, suc, _+_, _*_, _-_, _≤_, _<_}
-use native.Mathlib.Omega.{arith}
-use lib.Dec.{eqb}
-use lib.ListN.{length, length-append}
-use Rattle.mesh.specs.Limits.{max-radios, max-neighbours}
-use Rattle.lists.specs.Lists.{range}
-use Rattle.mesh.specs.Graph.{Link, In-links, link-of}
-use Rattle.mesh.specs.Connected.{greatest}
-use Rattle.mesh.specs.Staircase.{filter-links, of-weight}
-use Rattle.tables.specs.Widths.{values}
-use Rattle.lists.proofs.Map.{length-map}
-use Rattle.mesh.proofs.Tables.AscendingLinks.{in-links-cases}
-use Rattle.tables.proofs.WidthLaws.{values-index}
-use Rattle.rows.specs.Rows.{neighbours-above}
-use Rattle.rows.specs.Links.{links-above, links-from, Rows-listed}
-use Rattle.forests.proofs.Keeping.{in-of-weight}
-use Rattle.forests.specs.Growing.{Growing, growing, grown-all, table-weight, levels-falling}
-use Rattle.staircase.specs.Taking.{greatest-below, Takeable}
-use Rattle.staircase.specs.Parts.{Parents, roots}
-use Rattle.staircase.proofs.PartLaws.{parents-own, roots-own}
-use Rattle.staircase.proofs.SkipLaws.{number-radio, levels-skip}
+use Rattle.lists.{specs.Kit.{_≡_, refl, ap, _∙_, _⊎_, inl, inr, Bool, true, false, cond, List, [], _∷_, _++_, flatMap, ℕ, zero, suc, _+_, _*_, _-_, _≤_, _<_}}
+use Rattle.lists.{specs.Kit.{arith, eqb, length, length-append}, specs.Lists.{range}, proofs.Map.{length-map}}
+use Rattle.mesh.{specs.Limits.{max-radios, max-neighbours}, specs.Graph.{Link, In-links, link-of}, specs.Connected.{greatest}, specs.Staircase.{filter-links}}
+use Rattle.mesh.{specs.Staircase.{of-weight}, proofs.Tables.AscendingLinks.{in-links-cases}}
+use Rattle.tables.{specs.Widths.{values}, proofs.WidthLaws.{values-index}}
+use Rattle.rows.specs.{Rows.{neighbours-above}, Links.{links-above, links-from, Rows-listed}}
+use Rattle.forests.{proofs.Keeping.{in-of-weight}, specs.Growing.{Growing, growing, grown-all, table-weight, levels-falling}}
+use Rattle.staircase.specs.{Taking.{greatest-below, Takeable}, Parts.{Parents, roots}}
+use Rattle.staircase.proofs.{PartLaws.{parents-own, roots-own}, SkipLaws.{number-radio, levels-skip}}
 
 pub levels-next : (ns : List ℕ) (ls : List Link) (w : ℕ) → 0 < w
     → levels-falling (table-weight ns) w ls ≡ of-weight (table-weight ns) w ls ++ levels-falling (table-weight ns) (greatest-below w ns) ls

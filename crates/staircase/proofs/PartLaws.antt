@@ -3,20 +3,10 @@
 --   label-..         the root of a radio, which is its label
 --   roots-shorter    a parent moved up to the parent's parent leaves every root
 --   roots-joined     the root of one part set under that of another gives all of them its label
-use mathlib.Core.Path.{_≡_, refl, sym, ap, _∙_}
-use mathlib.Core.Logic.{_⊎_, inl, inr}
-use mathlib.Core.Bool.{true, false}
-use mathlib.Core.List.{List, map, map-map}
-use Prim.Native.Nat.{ℕ, zero, suc, _≤_, _<_}
-use native.Mathlib.Omega.{arith}
-use lib.Dec.{eqb, ltb}
-use lib.ListN.{length, getD, set, length-set, List·getD-eq-default}
-use lib.Seq.{getD-set-same, getD-set-other}
-use borrow.Author.Tests.{ltb-true, ltb-false, eqb-true, eqb-false, eq-eqb, ne-eqb}
-use Rattle.lists.specs.Lists.{range}
-use Rattle.lists.proofs.Tests.{bool-cases}
-use Rattle.lists.proofs.Map.{getD-map-range, map-range-ext, map-range-id}
-use Rattle.lists.proofs.Range.{length-range, getD-range}
+use Rattle.lists.{specs.Kit.{_≡_, refl, sym, ap, _∙_, _⊎_, inl, inr, true, false, List, map, map-map, ℕ, zero, suc, _≤_, _<_, arith, eqb, ltb, length, getD}}
+use Rattle.lists.{specs.Kit.{set, length-set, List·getD-eq-default, getD-set-same, getD-set-other, ltb-true, ltb-false, eqb-true, eqb-false, eq-eqb, ne-eqb}}
+use Rattle.lists.{specs.Lists.{range}, proofs.Tests.{bool-cases}, proofs.Map.{getD-map-range, map-range-ext, map-range-id}, proofs.Range.{length-range}}
+use Rattle.lists.{proofs.Range.{getD-range}}
 use Rattle.forests.specs.Growing.{relabelled}
 use Rattle.staircase.specs.Parts.{Parents, root, roots, Rooted}
 

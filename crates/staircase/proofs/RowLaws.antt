@@ -1,46 +1,24 @@
 -- The links of a row to the radios of a set, by words.
---   bits-lowest     the lowest set bit first
 --   words-..        the links from word k on
 --   row-words       the links to radios above the row's own
 --   level-row-..    which set counts for a radio
 --   rows-..         rows in turn
-use mathlib.Core.Path.{_≡_, refl, sym, ap, _∙_}
-use mathlib.Core.Logic.{_⊎_, inl, inr}
-use mathlib.Core.Bool.{Bool, true, false, cond}
-use mathlib.Core.List.{List, [], _∷_, _++_, flatMap}
-use Prim.Native.Nat.{ℕ, zero, suc, _+_, _*_, _-_, _/_, _%_, _^_, _≤_, _<_, min}
-use native.Mathlib.Numerals.{add-one}
-use native.Mathlib.Omega.{arith}
-use lib.Bits.{bitAnd, and-step, and-shr}
-use lib.Count.{trailingZeros}
-use lib.Arith.{lt-one}
-use lib.Dec.{ltb, eqb}
-use lib.ListN.{length, getD, take, drop, drop-of-length-le}
-use lib.Pow.{pow-mono, shr-shr, shr-lt}
-use lib.Seq.{drop-cons}
-use borrow.Author.Tests.{ltb-true, ltb-false, eqb-true, eqb-false, ne-eqb}
-use Rattle.mesh.specs.Limits.{max-radios, row-bytes}
-use Rattle.lists.specs.Lists.{range, filter, In}
-use Rattle.mesh.specs.Graph.{Link, In-links, link-of}
-use Rattle.mesh.specs.Tables.{digit, marked}
-use Rattle.lists.proofs.Tests.{bool-cases, never}
-use Rattle.lists.proofs.Filter.{in-filter, filter-append}
-use Rattle.lists.proofs.Range.{range-in}
-use Rattle.lists.proofs.Map.{map-append}
-use Rattle.mesh.proofs.Tables.Digits.{digit-zero, digit-suc}
-use Rattle.rows.specs.Rows.{row-from, set-bits, word-of}
-use Rattle.rows.proofs.WordLaws.{set-bits-lowest, word-at-less}
-use Rattle.rows.proofs.RowWords.{row-from-word, row-from-end, word-of-row}
-use Rattle.rows.proofs.AboveWords.{above-words}
-use Rattle.rows.specs.Sets.{in-set}
-use Rattle.rows.specs.Links.{links-to}
-use Rattle.staircase.specs.Taking.{Takeable}
-use Rattle.staircase.specs.Rows.{row-among, level-row}
+use Rattle.lists.{specs.Kit.{_≡_, refl, sym, ap, _∙_, _⊎_, inl, inr, Bool, true, false, cond, List, [], _∷_, _++_, flatMap, ℕ, zero, suc, _+_, _*_, _-_, _/_}}
+use Rattle.lists.{specs.Kit.{_%_, _^_, _≤_, _<_, min, add-one, arith, bitAnd, and-step, and-shr, ltb, eqb, length, getD, take, drop}}
+use Rattle.lists.{specs.Kit.{drop-of-length-le, drop-cons, ltb-true, ltb-false, eqb-true, eqb-false, ne-eqb}, specs.Lists.{range, filter, In}}
+use Rattle.lists.{proofs.Tests.{bool-cases, never}, proofs.Filter.{in-filter, filter-append}, proofs.Range.{range-in}, proofs.Map.{map-append}}
+use lib.{Arith.{lt-one}, Pow.{pow-mono, shr-shr, shr-lt}}
+use Rattle.mesh.{specs.Limits.{max-radios, row-bytes}, specs.Graph.{Link, In-links, link-of}, specs.Tables.{digit, marked}, proofs.Tables.Digits.{digit-zero}}
+use Rattle.mesh.{proofs.Tables.Digits.{digit-suc}}
+use Rattle.rows.{specs.Rows.{row-from, set-bits, word-of}, proofs.WordLaws.{word-at-less}, proofs.RowWords.{row-split, row-from-end, word-of-row}}
+use Rattle.rows.{proofs.SetLaws.{member-word}, proofs.AboveWords.{above-words}, specs.Sets.{in-set}, specs.Links.{links-to}}
+use Rattle.staircase.specs.{Taking.{Takeable}, Rows.{row-among, level-row}}
 
 -- ---- set bits of two words
 
 -- a test that tells the digits of y, where the word x has its bits, leaves the bits that both have
-filter-bits : (d i x y : ℕ) (f : ℕ → Bool) → ((m : ℕ) → m < d → digit x m ≡ true → f (i + m) ≡ digit y m) → filter f (set-bits d i x) ≡ set-bits d i (bitAnd x y)
+filter-bits : (d i x y : ℕ) (f : ℕ → Bool) → ((m : ℕ) → m < d → digit x m ≡ true → f (i + m) ≡ digit y m) → filter f (set-bits d i x) ≡ set-bits d i
+    (bitAnd x y)
 unfolding set-bits filter
 filter-bits zero i x y f h = refl
 filter-bits (suc d) i x y f h =
@@ -67,12 +45,6 @@ filter-bits (suc d) i x y f h =
         let no : eqb (bitAnd x y % 2) 1 ≡ false = ne-eqb (bitAnd x y % 2) 1 (λ z. omega (arith, first, even)) in
         rw (e, no, half, rec)
 
--- ---- the lowest set bit first
-
-pub bits-lowest : (a first rest : ℕ) → (rest ≡ 0 → ⊥) → rest < 2 ^ 64
-    → links-to a (set-bits 64 first rest) ≡ (link-of a (first + trailingZeros 64 rest) ∷ []) ++ links-to a (set-bits 64 first (bitAnd rest (rest - 1)))
-bits-lowest a first rest some low = let pos : 0 < rest = omega arith in ap (links-to a) (set-bits-lowest 64 first rest pos low)
-
 -- ---- the links of a radio
 
 in-links-to : (a x : ℕ) (xs : List ℕ) → In x xs → In-links (link-of a x) (links-to a xs)
@@ -84,12 +56,6 @@ no-links a [] h = refl
 no-links a (x ∷ xs) h = absurd (h x (inl refl))
 
 -- ---- the words of a row
-
-set-word : (s : List ℕ) (k m : ℕ) → m < 64 → in-set s (64 * k + m) ≡ digit (getD s k 0) m
-unfolding in-set
-set-word s k m h =
-    let q : (64 * k + m) / 64 ≡ k = omega arith in
-    let r : (64 * k + m) % 64 ≡ m = omega arith in rw (q, r)
 
 -- a word shifted past the bit of a
 digit-above : (z a m : ℕ) → digit (z / 2 ^ (a % 64) / 2 ^ 1) m ≡ digit z (a % 64 + 1 + m)
@@ -110,9 +76,10 @@ module _ (ts : List ℕ) (bytes : (j : ℕ) → getD ts j 0 < 256) (s : List ℕ
       ≡ links-to a (set-bits 64 (64 * k) (bitAnd w (getD s k 0))) ++ links-to a (filter (in-set s) (row-from ts a (k + 1)))
   words-among k w m h whole long read =
       let e = read ∙ word-of-row ts a k m long whole h in
-      ap (links-to a) (ap (filter (in-set s)) (row-from-word ts bytes a k h ∙ ap (λ (x : ℕ). set-bits 64 (64 * k) x ++ row-from ts a (k + 1)) (sym e))
+      ap (links-to a) (ap (filter (in-set s)) (row-split ts bytes a k w h e)
       ∙ filter-append (in-set s) (set-bits 64 (64 * k) w) (row-from ts a (k + 1))
-      ∙ ap (λ (xs : List ℕ). xs ++ filter (in-set s) (row-from ts a (k + 1))) (filter-bits 64 (64 * k) w (getD s k 0) (in-set s) (λ m l d. set-word s k m l)))
+      ∙ ap (λ (xs : List ℕ). xs ++ filter (in-set s) (row-from ts a (k + 1)))
+      (filter-bits 64 (64 * k) w (getD s k 0) (in-set s) (λ m l d. member-word s k m l)))
       ∙ map-append (link-of a) (set-bits 64 (64 * k) (bitAnd w (getD s k 0))) (filter (in-set s) (row-from ts a (k + 1)))
 
   words-none : (k : ℕ) → 8 ≤ k → links-to a (filter (in-set s) (row-from ts a k)) ≡ []
@@ -129,7 +96,12 @@ module _ (ts : List ℕ) (bytes : (j : ℕ) → getD ts j 0 < 256) (s : List ℕ
       past l x i =
           let row = in-filter (in-set s) (row-from ts a k) x i .0 in
           let place = in-filter (λ b. marked ts a b) (range (64 * k) (max-radios - 64 * k)) x row .0 in
-          omega (arith, range-in (64 * k) (max-radios - 64 * k) x place .0, t .inside (link-of a x) (in-links-to a x (filter (in-set s) (row-from ts a k)) i) .1)
+          omega (
+            arith,
+            range-in (64 * k) (max-radios - 64 * k) x place .0,
+            t .inside (link-of a x)
+                (in-links-to a x (filter (in-set s) (row-from ts a k)) i) .1,
+          )
 
       go : (ltb k 8 ≡ true) ⊎ (ltb k 8 ≡ false) → links-to a (filter (in-set s) (row-from ts a k)) ≡ []
       go (inl e) = let l = ltb-true k 8 e in no-links a (filter (in-set s) (row-from ts a k)) (past (omega arith))
@@ -164,7 +136,7 @@ module _ (ts : List ℕ) (bytes : (j : ℕ) → getD ts j 0 < 256) (s : List ℕ
       above i (inl q) d =
           let l = ltb-true (a % 64 + 1 + i) 64 q in
           let here : a + 1 + i ≡ 64 * (a / 64) + (a % 64 + 1 + i) = omega arith in
-          ap (in-set s) here ∙ set-word s (a / 64) (a % 64 + 1 + i) l ∙ sym (digit-above (getD s (a / 64) 0) a i)
+          ap (in-set s) here ∙ member-word s (a / 64) (a % 64 + 1 + i) l ∙ sym (digit-above (getD s (a / 64) 0) a i)
       above i (inr q) d =
           let l = ltb-false (a % 64 + 1 + i) 64 q in
           never (digit (w / 2 ^ (a % 64) / 2 ^ 1) i) d (digit-above w a i ∙ digit-past w (a % 64 + 1 + i) less l)

@@ -1,23 +1,11 @@
 -- Levels that no radio has are skipped: no link has such a weight.
 --   greatest-below-..   the greatest number below a level
 --   levels-skip         from the level below w on, and from that greatest number on, the same links are taken
-use mathlib.Core.Path.{_≡_, sym, ap, _∙_}
-use mathlib.Core.Logic.{_⊎_, inl, inr}
-use mathlib.Core.Bool.{true, false}
-use mathlib.Core.List.{List, [], _∷_}
-use Prim.Native.Nat.{ℕ, zero, suc, _+_, _-_, _≤_, _<_, max}
-use native.Mathlib.Omega.{arith}
-use lib.Dec.{ltb, eqb}
-use native.Mathlib.Numerals.{add-one}
-use lib.ListN.{length, getD, drop, drop-of-length-le, List·getD-eq-default}
-use lib.Seq.{drop-cons}
-use borrow.Author.Tests.{ltb-true, ltb-false, lt-ltb, le-ltb, ne-eqb}
-use Rattle.mesh.specs.Graph.{Link}
-use Rattle.mesh.specs.Connected.{greatest}
-use Rattle.lists.proofs.Tests.{bool-cases}
-use Rattle.mesh.proofs.Trees.Listed.{greatest-map-le}
-use Rattle.forests.proofs.Forests.{filter-links-none}
-use Rattle.forests.specs.Growing.{table-weight, levels-falling}
+use Rattle.lists.{specs.Kit.{_≡_, sym, ap, _∙_, _⊎_, inl, inr, true, false, List, [], _∷_, ℕ, zero, suc, _+_, _-_, _≤_, _<_, max, arith, ltb, eqb, add-one}}
+use Rattle.lists.{specs.Kit.{length, getD, drop, drop-of-length-le, List·getD-eq-default, drop-cons, ltb-true, ltb-false, lt-ltb, le-ltb, ne-eqb}}
+use Rattle.lists.{proofs.Tests.{bool-cases}}
+use Rattle.mesh.{specs.Graph.{Link}, specs.Connected.{greatest}, proofs.Trees.Listed.{greatest-map-le}}
+use Rattle.forests.{proofs.Forests.{filter-links-none}, specs.Growing.{table-weight, levels-falling}}
 use Rattle.staircase.specs.Taking.{below, greatest-below}
 
 -- ---- numbers

@@ -2,21 +2,11 @@
 --   grown-..        what taking links does to lengths and to the count
 --   taken-..        one link
 --   Taking          the links `rest` are left of `whole`
-use mathlib.Core.Path.{_≡_, refl, sym, ap, _∙_}
-use mathlib.Core.Logic.{_⊎_, inl, inr}
-use mathlib.Core.Bool.{Bool, true, false, cond}
-use mathlib.Core.List.{List, [], _∷_, _++_, map}
-use Prim.Native.Nat.{ℕ, _+_, _*_, _≤_, _<_, min, max}
-use native.Mathlib.Omega.{arith}
-use lib.Dec.{eqb}
-use lib.ListN.{length, getD, set, length-append}
-use borrow.Author.Tests.{eq-eqb, ne-eqb}
-use Rattle.mesh.specs.Graph.{Link, link-of}
-use Rattle.lists.proofs.Tests.{trichotomy}
-use Rattle.mesh.proofs.Tables.AscendingLinks.{in-links-left, in-links-right}
+use Rattle.lists.{specs.Kit.{_≡_, refl, sym, ap, _∙_, _⊎_, inl, inr, Bool, true, false, cond, List, [], _∷_, _++_, map, ℕ, _+_, _*_, _≤_, _<_, min, max, arith}}
+use Rattle.lists.{specs.Kit.{eqb, length, getD, set, length-append, eq-eqb, ne-eqb}, proofs.Tests.{trichotomy}}
+use Rattle.mesh.{specs.Graph.{Link, link-of}, proofs.Tables.AscendingLinks.{in-links-left, in-links-right}}
 use Rattle.forests.specs.Growing.{Growing, growing, relabelled, joined-up, grown-one, grown-all}
-use Rattle.staircase.specs.Taking.{Takeable}
-use Rattle.staircase.specs.Parts.{Parents, roots, Rooted, Taken}
+use Rattle.staircase.specs.{Taking.{Takeable}, Parts.{Parents, roots, Rooted, Taken}}
 use Rattle.staircase.proofs.PartLaws.{label-le, label-settled, label-parent, parents-set, roots-joined}
 
 -- ---- what grows
@@ -56,7 +46,11 @@ module _ (a b : ℕ) (ps old : List ℕ) (c : ℕ) where
   -- its ends are of one part; ways may have become shorter
   taken-joined : (qs : List ℕ) → Parents qs → roots qs ≡ roots ps → getD (roots ps) a 0 ≡ getD (roots ps) b 0 → Taken (l ∷ []) ps old c qs old c
   unfolding grown-all grown-one
-  taken-joined qs up e same = record { parents = up; is = ap (λ (xs : List ℕ). growing xs old c) e ∙ rw (eq-eqb (getD (roots ps) a 0) (getD (roots ps) b 0) same) }
+  taken-joined qs up e same = record {
+    parents = up;
+    is = ap (λ (xs : List ℕ). growing xs old c) e ∙ rw
+        (eq-eqb (getD (roots ps) a 0) (getD (roots ps) b 0) same);
+  }
 
   -- they have one parent
   pub taken-near : Parents ps → a < length ps → b < length ps → getD ps a 0 ≡ getD ps b 0 → Taken (l ∷ []) ps old c ps old c
@@ -96,7 +90,8 @@ module _ (a b : ℕ) (ps old : List ℕ) (c : ℕ) where
           record {
             parents = parents-set vs (two .parents) hi lo top (omega arith);
             is =
-                ap (λ (xs : List ℕ). growing xs new (c + 1)) (roots-joined vs (two .parents) lo hi less top (own .0) (own .1) ∙ ap (map (relabelled lo hi)) same-roots)
+                ap (λ (xs : List ℕ). growing xs new (c + 1))
+                (roots-joined vs (two .parents) lo hi less top (own .0) (own .1) ∙ ap (map (relabelled lo hi)) same-roots)
                 ∙ rw (ne-eqb (getD (roots ps) a 0) (getD (roots ps) b 0) differ, en, ef, el, eh, one .found, other-root);
           }
         where

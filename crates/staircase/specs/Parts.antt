@@ -5,11 +5,7 @@
 --   Rooted           the root of v was searched, and ways to roots may be shorter
 --   Taken ls         the links ls were taken in turn
 -- Definitions only.
-use mathlib.Core.Path.{_≡_}
-use mathlib.Core.List.{List, map}
-use Prim.Native.Nat.{ℕ, zero, suc, _≤_}
-use lib.ListN.{length, getD}
-use Rattle.lists.specs.Lists.{range}
+use Rattle.lists.specs.{Kit.{_≡_, List, map, ℕ, zero, suc, _≤_, length, getD}, Lists.{range}}
 use Rattle.mesh.specs.Graph.{Link}
 use Rattle.forests.specs.Growing.{growing, grown-all}
 

@@ -7,19 +7,9 @@
 --   Level-rows             the rows of a level listed
 --   Mutual n ts            n rows that are whole and mark each other
 -- Definitions only.
-use mathlib.Core.Path.{_≡_}
-use mathlib.Core.Bool.{Bool, true, _&&_, cond}
-use mathlib.Core.List.{List}
-use Prim.Native.Nat.{ℕ, _+_, _*_, _≤_, _<_}
-use lib.Dec.{ltb, eqb}
-use lib.ListN.{length, getD, take}
-use Rattle.mesh.specs.Limits.{max-radios, row-bytes}
-use Rattle.lists.specs.Lists.{range, filter, member}
-use Rattle.mesh.specs.Graph.{Link}
-use Rattle.mesh.specs.Tables.{marked}
-use Rattle.rows.specs.Rows.{row-listed, neighbours-above}
-use Rattle.rows.specs.Sets.{in-set}
-use Rattle.rows.specs.Links.{links-to}
+use Rattle.lists.specs.{Kit.{_≡_, Bool, true, _&&_, cond, List, ℕ, _+_, _*_, _≤_, _<_, ltb, eqb, length, getD, take}, Lists.{range, filter, member}}
+use Rattle.mesh.specs.{Limits.{max-radios, row-bytes}, Graph.{Link}, Tables.{marked}}
+use Rattle.rows.specs.{Rows.{row-listed, neighbours-above}, Sets.{in-set}, Links.{links-to}}
 use Rattle.floods.specs.Floods.{of-level}
 
 unfoldable pub row-among : (links set : List ℕ) → (a : ℕ) → List Link

@@ -4,14 +4,8 @@
 --   Takeable             what taking links wants of them and of the count
 -- What grows is forests/specs/Growing.antt; that on sound tables it is the staircase tree is `staircase-table` in proofs/LevelLaws.antt.
 -- Definitions only.
-use mathlib.Core.Bool.{cond}
-use mathlib.Core.List.{List, map}
-use Prim.Native.Nat.{ℕ, _+_, _*_, _≤_, _<_}
-use lib.Dec.{ltb}
-use lib.ListN.{length}
-use Rattle.mesh.specs.Limits.{max-radios}
-use Rattle.mesh.specs.Graph.{Link, In-links}
-use Rattle.mesh.specs.Connected.{greatest}
+use Rattle.lists.specs.Kit.{cond, List, map, ℕ, _+_, _*_, _≤_, _<_, ltb, length}
+use Rattle.mesh.specs.{Limits.{max-radios}, Graph.{Link, In-links}, Connected.{greatest}}
 
 -- x where it is below w, else 0
 unfoldable pub below : (w x : ℕ) → ℕ

@@ -1,10 +1,7 @@
 // The staircase tree: links are taken by weight falling, then lower radio, then higher radio, and one is kept when the kept ones do
 // not yet join its ends. Level by level, by words: only the rows that have a link of the level are gone over, and of these only the
 // links of the level. Parents tell which radios are joined.
-ghost use mathlib.Core.Path.{_≡_};
-ghost use mathlib.Core.List.{[], _∷_, flatMap};
-ghost use Prim.Native.Nat.{_+_, _*_, _≤_, _<_};
-ghost use lib.ListN.{length};
+ghost use Rattle.lists.specs.Kit.{_≡_, [], _∷_, flatMap, _+_, _*_, _≤_, _<_, length};
 ghost use Rattle.lists.specs.Lists.{range, filter, Entries-below};
 ghost use Rattle.mesh.specs.Limits.{max-radios, max-neighbours, row-bytes};
 ghost use Rattle.mesh.specs.Graph.{link-of};

@@ -1,18 +1,13 @@
 -- The node of the shell tree as a row.
-use mathlib.Core.Path.{_≡_, refl}
-use mathlib.Core.List.{List, [], _∷_}
-use Prim.Native.Nat.{ℕ, _<_, _^_}
+use Rattle.lists.specs.Kit.{_≡_, refl, [], _∷_}
 use base.Logic.{via}
 use contract.Monad.{fact, fact-mono}
-use denote.Struct.Laws.{makes, owes, owed}
-use denote.Laws.{Is, shows}
-use mir.Val.{Val}
+use denote.{Struct.Laws.{makes, owes, owed}, Laws.{Is, shows}}
+use Rattle.machine.proofs.{Whole.{𝓥}, Rows.{Row, A₀}}
+use Rattle.hosts.specs.Public.{nodes}
 use ghost.Model as Closed
-use Rattle.machine.proofs.Whole.{𝓥}
-use Rattle.machine.proofs.Rows.{Row, A₀}
 use Rattle.mesh.proofs.Node as node
 use Rattle.mesh.proofs.Node.Laws as node-laws
-use Rattle.hosts.specs.Public.{nodes}
 
 abbrev pub node-row : Row
 node-row = record {

@@ -3,42 +3,27 @@
 --   length-tree      a tree has at most n + 1 nodes
 --   lent-count       the count fits the list and the tables
 --   lent-tree        Tables-contract of blank tables, and then Tree-contract
-use mathlib.Core.Path.{_≡_, refl, sym, ap, ap₂, subst, _∙_}
-use mathlib.Core.Logic.{_⊎_, inl, inr}
-use mathlib.Core.Bool.{Bool, true, false, _&&_}
-use mathlib.Core.List.{List, [], _∷_, _++_, map}
-use Prim.Native.Nat.{ℕ, zero, suc, _+_, _≤_, _<_, min}
-use native.Mathlib.Omega.{arith}
-use lib.Dec.{leb}
-use lib.ListN.{length, getD, take, drop, replicate, length-replicate, List·getD-append, List·getD-map}
-use lib.Seq.{take-suc, take-length}
-use borrow.Author.Tests.{leb-true, leb-false, le-leb, lt-leb}
-use Rattle.mesh.specs.Limits.{max-radios}
-use Rattle.lists.specs.Lists.{overwrite}
-use Rattle.mesh.specs.Graph.{Graph}
-use Rattle.mesh.specs.Tables.{Tables, graph-in}
-use Rattle.mesh.specs.Sound.{sound}
-use Rattle.mesh.specs.Tree.{node, tree, node-names}
-use Rattle.mesh.specs.declared.Node.{Node}
-use Rattle.lists.proofs.Tests.{bool-cases, and-left}
-use Rattle.mesh.proofs.Trees.Laws.{number-le-n}
-use Rattle.calls.specs.Questions.{ask, Lengths, lengths-of, size-good, site-lengths, nodes-length, answer-length, lent-refusal, site-refusal, tree-refusal}
-use Rattle.calls.specs.Outcomes.{by-number, value, Treed, treed, tree-outcome}
-use Rattle.calls.specs.Contracts.{Tree-contract}
-use Rattle.calls.specs.declared.Value.{Value}
-use Rattle.calls.proofs.QuestionLaws.{ask-later, size-good-true, nodes-length-true}
-use Rattle.calls.proofs.ChainLaws.{site-zero}
+use Rattle.lists.{specs.Kit.{_≡_, refl, sym, ap, ap₂, subst, _∙_, _⊎_, inl, inr, Bool, true, false, _&&_, List, [], _∷_, _++_, map, ℕ, zero, suc, _+_, _≤_}}
+use Rattle.lists.{specs.Kit.{_<_, min, arith, leb, length, getD, take, drop, replicate, length-replicate, List·getD-append, List·getD-map, take-suc}}
+use Rattle.lists.{specs.Kit.{take-length, leb-true, leb-false, le-leb, lt-leb}, specs.Lists.{overwrite}, proofs.Tests.{bool-cases, and-left}}
+use Rattle.lists.{proofs.Map.{length-map}}
+use Rattle.mesh.{specs.Limits.{max-radios}, specs.Graph.{Graph}, specs.Tables.{Tables, graph-in}, specs.Sound.{sound}, specs.Tree.{node, tree, node-names}}
+use Rattle.mesh.{specs.declared.Node.{Node}, proofs.Trees.Laws.{number-le-n}}
+use Rattle.calls.{specs.Questions.{ask, Lengths, lengths-of, size-good, site-lengths, answer-length, lent-refusal, site-refusal}}
+use Rattle.calls.{specs.Outcomes.{value, Listing, listing, tree-outcome}, specs.Contracts.{Tree-contract}, specs.declared.Value.{Value}}
+use Rattle.calls.{proofs.QuestionLaws.{ask-later, size-good-true, nodes-length-true}, proofs.ChainLaws.{site-zero}}
 use Rattle.summerbugle.specs.Nodes.{nodes-in}
-use Rattle.tree.specs.Trees.{Lists, lists, with-front, places, Filled, filled, tables-outcome, Tables-contract}
-use Rattle.lists.proofs.Map.{length-map}
-use Rattle.tree.proofs.NodeLists.{nodes-before-tree, length-nodes-before}
+use Rattle.tree.{specs.Trees.{Lists, lists, with-front, places, Filled, filled, tables-outcome, Tables-contract}, proofs.NodeLists.{nodes-before-tree}}
+use Rattle.tree.{proofs.NodeLists.{length-nodes-before}}
+use Rattle.calls.specs.{Chains.{tree-refusal, nodes-length}, Questions.{by-number}}
 
 -- ---- nodes in front of three tables
 
 abbrev nowhere : Node
 nowhere = node 0 0 0
 
-getD-front-map : (f : Node → ℕ) (xs : List Node) (d : List ℕ) (i : ℕ) → f nowhere ≡ 0 → i < length xs → getD (overwrite (map f xs) d) i 0 ≡ f (getD xs i nowhere)
+getD-front-map : (f : Node → ℕ) (xs : List Node) (d : List ℕ) (i : ℕ) → f nowhere ≡ 0 → i < length xs → getD (overwrite (map f xs) d) i 0 ≡ f
+    (getD xs i nowhere)
 unfolding overwrite
 getD-front-map f xs d i e l =
     List·getD-append (map f xs) (drop (length (map f xs)) d) 0 i (omega (arith, length-map f xs))
@@ -49,7 +34,8 @@ node-same x {i} {j} {k} p q r = ap (λ (a : ℕ). node a j k) p ∙ ap (λ (a : 
 
 module _ (xs : List Node) (a b c : List ℕ) where
   abbrev front-nodes : (k : ℕ) → List Node
-  front-nodes k = nodes-in (overwrite (map (λ (x : Node). x .name) xs) a) (overwrite (map (λ (x : Node). x .level) xs) b) (overwrite (map (λ (x : Node). x .parent) xs) c) k
+  front-nodes k = nodes-in (overwrite (map (λ (x : Node). x .name) xs) a) (overwrite (map (λ (x : Node). x .level) xs) b)
+      (overwrite (map (λ (x : Node). x .parent) xs) c) k
 
   front-nodes-take : (k : ℕ) → k ≤ length xs → front-nodes k ≡ take k xs
   unfolding nodes-in
@@ -71,7 +57,6 @@ length-tree g = omega (arith, ap length (nodes-before-tree g (g .n) (omega arith
 -- ---- the questions: tables of k places are long enough for any site
 
 nodes-length-min : (n m k : ℕ) → n + 1 ≤ k → nodes-length n (min m k) ≡ nodes-length n m
-unfolding nodes-length
 nodes-length-min n m k h = by (bool-cases (leb (n + 1) m))
   where
     by : (leb (n + 1) m ≡ true) ⊎ (leb (n + 1) m ≡ false) → leb (n + 1) (min m k) ≡ leb (n + 1) m
@@ -79,7 +64,7 @@ nodes-length-min n m k h = by (bool-cases (leb (n + 1) m))
     by (inr e) = lt-leb (n + 1) (min m k) (omega (arith, leb-false (n + 1) m e)) ∙ sym e
 
 tree-refusal-min : (n m w k : ℕ) (l : Lengths) (s : Bool) → max-radios + 1 ≤ k → tree-refusal n l (min m k) w s ≡ tree-refusal n l m w s
-unfolding tree-refusal site-refusal lent-refusal
+unfolding site-refusal lent-refusal
 tree-refusal-min n m w k l s h =
     ask-later 1 (size-good n) _ _ (λ p. ap (λ (b : Bool). ask 2 (site-lengths n l && (b && answer-length n w)) (ask 3 s 0))
     (nodes-length-min n m k (omega (arith, size-good-true n p .1))))
@@ -106,7 +91,7 @@ module _ (n k : ℕ) (enough : max-radios + 1 ≤ k) (t : Tables) (ys : List Nod
 
   -- the nodes fit where the call is accepted
   tree-fits : refusal ≡ 0 → (length (tree g) ≤ length ys) × (length (tree g) ≤ k)
-  unfolding tree-refusal graph-in
+  unfolding graph-in
   tree-fits e =
       let good = site-zero n (lengths-of t) (nodes-length n (length ys) && answer-length n (length w)) (sound n t) 0 e .0 in
       let long = nodes-length-true n (length ys) (and-left (nodes-length n (length ys)) (answer-length n (length w)) (good .lent .further)) in
@@ -121,15 +106,15 @@ module _ (n k : ℕ) (enough : max-radios + 1 ≤ k) (t : Tables) (ys : List Nod
   count-fits (suc q) e = rw (refusal-same ∙ e) (omega arith, omega arith)
 
   -- what the lent list is filled with
-  abbrev pub lent-from : Filled → Treed
+  abbrev pub lent-from : Filled → Listing Value (List Node × List ℕ)
   lent-from o =
-      treed (o .reply) (overwrite (nodes-in (o .lists .names) (o .lists .levels) (o .lists .parents) (o .reply .value)) ys) (o .lists .answer)
+      listing (o .reply) (overwrite (nodes-in (o .lists .names) (o .lists .levels) (o .lists .parents) (o .reply .value)) ys, o .lists .answer)
 
   same-tree : (R : ℕ) → refusal ≡ R → lent-from of-tables ≡ tree-outcome n t ys w
   unfolding tables-outcome tree-outcome by-number sound with-front nodes-in overwrite
   same-tree zero e =
       rw (refusal-same ∙ e, e)
-      (ap (λ (xs : List Node). treed (value 0 (length (tree g))) (overwrite xs ys) (overwrite (node-names g) w))
+      (ap (λ (xs : List Node). listing (value 0 (length (tree g))) (overwrite xs ys, overwrite (node-names g) w))
       (nodes-overwritten (tree g) (replicate k 0) (replicate k 0) (replicate k 0)))
   same-tree (suc q) e = rw (refusal-same ∙ e, e)
 
@@ -138,6 +123,6 @@ module _ (n k : ℕ) (enough : max-radios + 1 ≤ k) (t : Tables) (ys : List Nod
     unfolding Tables-contract
     lent-count = subst (λ (o : Filled). (o .reply .value ≤ length ys) × (o .reply .value ≤ k)) (sym h) (count-fits refusal refl)
 
-    pub lent-tree : let o = lent-from (filled r u) in Tree-contract n t ys w (o .reply) (o .nodes) (o .answer)
+    pub lent-tree : let o = lent-from (filled r u) in Tree-contract n t ys w (o .reply) (o .lent .0) (o .lent .1)
     unfolding Tables-contract Tree-contract
     lent-tree = ap lent-from h ∙ same-tree refusal refl

@@ -1,14 +1,8 @@
 -- The lent list of nodes, filled place by place.
-use mathlib.Core.Path.{_≡_, refl, sym, ap, _∙_}
-use mathlib.Core.List.{List}
-use Prim.Native.Nat.{ℕ, zero, suc, _+_, _≤_, _<_}
-use native.Mathlib.Omega.{arith}
-use native.Mathlib.Numerals.{add-one}
-use lib.ListN.{length, set, length-append, length-drop}
-use Rattle.lists.specs.Lists.{overwrite}
+use Rattle.lists.{specs.Kit.{_≡_, refl, sym, ap, _∙_, List, ℕ, zero, suc, _+_, _≤_, _<_, arith, add-one, length, set, length-append, length-drop}}
+use Rattle.lists.{specs.Lists.{overwrite}, proofs.Overwrite.{set-overwrite}}
 use Rattle.mesh.specs.declared.Node.{Node}
 use Rattle.summerbugle.specs.Nodes.{node-in, nodes-in}
-use Rattle.lists.proofs.Overwrite.{set-overwrite}
 
 module _ (a b c : List ℕ) where
   pub length-nodes-in : (k : ℕ) → length (nodes-in a b c k) ≡ k

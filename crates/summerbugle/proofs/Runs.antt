@@ -1,33 +1,26 @@
 -- The public calls run, in cells: `runs`, of each the routine that its code is, from the triple that is proved of it.
 --   routines    the routines of the public calls
 --   runs        each runs as crate hosts says of it
-use mathlib.Core.Path.{_≡_, ap}
-use mathlib.Core.Bool.{Bool, true, false}
-use mathlib.Core.List.{List, [], _∷_}
-use Prim.Native.Nat.{ℕ}
+use Rattle.lists.specs.Kit.{_≡_, ap, Bool, true, false, List, [], _∷_, ℕ}
 use mir.Syntax.{w8, w16, w32, w64}
-use contract.Running.{Running, real}
-use contract.BorrowModel.{ghost₀}
+use contract.{Running.{Running, real}, BorrowModel.{ghost₀}}
 use prog.Routine.{Routine}
+use Rattle.machine.{specs.Cells.{entries, Runs}, proofs.Whole.{𝓥}, proofs.Rows.{Row}, proofs.Lending.{Lending, by-value, to-read, to-write}}
+use Rattle.machine.{proofs.Law.{Answer, Promised, in-cells}, proofs.Numbers.{number-row, signed-row, number-answer, declared-answer}}
+use Rattle.mesh.specs.{Tables.{Tables, tables}, declared.Node.{Node}}
+use Rattle.calls.specs.{declared.Later.{Later}, declared.Pair.{Pair}, declared.Block.{Block}, Contracts.{Clear-contract, Read-contract, Return-contract}}
+use Rattle.calls.specs.{Contracts.{Link-contract, Ask-contract, Commit-contract, Batch-contract, Hear-contract, Check-contract, Number-contract}}
+use Rattle.calls.specs.{Contracts.{Neighbours-contract, Linked-contract, First-contract, Later-contract, Lift-contract, Core-contract, Backbone-contract}}
+use Rattle.calls.specs.{Contracts.{Staircase-contract, Write-contract, Sheet-contract, Script-length-contract, Script-contract, Tree-contract, Set-contract}}
+use Rattle.calls.specs.{Contracts.{Remove-contract, Block-contract}, Outcomes.{Listing}, declared.Value.{Value}}
+use Rattle.hosts.specs.{Public.{Public, of-book, this-version, call, the-tables, with-tables, with-both, with-list}, Public.Known.{clear, image-read, link}}
+use Rattle.hosts.specs.{Public.Known.{commit, link-batch, hear}}
+use Rattle.hosts.specs.{Public.Known.{mark-set, mark-remove, mark-return}, Public.Public.{ask, check, number, neighbours, linked, first, later-of, lift, core}}
+use Rattle.hosts.specs.{Public.Public.{backbone, tree, staircase, image-write, sheet, script-length, script-write, image-block, reader-open, reader-step}}
+use Rattle.hosts.specs.{Public.Public.{reader-moved, version}}
+use Rattle.block_reader.proofs.Runs.{open-runs, step-runs, moved-runs}
+use Rattle.summerbugle.proofs.NodeRow.{node-row}
 use ghost.Model as Closed
-use Rattle.machine.specs.Cells.{Inputs, Outputs, Lent, entries, Runs}
-use Rattle.machine.proofs.Whole.{𝓥}
-use Rattle.machine.proofs.Rows.{Row}
-use Rattle.machine.proofs.Lending.{Lending, by-value, to-read, to-write, params}
-use Rattle.machine.proofs.Law.{Answer, Promised, in-cells}
-use Rattle.machine.proofs.Numbers.{number-row, signed-row, number-answer, declared-answer}
-use Rattle.mesh.specs.Tables.{Tables, tables}
-use Rattle.calls.specs.Outcomes.{Numbered, Linked, Asked, Committed, Batched, Heard, Listing, Treed}
-use Rattle.calls.specs.MarkOutcomes.{Stored}
-use Rattle.calls.specs.declared.Value.{Value}
-use Rattle.calls.specs.declared.Later.{Later}
-use Rattle.calls.specs.declared.Pair.{Pair}
-use Rattle.calls.specs.declared.Block.{Block}
-use Rattle.calls.specs.Contracts.{Clear-contract, Read-contract, Return-contract, Link-contract, Ask-contract, Commit-contract, Batch-contract, Hear-contract}
-use Rattle.calls.specs.Contracts.{Check-contract, Number-contract, Neighbours-contract, Linked-contract, First-contract, Later-contract, Lift-contract}
-use Rattle.calls.specs.Contracts.{Core-contract, Backbone-contract, Staircase-contract, Write-contract, Sheet-contract, Script-length-contract}
-use Rattle.calls.specs.Contracts.{Script-contract}
-use Rattle.calls.specs.Contracts.{Tree-contract, Set-contract, Remove-contract, Block-contract}
 use Rattle.calls.proofs.Reply as reply
 use Rattle.calls.proofs.Reply.Laws as reply-laws
 use Rattle.calls.proofs.Value as value
@@ -98,15 +91,9 @@ use Rattle.summerbugle.proofs.sb_version.Symbol as version-symbol
 use Rattle.summerbugle.proofs.sb_version.Met as version-proof
 use Rattle.summerbugle.proofs.sb_image_block.Symbol as image-block-symbol
 use Rattle.summerbugle.proofs.sb_image_block.Met as image-block-proof
-use Rattle.hosts.specs.Public.{Public, of-book, this-version, call, the-tables, tables-then}
-use Rattle.hosts.specs.Public.Known.{clear, image-read, link, commit, link-batch, hear, mark-set, mark-remove, mark-return}
-use Rattle.hosts.specs.Public.Public.{ask, check, number, neighbours, linked, first, later-of, lift, core, backbone, tree, staircase}
-use Rattle.hosts.specs.Public.Public.{image-write, sheet, script-length, script-write, image-block, reader-open, reader-step, reader-moved, version}
 use Rattle.block_reader.proofs.blocks.open.Symbol as open-symbol
 use Rattle.block_reader.proofs.blocks.step.Symbol as step-symbol
 use Rattle.block_reader.proofs.blocks.moved.Symbol as moved-symbol
-use Rattle.block_reader.proofs.Runs.{open-runs, step-runs, moved-runs}
-use Rattle.summerbugle.proofs.NodeRow.{node-row}
 
 abbrev pub routines : Public → Routine
 routines (of-book clear) = clear-symbol.routine
@@ -187,7 +174,7 @@ unfolding Clear-contract
 clear-runs =
     in-cells 3 (n32 ∷ to-write 0 tt u8 ∷ to-write 1 tt u8 ∷ to-write 2 tt u16 ∷ []) a-number _
     (λ i r o. Clear-contract (i .0) (the-tables (i .1 .0) (i .1 .1 .0) (i .1 .1 .1 .0)) r (left o)) _
-    (λ i r o e. ap (λ (y : Numbered). (y .reply, tables-then (y .tables) tt)) e)
+    (λ i r o e. ap with-tables e)
     (clear-proof.met 𝓥 Closed.H Closed.model ghost₀ 𝓡)
 
 image-read-runs : Runs (routines (of-book image-read)) (call (of-book image-read))
@@ -195,7 +182,7 @@ unfolding Read-contract
 image-read-runs =
     in-cells 4 (n32 ∷ to-write 0 tt u8 ∷ to-write 1 tt u8 ∷ to-write 2 tt u16 ∷ to-read 3 tt u8 ∷ []) a-number _
     (λ i r o. Read-contract (i .0) (entries (i .1 .1 .1 .1 .0)) (the-tables (i .1 .0) (i .1 .1 .0) (i .1 .1 .1 .0)) r (left o)) _
-    (λ i r o e. ap (λ (y : Numbered). (y .reply, tables-then (y .tables) tt)) e)
+    (λ i r o e. ap with-tables e)
     (image-read-proof.met 𝓥 Closed.H Closed.model ghost₀ 𝓡)
 
 abbrev link-runs-params : List (Lending 4)
@@ -206,7 +193,7 @@ link-runs : (up : Bool) (ρ : Routine) →
     (the-tables (i .1 .1 .1 .0) (i .1 .1 .1 .1 .0) (i .1 .1 .1 .1 .1 .0)) (entries (i .1 .1 .1 .1 .1 .1 .0)) r (left o) (o .1 .1 .1 .0)) →
     Runs ρ (call (of-book (link up)))
 unfolding Link-contract
-link-runs up ρ met = in-cells 4 link-runs-params a-reply ρ _ _ (λ i r o e. ap (λ (y : Linked). (y .reply, tables-then (y .tables) (y .answer, tt))) e) met
+link-runs up ρ met = in-cells 4 link-runs-params a-reply ρ _ _ (λ i r o e. ap with-both e) met
 
 abbrev commit-runs-params : List (Lending 4)
 commit-runs-params = n32 ∷ n32 ∷ n32 ∷ by-value (signed-row w8) ∷ to-write 0 tt u8 ∷ to-write 1 tt u8 ∷ to-write 2 tt u16 ∷ to-read 3 tt u16 ∷ []
@@ -216,14 +203,14 @@ commit-runs : (up : Bool) (ρ : Routine) →
     (the-tables (i .1 .1 .1 .1 .0) (i .1 .1 .1 .1 .1 .0) (i .1 .1 .1 .1 .1 .1 .0)) r (left o)) →
     Runs ρ (call (of-book (commit up)))
 unfolding Commit-contract
-commit-runs up ρ met = in-cells 4 commit-runs-params a-reply ρ _ _ (λ i r o e. ap (λ (y : Committed). (y .reply, tables-then (y .tables) tt)) e) met
+commit-runs up ρ met = in-cells 4 commit-runs-params a-reply ρ _ _ (λ i r o e. ap with-tables e) met
 
 batch-runs : Runs (routines (of-book link-batch)) (call (of-book link-batch))
 unfolding Batch-contract
 batch-runs =
     in-cells 4 (n32 ∷ to-write 0 tt u8 ∷ to-write 1 tt u8 ∷ to-write 2 tt u16 ∷ to-read 3 tt u16 ∷ []) a-value _
     (λ i r o. Batch-contract (i .0) (entries (i .1 .1 .1 .1 .0)) (the-tables (i .1 .0) (i .1 .1 .0) (i .1 .1 .1 .0)) r (left o)) _
-    (λ i r o e. ap (λ (y : Batched). (y .reply, tables-then (y .tables) tt)) e)
+    (λ i r o e. ap with-tables e)
     (link-batch-proof.met 𝓥 Closed.H Closed.model ghost₀ 𝓡)
 
 hear-runs : Runs (routines (of-book hear)) (call (of-book hear))
@@ -232,7 +219,7 @@ hear-runs =
     in-cells 5 (n32 ∷ to-write 0 tt u8 ∷ to-write 1 tt u8 ∷ to-write 2 tt u16 ∷ to-read 3 tt u8 ∷ to-write 4 tt u8 ∷ []) a-value _
     (λ i r o. Hear-contract (i .0) (entries (i .1 .1 .1 .1 .0)) (the-tables (i .1 .0) (i .1 .1 .0) (i .1 .1 .1 .0)) (entries (i .1 .1 .1 .1 .1 .0)) r
     (left o) (o .1 .1 .1 .0)) _
-    (λ i r o e. ap (λ (y : Heard). (y .reply, tables-then (y .tables) (y .one-sided, tt))) e)
+    (λ i r o e. ap with-both e)
     (hear-proof.met 𝓥 Closed.H Closed.model ghost₀ 𝓡)
 
 set-runs : Runs (routines (of-book mark-set)) (call (of-book mark-set))
@@ -241,7 +228,7 @@ set-runs =
     in-cells 5 (n32 ∷ to-read 0 tt u8 ∷ to-read 1 tt u8 ∷ to-read 2 tt u16 ∷ to-read 3 tt u8 ∷ to-write 4 tt u8 ∷ []) a-number _
     (λ i r o. Set-contract (i .0) (entries (i .1 .1 .1 .1 .0)) (the-tables (i .1 .0) (i .1 .1 .0) (i .1 .1 .1 .0)) (entries (i .1 .1 .1 .1 .1 .0)) r
     (o .0)) _
-    (λ i r o e. ap (λ (y : Stored). (y .reply, (y .store, tt))) e)
+    (λ i r o e. ap with-list e)
     (mark-set-proof.met 𝓥 Closed.H Closed.model ghost₀ 𝓡)
 
 remove-runs : Runs (routines (of-book mark-remove)) (call (of-book mark-remove))
@@ -250,7 +237,7 @@ remove-runs =
     in-cells 5 (n32 ∷ to-read 0 tt u8 ∷ to-read 1 tt u8 ∷ to-read 2 tt u16 ∷ to-read 3 tt u8 ∷ to-write 4 tt u8 ∷ []) a-number _
     (λ i r o. Remove-contract (i .0) (entries (i .1 .1 .1 .1 .0)) (the-tables (i .1 .0) (i .1 .1 .0) (i .1 .1 .1 .0)) (entries (i .1 .1 .1 .1 .1 .0)) r
     (o .0)) _
-    (λ i r o e. ap (λ (y : Stored). (y .reply, (y .store, tt))) e)
+    (λ i r o e. ap with-list e)
     (mark-remove-proof.met 𝓥 Closed.H Closed.model ghost₀ 𝓡)
 
 return-runs : Runs (routines (of-book mark-return)) (call (of-book mark-return))
@@ -259,7 +246,7 @@ return-runs =
     in-cells 5 (n32 ∷ to-write 0 tt u8 ∷ to-write 1 tt u8 ∷ to-write 2 tt u16 ∷ to-read 3 tt u8 ∷ to-read 4 tt u8 ∷ []) a-number _
     (λ i r o. Return-contract (i .0) (entries (i .1 .1 .1 .1 .0)) (entries (i .1 .1 .1 .1 .1 .0)) (the-tables (i .1 .0) (i .1 .1 .0) (i .1 .1 .1 .0)) r
     (left o)) _
-    (λ i r o e. ap (λ (y : Numbered). (y .reply, tables-then (y .tables) tt)) e)
+    (λ i r o e. ap with-tables e)
     (mark-return-proof.met 𝓥 Closed.H Closed.model ghost₀ 𝓡)
 
 -- ---- calls that only read them
@@ -272,7 +259,7 @@ ask-runs : (up : Bool) (ρ : Routine) →
     (the-tables (i .1 .1 .1 .0) (i .1 .1 .1 .1 .0) (i .1 .1 .1 .1 .1 .0)) (entries (i .1 .1 .1 .1 .1 .1 .0)) r (o .0)) →
     Runs ρ (call (ask up))
 unfolding Ask-contract
-ask-runs up ρ met = in-cells 2 ask-runs-params a-reply ρ _ _ (λ i r o e. ap (λ (y : Asked). (y .reply, (y .answer, tt))) e) met
+ask-runs up ρ met = in-cells 2 ask-runs-params a-reply ρ _ _ (λ i r o e. ap with-list e) met
 
 check-runs : Runs (routines check) (call check)
 unfolding Check-contract
@@ -344,7 +331,7 @@ core-runs =
     in-cells 2 (n32 ∷ n32 ∷ n32 ∷ to-read 0 tt u8 ∷ to-read 0 tt u8 ∷ to-read 0 tt u16 ∷ to-write 1 tt u16 ∷ []) a-value _
     (λ i r o. Core-contract (i .0) (i .1 .0) (i .1 .1 .0) (the-tables (i .1 .1 .1 .0) (i .1 .1 .1 .1 .0) (i .1 .1 .1 .1 .1 .0))
     (entries (i .1 .1 .1 .1 .1 .1 .0)) r (o .0)) _
-    (λ i r o e. ap (λ (y : Listing). (y .reply, (y .lent, tt))) e)
+    (λ i r o e. ap with-list e)
     (core-proof.met 𝓥 Closed.H Closed.model ghost₀ 𝓡)
 
 backbone-runs : Runs (routines backbone) (call backbone)
@@ -352,7 +339,7 @@ unfolding Backbone-contract
 backbone-runs =
     in-cells 2 (n32 ∷ to-read 0 tt u8 ∷ to-read 0 tt u8 ∷ to-read 0 tt u16 ∷ to-write 1 tt u16 ∷ []) a-value _
     (λ i r o. Backbone-contract (i .0) (the-tables (i .1 .0) (i .1 .1 .0) (i .1 .1 .1 .0)) (entries (i .1 .1 .1 .1 .0)) r (o .0)) _
-    (λ i r o e. ap (λ (y : Listing). (y .reply, (y .lent, tt))) e)
+    (λ i r o e. ap with-list e)
     (backbone-proof.met 𝓥 Closed.H Closed.model ghost₀ 𝓡)
 
 staircase-runs : Runs (routines staircase) (call staircase)
@@ -360,7 +347,7 @@ unfolding Staircase-contract
 staircase-runs =
     in-cells 2 (n32 ∷ to-read 0 tt u8 ∷ to-read 0 tt u8 ∷ to-read 0 tt u16 ∷ to-write 1 tt u16 ∷ []) a-value _
     (λ i r o. Staircase-contract (i .0) (the-tables (i .1 .0) (i .1 .1 .0) (i .1 .1 .1 .0)) (entries (i .1 .1 .1 .1 .0)) r (o .0)) _
-    (λ i r o e. ap (λ (y : Listing). (y .reply, (y .lent, tt))) e)
+    (λ i r o e. ap with-list e)
     (staircase-proof.met 𝓥 Closed.H Closed.model ghost₀ 𝓡)
 
 write-runs : Runs (routines image-write) (call image-write)
@@ -368,7 +355,7 @@ unfolding Write-contract
 write-runs =
     in-cells 4 (n32 ∷ to-read 0 tt u8 ∷ to-read 1 tt u8 ∷ to-read 2 tt u16 ∷ to-write 3 tt u8 ∷ []) a-value _
     (λ i r o. Write-contract (i .0) (the-tables (i .1 .0) (i .1 .1 .0) (i .1 .1 .1 .0)) (entries (i .1 .1 .1 .1 .0)) r (o .0)) _
-    (λ i r o e. ap (λ (y : Listing). (y .reply, (y .lent, tt))) e)
+    (λ i r o e. ap with-list e)
     (image-write-proof.met 𝓥 Closed.H Closed.model ghost₀ 𝓡)
 
 sheet-runs : Runs (routines sheet) (call sheet)
@@ -376,7 +363,7 @@ unfolding Sheet-contract
 sheet-runs =
     in-cells 4 (n32 ∷ to-read 0 tt u8 ∷ to-read 1 tt u8 ∷ to-read 2 tt u16 ∷ to-write 3 tt u8 ∷ []) a-value _
     (λ i r o. Sheet-contract (i .0) (the-tables (i .1 .0) (i .1 .1 .0) (i .1 .1 .1 .0)) (entries (i .1 .1 .1 .1 .0)) r (o .0)) _
-    (λ i r o e. ap (λ (y : Listing). (y .reply, (y .lent, tt))) e)
+    (λ i r o e. ap with-list e)
     (sheet-proof.met 𝓥 Closed.H Closed.model ghost₀ 𝓡)
 
 script-runs : Runs (routines script-write) (call script-write)
@@ -384,7 +371,7 @@ unfolding Script-contract
 script-runs =
     in-cells 4 (n32 ∷ to-read 0 tt u8 ∷ to-read 1 tt u8 ∷ to-read 2 tt u16 ∷ to-write 3 tt u8 ∷ []) a-value _
     (λ i r o. Script-contract (i .0) (the-tables (i .1 .0) (i .1 .1 .0) (i .1 .1 .1 .0)) (entries (i .1 .1 .1 .1 .0)) r (o .0)) _
-    (λ i r o e. ap (λ (y : Listing). (y .reply, (y .lent, tt))) e)
+    (λ i r o e. ap with-list e)
     (script-write-proof.met 𝓥 Closed.H Closed.model ghost₀ 𝓡)
 
 tree-runs : Runs (routines tree) (call tree)
@@ -393,7 +380,7 @@ tree-runs =
     in-cells 3 (n32 ∷ to-read 0 tt u8 ∷ to-read 0 tt u8 ∷ to-read 0 tt u16 ∷ to-write 1 tt node-row ∷ to-write 2 tt u16 ∷ []) a-value _
     (λ i r o. Tree-contract (i .0) (the-tables (i .1 .0) (i .1 .1 .0) (i .1 .1 .1 .0)) (entries (i .1 .1 .1 .1 .0)) (entries (i .1 .1 .1 .1 .1 .0)) r
     (o .0) (o .1 .0)) _
-    (λ i r o e. ap (λ (y : Treed). (y .reply, (y .nodes, (y .answer, tt)))) e)
+    (λ i r o e. ap (λ (y : Listing Value (List Node × List ℕ)). (y .reply, (y .lent .0, (y .lent .1, tt)))) e)
     (tree-proof.met 𝓥 Closed.H Closed.model ghost₀ 𝓡)
 
 block-runs : Runs (routines image-block) (call image-block)

@@ -2,11 +2,8 @@
 --   node-in a b c i     node i of the names a, the levels b and the parents c
 --   nodes-in a b c k    the first k of them
 -- Definitions only.
-use mathlib.Core.List.{List, [], _∷_, _++_}
-use Prim.Native.Nat.{ℕ, zero, suc}
-use lib.ListN.{getD}
-use Rattle.mesh.specs.Tree.{node}
-use Rattle.mesh.specs.declared.Node.{Node}
+use Rattle.lists.specs.Kit.{List, [], _∷_, _++_, ℕ, zero, suc, getD}
+use Rattle.mesh.specs.{Tree.{node}, declared.Node.{Node}}
 
 abbrev pub node-in : (names levels parents : List ℕ) → ℕ → Node
 node-in a b c i = node (getD a i 0) (getD b i 0) (getD c i 0)

@@ -1,12 +1,13 @@
 // The public interface: the calls of the link engine, exported to C, and nothing else. Each is the call of the crate that has
 // it, under the same contract. No call has a `requires`.
-ghost use mathlib.Core.Path.{_≡_};
-ghost use mathlib.Core.Bool.{true, false};
+ghost use Rattle.lists.specs.Kit.{_≡_, true, false};
 ghost use Rattle.hosts.specs.Public.{this-version};
 ghost use Rattle.mesh.specs.Lent.{lent};
-ghost use Rattle.calls.specs.Contracts.{Clear-contract, Check-contract, Link-contract, Ask-contract, Commit-contract, Batch-contract, Hear-contract, Read-contract};
+ghost use Rattle.calls.specs.Contracts.{Clear-contract, Check-contract, Link-contract, Ask-contract, Commit-contract, Batch-contract, Hear-contract};
+ghost use Rattle.calls.specs.Contracts.{Read-contract};
 ghost use Rattle.calls.specs.Contracts.{Write-contract, Block-contract, Number-contract, Neighbours-contract, Linked-contract, First-contract, Later-contract};
-ghost use Rattle.calls.specs.Contracts.{Lift-contract, Core-contract, Backbone-contract, Tree-contract, Sheet-contract, Script-length-contract, Script-contract};
+ghost use Rattle.calls.specs.Contracts.{Lift-contract, Core-contract, Backbone-contract, Tree-contract, Sheet-contract, Script-length-contract};
+ghost use Rattle.calls.specs.Contracts.{Script-contract};
 ghost use Rattle.calls.specs.Contracts.{Staircase-contract, Set-contract, Remove-contract, Return-contract};
 use calls::Block;
 use calls::Later;

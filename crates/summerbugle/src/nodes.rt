@@ -1,7 +1,5 @@
 // The lent list of nodes, filled from the shell tree's three tables by one thin function.
-ghost use mathlib.Core.Path.{_≡_};
-ghost use Prim.Native.Nat.{_≤_, _<_};
-ghost use lib.ListN.{length};
+ghost use Rattle.lists.specs.Kit.{_≡_, _≤_, _<_, length};
 ghost use Rattle.lists.specs.Lists.{overwrite};
 ghost use Rattle.summerbugle.specs.Nodes.{node-in, nodes-in};
 use mesh::Node;

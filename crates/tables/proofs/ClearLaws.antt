@@ -1,15 +1,8 @@
 -- Clearing meets its contract, on plain values: refused, and accepted.
-use mathlib.Core.Path.{_≡_, ap, _∙_}
-use mathlib.Core.Bool.{true}
-use Prim.Native.Nat.{ℕ}
-use native.Mathlib.Omega.{arith}
-use lib.ListN.{length, replicate}
+use Rattle.lists.specs.Kit.{_≡_, ap, _∙_, true, ℕ, arith, length, replicate}
 use Rattle.mesh.specs.Tables.{Tables}
-use Rattle.calls.specs.Questions.{lengths-of, tables-refusal}
-use Rattle.calls.specs.Contracts.{Clear-contract}
-use Rattle.calls.specs.Outcomes.{clear-outcome}
-use Rattle.calls.proofs.ContractLaws.{by-accepted, by-refused}
-use Rattle.calls.proofs.ChainLaws.{Lent-good, lent-zero}
+use Rattle.calls.{specs.Questions.{lengths-of, tables-refusal}, specs.Contracts.{Clear-contract}, specs.Outcomes.{clear-outcome}}
+use Rattle.calls.{proofs.ContractLaws.{by-accepted, by-refused}, proofs.ChainLaws.{Lent-good, lent-zero}}
 use Rattle.tables.specs.Widths.{values}
 use Rattle.tables.proofs.WidthLaws.{values-index}
 

@@ -1,8 +1,6 @@
 -- Laws of what the contracts of the leaf code cite, for its functions and their callers.
 -- tables of both widths
 pub mod WidthLaws
--- questions 1 and 2
-pub mod SizeLaws
 -- the signed step
 pub mod StepLaws
 -- the greatest number

@@ -1,11 +1,5 @@
 -- The greatest of a table of numbers: what is left of the table, and the greatest so far, give the greatest.
-use mathlib.Core.Path.{_≡_, ap, _∙_}
-use mathlib.Core.List.{List, _∷_}
-use Prim.Native.Nat.{ℕ, max, _+_, _<_, _≤_}
-use native.Mathlib.Omega.{arith}
-use native.Mathlib.Numerals.{add-one}
-use lib.ListN.{drop, length, getD, drop-of-length-le}
-use lib.Seq.{drop-cons}
+use Rattle.lists.specs.Kit.{_≡_, ap, _∙_, List, _∷_, ℕ, max, _+_, _<_, _≤_, arith, add-one, drop, length, getD, drop-of-length-le, drop-cons}
 use Rattle.mesh.specs.Connected.{greatest}
 
 abbrev pub Greatest-so-far : (numbers : List ℕ) → (top v : ℕ) → Type 0

@@ -1,24 +1,10 @@
 -- Laws of the signed step. The sum is made in 16 bits, where it is exact; what the code hands out is the sum held between
 -- 0 and 255. Then laws of numbers stepped one after the other.
-use mathlib.Core.Path.{_≡_, refl, sym, ap, ap₂, _∙_, subst}
-use mathlib.Core.Logic.{inl, inr}
-use mathlib.Core.Bool.{Bool, true, false, cond}
-use mathlib.Core.List.{List, [], _∷_}
-use Prim.Native.Nat.{ℕ, suc, _+_, _-_, _≤_, _<_, min}
-use native.Mathlib.Omega.{arith}
-use mir.Syntax.{w8, w16}
-use mir.Val.{Fits, SFits, toZ, ofZ}
-use mir.Facts.{toZ-ofZ, toZ-pos, sfits-widen}
-use lib.Dec.{T, ltb}
-use lib.IntN.{ℤ, pos, negsuc, _+ℤ_, natAbs}
+use Rattle.lists.{specs.Kit.{_≡_, refl, sym, ap, ap₂, _∙_, subst, inl, inr, Bool, true, false, cond, List, [], _∷_, ℕ, suc, _-_, _≤_, _<_, min, arith, T, ltb}}
+use Rattle.lists.{specs.Kit.{ℤ, pos, negsuc, _+ℤ_, natAbs, length, getD, length-set, getD-set-same, getD-set-other, ltb-true, ltb-false}}
+use Rattle.lists.{proofs.Loops.{length-folded}, specs.Facts.{folded, Distinct}, specs.Lists.{In}, proofs.Tests.{never}}
+use mir.{Syntax.{w8, w16}, Val.{Fits, SFits, toZ, ofZ}, Facts.{toZ-ofZ, toZ-pos, sfits-widen}}
 use lib.Signed.{ltZ, nonNeg}
-use lib.ListN.{length, getD, length-set}
-use lib.Seq.{getD-set-same, getD-set-other}
-use borrow.Author.Tests.{ltb-true, ltb-false}
-use Rattle.lists.proofs.Loops.{length-folded}
-use Rattle.lists.specs.Facts.{folded, Distinct}
-use Rattle.lists.specs.Lists.{In}
-use Rattle.lists.proofs.Tests.{never}
 use Rattle.tables.specs.Steps.{stepped, step-at, all-stepped}
 
 -- ---- a sum held between 0 and 255

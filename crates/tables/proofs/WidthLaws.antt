@@ -1,24 +1,12 @@
 -- Laws of tables that are written from the front or compared, one entry a turn. Their parameter is the width w: the proof of
 -- each function cites them with its own, 8 or 16.
 -- In order: laws of lists; values; a table being written, and what it holds at the end; a table being copied; tables compared.
-use mathlib.Core.Path.{_≡_, refl, sym, ap, ap₂, _∙_}
-use mathlib.Core.Bool.{true, false, _&&_}
-use mathlib.Core.List.{List, _++_, map, append-nil}
-use Prim.Native.Nat.{ℕ, suc, _+_, _%_, _^_, _≤_, _<_, min}
-use native.Mathlib.Nat.{mod-eq-of-lt, zero-add}
-use native.Mathlib.Numerals.{add-one}
-use native.Mathlib.Omega.{arith}
-use lib.Dec.{eqb}
-use lib.ListN.{length, getD, set, take, drop, replicate, length-set, drop-of-length-le}
-use lib.Seq.{drop-cons}
-use borrow.Author.Tests.{eq-eqb, ne-eqb}
+use Rattle.lists.{specs.Kit.{_≡_, refl, sym, ap, ap₂, _∙_, true, false, _&&_, List, _++_, map, append-nil, ℕ, suc, _+_, _%_, _^_, _≤_, _<_, min, mod-eq-of-lt}}
+use Rattle.lists.{specs.Kit.{zero-add, add-one, arith, eqb, length, getD, set, take, drop, replicate, length-set, drop-of-length-le, drop-cons, eq-eqb, ne-eqb}}
+use Rattle.lists.{specs.Lists.{range, same, overwrite}, proofs.Range.{length-range}, proofs.Map.{map-range-ext, length-map, map-range-getD, map-range-constant}}
+use Rattle.lists.{proofs.Map.{map-range-id}, proofs.Overwrite.{set-map-range-end}, proofs.Parts.{take-min}}
 use borrow.Author.Count.{below-more}
-use Rattle.lists.specs.Lists.{range, same, overwrite}
-use Rattle.lists.proofs.Range.{length-range}
-use Rattle.lists.proofs.Map.{map-range-ext, length-map, map-range-getD, map-range-constant, map-range-id}
 use Rattle.tables.specs.Widths.{Below, values, written}
-use Rattle.lists.proofs.Overwrite.{set-map-range-end}
-use Rattle.lists.proofs.Parts.{take-min}
 
 -- ---- laws of lists
 

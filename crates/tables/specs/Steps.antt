@@ -3,11 +3,7 @@
 --   step-at v z ns         the numbers ns with that of radio v stepped; as they are where there is no radio v
 --   all-stepped vs z ns    the same for each radio of the list vs, one after the other
 -- Laws are in proofs/StepLaws.antt. Definitions only.
-use mathlib.Core.List.{List}
-use Prim.Native.Nat.{ℕ, suc, _+_, _-_, min}
-use lib.IntN.{ℤ, pos, negsuc}
-use lib.ListN.{getD, set}
-use Rattle.lists.specs.Facts.{folded}
+use Rattle.lists.specs.{Kit.{List, ℕ, suc, _+_, _-_, min, ℤ, pos, negsuc, getD, set}, Facts.{folded}}
 
 unfoldable pub stepped : (x : ℕ) → (step : ℤ) → ℕ
 stepped x (pos k) = min 255 (x + k)

@@ -1,8 +1,6 @@
 // Tables of both widths, the 8-bit numbers and the 16-bit lists: filled, copied, compared, and lists written in front.
 // Nothing is refused: of what does not fit, as much is written as fits.
-ghost use mathlib.Core.Path.{_≡_};
-ghost use Prim.Native.Nat.{ℕ, min};
-ghost use lib.ListN.{length, take, replicate, set};
+ghost use Rattle.lists.specs.Kit.{_≡_, ℕ, min, length, take, replicate, set};
 ghost use Rattle.lists.specs.Lists.{same, overwrite};
 ghost use Rattle.tables.specs.Widths.{values};
 

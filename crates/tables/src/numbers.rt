@@ -1,6 +1,5 @@
 // The lower and the larger of two entries, an entry widened, and the numbers table as a whole.
-ghost use mathlib.Core.Path.{_≡_};
-ghost use Prim.Native.Nat.{min, max};
+ghost use Rattle.lists.specs.Kit.{_≡_, min, max};
 ghost use Rattle.mesh.specs.Connected.{greatest};
 
 // The larger of two numbers.

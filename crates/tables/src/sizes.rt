@@ -1,7 +1,7 @@
 // Questions 1 and 2 for every combination of tables that a public call takes. Tables come as their lengths, which may be any;
 // what comes back is the refusal number so far: 1, 2, or 0 when both questions got yes.
-ghost use mathlib.Core.Path.{_≡_};
-ghost use Rattle.calls.specs.Questions.{size-good, site-lengths, answer-length, tables-refusal, lent-refusal};
+ghost use Rattle.lists.specs.Kit.{_≡_};
+ghost use Rattle.calls.specs.Questions.{size-good, site-lengths, tables-refusal, lent-refusal};
 ghost use Rattle.tables.specs.Sizes.{lengths};
 use calls::Refusal;
 use mesh::Site;
@@ -52,11 +52,4 @@ pub fn of_tables(site: Site, links: usize, numbers: usize, order: usize) -> u32
     ensures { λ r. ⌜ r ≡ tables-refusal (site .radios) (lengths links numbers order) ⌝ }
 {
     with_others(site, links, numbers, order, true)
-}
-
-// Links, numbers, order and the answer table.
-pub fn with_answer(site: Site, links: usize, numbers: usize, order: usize, answer: usize) -> u32
-    ensures { λ r. ⌜ r ≡ lent-refusal (site .radios) (lengths links numbers order) (answer-length (site .radios) answer) 0 ⌝ }
-{
-    with_others(site, links, numbers, order, site.radios as usize <= answer)
 }

@@ -1,7 +1,6 @@
 // The step of a link call, a signed number, added to the numbers of the changed radios.
 // Nothing is refused: a number stays from 0 to 255, and a listed radio past the numbers is passed over.
-ghost use mathlib.Core.Path.{_≡_};
-ghost use lib.ListN.{take};
+ghost use Rattle.lists.specs.Kit.{_≡_, take};
 ghost use Rattle.tables.specs.Steps.{stepped, step-at, all-stepped};
 
 // The number x with the step added: 0 where the sum is below 0, 255 where it is above 255.

@@ -1,5 +1,6 @@
-// One link that lifts a radio, asked for radios of the sites of nine files of data/, whose answers a separate program worked out (oracle/lift.py). A line for each file: its name, how many sites it has, for how many radios was asked, how many of them
-// have a pair and how many have none, and a digest of all answers.
+// One link that lifts a radio, asked for radios of the sites of nine files of data/, whose answers a separate program worked out
+// (oracle/lift.py). A line for each file: its name, how many sites it has, for how many radios was asked, how many of them have a pair
+// and how many have none, and a digest of all answers.
 use crate::asking;
 use crate::tally::Tally;
 use test_parts::files;

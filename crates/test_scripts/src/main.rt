@@ -3,6 +3,7 @@
 // reads and writes fail. Then scripts of pseudo-random sites, written and played. Scripts and expected output are made by
 // oracle/scripts.py and oracle/rebuilt.py.
 mod back;
+mod keeps;
 mod rebuilt;
 mod refused;
 mod site;
@@ -54,7 +55,7 @@ fn words(word: &[u8]) {
     say::text(b"replay ");
     say::text(word);
     say::text(b"\n");
-    let status = player::run_words(ends, 1, word);
+    let status = player::words::run_words(ends, 1, word);
     print_errors(errors);
     print_status(status);
 }
@@ -193,4 +194,8 @@ fn main() {
     failures();
     all_words();
     rebuilt::play();
+    keeps::all();
+    keeps::news();
+    keeps::start(b"m1");
+    keeps::start(b".");
 }

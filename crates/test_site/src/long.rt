@@ -92,11 +92,16 @@ pub fn script(end: &[u8], most: usize) {
     run::last(fd, most, b"numbers");
 }
 
-// Lines that take more than the front, read by so many bytes at a time, and shown.
+// Writes lines that take more than the front.
+pub fn write_shown(fd: i32) {
+    io::write_all(fd, b"radios 3\n");
+    write_lines(fd, SHOWN_CHUNKS);
+}
+
+// These lines, read by so many bytes at a time, and shown.
 pub fn shown(most: usize) {
     let fd = run::new_file();
     run::text(b"shown script\n");
-    io::write_all(fd, b"radios 3\n");
-    write_lines(fd, SHOWN_CHUNKS);
+    write_shown(fd);
     run::shown(fd, most);
 }

@@ -6,6 +6,7 @@ use site_program::words;
 mod cases;
 mod long;
 mod run;
+mod started;
 
 // 10 MB of noise behind a beginning.
 fn noises() {
@@ -74,6 +75,14 @@ fn refusal(number: u32) {
     run::word(&out[..count], b"\n");
 }
 
+// The program as it is started: on a script, on one that is refused, and on a long one, whose errors are a file or a terminal.
+fn starts() {
+    started::on(b"script-7");
+    started::on(b"radios-0");
+    started::on_lines();
+    started::on_terminal();
+}
+
 fn main() {
     cases::run_all(b"cases");
     run::round_trip(b"script-7", b"image-7");
@@ -86,4 +95,5 @@ fn main() {
     run::told(0);
     run::told(1);
     refusals();
+    starts();
 }

@@ -39,7 +39,7 @@ pub(crate) fn new_file() -> i32 {
 }
 
 // Prints what a short file has, and closes it.
-fn print_file(fd: i32) {
+pub(crate) fn print_file(fd: i32) {
     let mut bytes = [0u8; ERRORS];
     libc::lseek(fd, 0, libc::SEEK_SET);
     let count = io::read_full(fd, &mut bytes);
@@ -173,8 +173,8 @@ pub fn long_text(path: &[u8], verb: &[u8]) {
 // A status, told in a file of its own, and not told.
 pub fn told(status: u32) {
     let fd = new_file();
-    player::tell(fd, status);
-    player::tell(-1, status);
+    player::words::tell(fd, status);
+    player::words::tell(-1, status);
     text(b"told ");
     print_file(fd);
     text(b"\n");

@@ -1,14 +1,7 @@
 -- Laws of `decimal`: one digit, a digit more, the length, and that every byte is a digit.
-use mathlib.Core.Path.{_≡_, refl, sym, ap, _∙_}
-use mathlib.Core.Logic.{_⊎_, inl, inr}
-use mathlib.Core.Bool.{true, false}
-use mathlib.Core.List.{List, [], _∷_, _++_, append-nil, append-assoc}
-use Prim.Native.Nat.{ℕ, zero, suc, _+_, _*_, _/_, _%_, _^_, _≤_, _<_}
-use native.Mathlib.Omega.{arith}
-use native.Mathlib.Nat.{pow-succ'}
-use lib.Dec.{ltb}
-use lib.ListN.{length, drop, set, length-append, length-set, drop-of-length-le}
-use borrow.Author.Tests.{ltb-true, ltb-false}
+use Rattle.lists.specs.Kit.{_≡_, refl, sym, ap, _∙_, List, [], _∷_, _++_, append-nil, append-assoc, ℕ, zero, suc, _+_, _*_, _/_}
+use Rattle.lists.specs.Kit.{_%_, _^_, _≤_, _<_, arith, pow-succ', ltb, length, drop, set, length-append, length-set, drop-of-length-le, ltb-true, ltb-false}
+use Rattle.lists.specs.Kit.{⊎-elim}
 use Rattle.lists.proofs.Tests.{bool-cases}
 use Rattle.text.specs.Text.{digit-byte, digits-in, decimal}
 
@@ -50,7 +43,8 @@ unfolding digits-in
 decimal-more zero h = absurd (omega arith)
 decimal-more (suc x) h =
     decimal-digits-in (suc x) (omega arith)
-    ∙ ap (λ (ds : List ℕ). ds ++ (digit-byte (suc x % 10) ∷ [])) (digits-in-turns x (suc x / 10) (suc x / 10) (omega arith) (omega arith) ∙ sym (decimal-digits-in (suc x / 10) (omega arith)))
+    ∙ ap (λ (ds : List ℕ). ds ++ (digit-byte (suc x % 10) ∷ []))
+    (digits-in-turns x (suc x / 10) (suc x / 10) (omega arith) (omega arith) ∙ sym (decimal-digits-in (suc x / 10) (omega arith)))
 
 -- a digit put after a number's
 pub decimal-append : (v d : ℕ) → 0 < v → d < 10 → decimal (10 * v + d) ≡ decimal v ++ (digit-byte d ∷ [])
@@ -70,12 +64,9 @@ length-decimal-more x h = rw (decimal-more x h) (length-append (decimal (x / 10)
 -- a number below 10 ^ k has at most k digits
 pub length-decimal-le : (k x : ℕ) → x < 10 ^ suc k → length (decimal x) ≤ suc k
 length-decimal-le zero x h = omega (arith, length-decimal-digit x (omega arith))
-length-decimal-le (suc k) x h = go (length-decimal-le k (x / 10)) (bool-cases (ltb x 10))
-  where
-    go : (x / 10 < 10 ^ suc k → length (decimal (x / 10)) ≤ suc k) → (ltb x 10 ≡ true) ⊎ (ltb x 10 ≡ false) → length (decimal x) ≤ suc (suc k)
-    go rec (inl e) = omega (arith, length-decimal-digit x (ltb-true x 10 e))
-    go rec (inr e) =
-        omega (arith, length-decimal-more x (ltb-false x 10 e), rec (omega (arith, pow-succ' 10 (suc k))))
+length-decimal-le (suc k) x h = let rec = length-decimal-le k (x / 10) in
+    ⊎-elim (λ e. omega (arith, length-decimal-digit x (ltb-true x 10 e)))
+    (λ e. omega (arith, length-decimal-more x (ltb-false x 10 e), rec (omega (arith, pow-succ' 10 (suc k))))) (bool-cases (ltb x 10))
 
 -- ---- digits filled in from the last on, place i the next
 

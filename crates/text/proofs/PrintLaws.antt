@@ -1,18 +1,8 @@
 -- Laws of `put`: one text after another, lengths, the place, and what stands in the buffer where the text fits.
-use mathlib.Core.Path.{_≡_, refl, sym, ap, _∙_}
-use mathlib.Core.Logic.{_⊎_, inl, inr}
-use mathlib.Core.Bool.{Bool, true, false, cond}
-use mathlib.Core.List.{List, [], _∷_, _++_, map}
-use Prim.Native.Nat.{ℕ, suc, _+_, _-_, _≤_, _<_, min}
-use native.Mathlib.Omega.{arith}
-use native.Mathlib.Numerals.{add-one}
-use lib.Dec.{ltb}
-use lib.ListN.{length, take, drop, getD, set, length-set, drop-of-length-le}
-use lib.Seq.{drop-cons, set-out, sets, sets-eq}
-use borrow.Author.Tests.{lt-ltb, le-ltb, ltb-true, ltb-false}
-use Rattle.lists.proofs.Tests.{bool-cases}
-use Rattle.text.specs.Text.{space, line-feed, decimal, further-fields}
-use Rattle.text.specs.Print.{Buffer, buffer-at, max-place, next-place, put, Puts}
+use Rattle.lists.specs.Kit.{_≡_, refl, sym, ap, _∙_, true, false, cond, List, [], _∷_, _++_, map, ℕ, suc, _+_, _≤_, _<_, min, arith}
+use Rattle.lists.specs.Kit.{add-one, ltb, length, take, drop, getD, set, length-set, drop-of-length-le, drop-cons, set-out, sets, sets-eq, lt-ltb, le-ltb}
+use Rattle.lists.{specs.Kit.{ltb-true, ltb-false, ⊎-elim}, proofs.Tests.{bool-cases}}
+use Rattle.text.specs.{Text.{space, line-feed, decimal, further-fields}, Print.{Buffer, buffer-at, max-place, next-place, put, Puts}}
 
 -- ---- one byte
 
@@ -55,7 +45,8 @@ pub record Putting (b : Buffer) (whole : List ℕ) (c : Buffer) (left : List ℕ
 pub putting-none : {b : Buffer} {whole : List ℕ} → Putting b whole b whole
 putting-none = record { is = refl }
 
-pub putting-piece : {b c d : Buffer} {whole piece : List ℕ} (left more : List ℕ) → left ≡ piece ++ more → Putting b whole c left → Puts c piece d → Putting b whole d more
+pub putting-piece : {b c d : Buffer} {whole piece : List ℕ} (left more : List ℕ) → left ≡ piece ++ more → Putting b whole c left → Puts c piece d → Putting b
+    whole d more
 putting-piece {b} {c} {d} {whole} {piece} left more e p q =
     record { is = ap (λ (a : Buffer). put a more) (q .is) ∙ sym (put-append c piece more) ∙ ap (put c) (sym e) ∙ p .is }
 
@@ -112,19 +103,8 @@ next-place-below at h = rw (lt-ltb at max-place h)
 
 next-place-min : (at : ℕ) → at ≤ max-place → next-place at ≡ min (at + 1) max-place
 unfolding next-place
-next-place-min at h = go (bool-cases (ltb at max-place))
-  where
-    go : (ltb at max-place ≡ true) ⊎ (ltb at max-place ≡ false) → cond (ltb at max-place) (at + 1) at ≡ min (at + 1) max-place
-    go (inl e) = rw e (omega (arith, ltb-true at max-place e))
-    go (inr e) = rw e (omega (arith, ltb-false at max-place e))
-
-next-place-le : (at : ℕ) → at ≤ next-place at
-unfolding next-place
-next-place-le at = go (ltb at max-place)
-  where
-    go : (t : Bool) → at ≤ cond t (at + 1) at
-    go true = omega arith
-    go false = omega arith
+next-place-min at h =
+    ⊎-elim (λ e. rw e (omega (arith, ltb-true at max-place e))) (λ e. rw e (omega (arith, ltb-false at max-place e))) (bool-cases (ltb at max-place))
 
 -- the place after a text is its length further on, at most the largest
 pub at-put : (b : Buffer) (xs : List ℕ) → b .at ≤ max-place → put b xs .at ≡ min (b .at + length xs) max-place
@@ -150,14 +130,6 @@ pub put-fits : (bytes : List ℕ) (at : ℕ) (xs : List ℕ) → at + length xs 
     → put (buffer-at bytes at) xs ≡ buffer-at (take at bytes ++ xs ++ drop (at + length xs) bytes) (at + length xs)
 put-fits bytes at xs h m =
     bytes-put bytes at xs (omega arith) ∙ ap (λ (l : List ℕ). buffer-at l (at + length xs)) (sets-eq xs bytes at h)
-
--- a text that starts at the end or past it changes no byte
-pub put-past : (b : Buffer) (xs : List ℕ) → length (b .bytes) ≤ b .at → put b xs .bytes ≡ b .bytes
-unfolding put
-put-past b [] h = refl
-put-past b (x ∷ xs) h =
-    put-past (buffer-at (set (b .bytes) (b .at) x) (next-place (b .at))) xs (omega (arith, length-set (b .bytes) (b .at) x, next-place-le (b .at)))
-    ∙ set-out (b .bytes) (b .at) x h
 
 -- ---- what a caller learns from the answered place
 

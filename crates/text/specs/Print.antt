@@ -7,12 +7,7 @@
 --   Puts b text c   putting the text takes the buffer b to c
 -- What put comes to, where the text fits and where it does not, is proved in proofs/PrintLaws.antt.
 -- Definitions only.
-use mathlib.Core.Path.{_≡_}
-use mathlib.Core.Bool.{cond}
-use mathlib.Core.List.{List, [], _∷_}
-use Prim.Native.Nat.{ℕ, _+_}
-use lib.Dec.{ltb}
-use lib.ListN.{set}
+use Rattle.lists.specs.Kit.{_≡_, cond, List, [], _∷_, ℕ, _+_, ltb, set}
 
 -- lent bytes, with the place of the next byte
 pub record Buffer : Type 0 where

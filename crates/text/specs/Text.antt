@@ -4,10 +4,8 @@
 --   decimal x            a number in decimal digits, no leading zeros
 --   printed-line f fs    fields parted by single spaces, ended by a line feed
 -- Laws of digits are in proofs/DecimalLaws.antt. Definitions only.
-use mathlib.Core.List.{List, [], _∷_, _++_}
-use Prim.Native.Nat.{ℕ, _+_, zero, suc, _/_, _%_}
-use Prim.Native.Char.{code}
-use Prim.Native.String.{String, [] as empty-text, _∷_ as text}
+use Rattle.lists.specs.Kit.{List, [], _∷_, _++_, ℕ, _+_, zero, suc, _/_, _%_}
+use Prim.Native.{Char.{code}, String.{String, [] as empty-text, _∷_ as text}}
 
 -- a text as bytes, one for each character: texts here are ASCII
 abbrev pub bytes-of : String → List ℕ

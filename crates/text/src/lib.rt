@@ -1,10 +1,7 @@
 // Text put into a lent buffer: bytes, words, decimal numbers, the rest of a line. Each function puts its text from the place `at`
 // on and answers the place after it. A byte past the buffer's end is left out and still counted, so an answer above the length
 // tells that the text did not fit, and how long the buffer must be. All other bytes keep their content.
-ghost use mathlib.Core.Path.{_≡_};
-ghost use mathlib.Core.List.{[], _∷_, map};
-ghost use Prim.Native.Nat.{_<_, _≤_};
-ghost use lib.ListN.{length, drop};
+ghost use Rattle.lists.specs.Kit.{_≡_, [], _∷_, map, _<_, _≤_, length, drop};
 ghost use Rattle.text.specs.Text.{space, digit-byte, decimal, further-fields};
 ghost use Rattle.text.specs.Print.{buffer-at, Puts};
 

@@ -1,38 +1,19 @@
 -- The tree grows: one radio keeps the lists and the set right, and so does a level.
 -- In order: lists of nodes and names in front; one radio; the start and the end of a level.
-use mathlib.Core.Path.{_≡_, refl, sym, ap, ap₂, _∙_}
-use mathlib.Core.Logic.{_⊎_, inl, inr}
-use mathlib.Core.Bool.{Bool, true, false, _&&_, _||_, not, cond}
-use mathlib.Core.List.{List, [], _∷_, _++_, map, append-nil}
-use Prim.Native.Nat.{ℕ, zero, suc, _+_, _≤_, _<_}
-use native.Mathlib.Omega.{arith}
-use lib.Dec.{ltb, leb, eqb}
-use lib.ListN.{length, getD, take, set, length-append}
-use borrow.Author.Tests.{ltb-true, lt-ltb, le-leb, eqb-true, eq-eqb, ne-eqb, not-true}
-use Rattle.mesh.specs.Limits.{max-radios}
-use Rattle.lists.specs.Lists.{range, member, overwrite}
-use Rattle.mesh.specs.Graph.{Graph, radios}
-use Rattle.mesh.specs.Cores.{number}
-use Rattle.mesh.specs.Tables.{Tables, graph-in}
-use Rattle.mesh.specs.Connected.{at-least, In-core, core-of}
-use Rattle.mesh.specs.Tree.{node, parent-name}
-use Rattle.mesh.specs.declared.Node.{Node}
-use Rattle.lists.proofs.Tests.{bool-cases, and-left, and-right, and-both, iff-eq}
-use Rattle.lists.proofs.Member.{in-member}
-use Rattle.lists.proofs.Overwrite.{set-overwrite, getD-front}
-use Rattle.lists.proofs.Map.{length-map, map-append, map-range-ext}
-use Rattle.mesh.proofs.Trees.Reach.{core-of-iff}
-use Rattle.mesh.proofs.Trees.CoreLevels.{in-core-below, in-core-level}
+use Rattle.lists.{specs.Kit.{_≡_, refl, sym, ap, ap₂, _∙_, _⊎_, inl, inr, Bool, true, false, _&&_, _||_, not, cond, List, [], _∷_, _++_, map, append-nil, ℕ}}
+use Rattle.lists.{specs.Kit.{suc, _+_, _≤_, _<_, arith, ltb, leb, eqb, length, getD, take, set, length-append, ltb-true, lt-ltb, le-leb, eqb-true, eq-eqb}}
+use Rattle.lists.{specs.Kit.{not-true}, specs.Lists.{range, member, overwrite}, proofs.Tests.{bool-cases, and-left, and-right, and-both, iff-eq}}
+use Rattle.lists.{proofs.Member.{in-member}, proofs.Overwrite.{set-overwrite, getD-front}, proofs.Map.{length-map, map-append, map-range-ext}}
+use Rattle.mesh.{specs.Graph.{Graph, radios}, specs.Cores.{number}, specs.Tables.{Tables, graph-in}, specs.Connected.{at-least, In-core, core-of}}
+use Rattle.mesh.{specs.Tree.{node, parent-name}, specs.declared.Node.{Node}, proofs.Trees.Reach.{core-of-iff}, proofs.Trees.CoreLevels.{in-core-below}}
+use Rattle.mesh.{proofs.Trees.CoreLevels.{in-core-level}}
 use Rattle.rows.specs.Sets.{in-set}
-use Rattle.floods.specs.Floods.{Level-set, Flood-done}
-use Rattle.floods.proofs.FloodCore.{level-radios, member-flood, left-flood}
+use Rattle.floods.{specs.Floods.{Level-set, Flood-done}, proofs.FloodCore.{level-radios, member-flood, left-flood}}
 use Rattle.soundness.proofs.SoundSite.{Sound-site, number-entry}
-use Rattle.tree.specs.Trees.{Lists, lists, with-front, Room, entries-set, Node-taken, own, covered, present}
-use Rattle.tree.proofs.VisitSteps.{takes-node, Nothing-taken, Visited}
-use Rattle.tree.specs.Trees.{nodes-before, Growing, Marks}
-use Rattle.tree.proofs.ShellCover.{own-lead, own-covered, not-covered-own, core-not-covered, covered-none, covered-next, present-next, present-own}
-use Rattle.tree.proofs.ShellCover.{present-start, present-end}
-use Rattle.tree.proofs.NodeLists.{entries-set-map, nodes-before-next, nodes-before-end, length-nodes-before}
+use Rattle.tree.specs.Trees.{Lists, lists, with-front, Room, Stand, entries-set, Node-taken, own, covered, present, nodes-before, Growing, Marks}
+use Rattle.tree.proofs.{VisitSteps.{takes-node, Visited}, ShellCover.{own-lead, own-covered, not-covered-own, core-not-covered}}
+use Rattle.tree.proofs.{ShellCover.{covered-none, covered-next, present-next, present-own, present-start, present-end}, NodeLists.{entries-set-map}}
+use Rattle.tree.proofs.{NodeLists.{nodes-before-next, nodes-before-end, length-nodes-before}}
 
 -- ---- nodes and names in front
 
@@ -64,11 +45,11 @@ growing-passed g k v radio positive old s c o a = record {
     nodes : nodes-before g k (suc v) ≡ nodes-before g k v
     nodes = nodes-before-next g k v positive ∙ rw o (append-nil (nodes-before g k v))
 
-module _ (n : ℕ) (t : Tables) (site : Sound-site n t) (k v : ℕ) (radio : v < n) (positive : 1 ≤ k) (s : List ℕ) where
+module _ (n : ℕ) (t : Tables) (site : Sound-site n t) (k v : ℕ) (radio : v < n) (positive : 1 ≤ k) where
   abbrev g : Graph
   g = graph-in n (t .links)
 
-  module _ (marks : Marks g k v s) where
+  module _ (s : List ℕ) (marks : Marks g k v s) where
     -- a node comes exactly where a radio names its own
     takes-own : takes-node (t .numbers) k s v ≡ own g k v
     unfolding takes-node graph-in
@@ -78,7 +59,8 @@ module _ (n : ℕ) (t : Tables) (site : Sound-site n t) (k v : ℕ) (radio : v <
         into h =
             own-covered g k v radio positive
             (sym (number-entry n t site v radio) ∙ eqb-true (getD (t .numbers) v 0) k (and-left (eqb (getD (t .numbers) v 0) k) (in-set s v) h))
-            (not-true (covered g k v v) (and-right (ltb v (g .n) && leb k (number g v)) (not (covered g k v v)) (sym (marks .bits v) ∙ and-right (eqb (getD (t .numbers) v 0) k) (in-set s v) h)))
+            (not-true (covered g k v v) (and-right (ltb v (g .n) && leb k (number g v)) (not (covered g k v v))
+            (sym (marks .bits v) ∙ and-right (eqb (getD (t .numbers) v 0) k) (in-set s v) h)))
 
         out : own g k v ≡ true → (eqb (getD (t .numbers) v 0) k && in-set s v) ≡ true
         out o =
@@ -103,19 +85,34 @@ module _ (n : ℕ) (t : Tables) (site : Sound-site n t) (k v : ℕ) (radio : v <
         let both = and-left (ltb w (g .n) && leb k (number g w)) (not (covered g k v w)) (sym (marks .bits w) ∙ e) in
         (ltb-true w n (and-left (ltb w (g .n)) (leb k (number g w)) both), and-right (ltb w (g .n)) (leb k (number g w)) both)
 
-  module _ (old before after : Lists) (c r : ℕ) (u : List ℕ) (room : Room n old) (marks : Marks g k v s)
-      (same : length u ≡ length s) (grown : Growing g k v old before c) where
-    abbrev At : Type 0
-    At = Marks g k (suc v) u × Growing g k (suc v) old after r
+  module _ (old : Lists) (now next : Stand) (room : Room n old) (marks : Marks g k v (now .left))
+      (same : length (next .left) ≡ length (now .left)) (grown : Growing g k v old (now .lists) (now .count)) where
+    abbrev before : Lists
+    before = now .lists
 
-    passed-next : own g k v ≡ false → Nothing-taken s before c u after r → At
+    abbrev after : Lists
+    after = next .lists
+
+    abbrev c : ℕ
+    c = now .count
+
+    abbrev s : List ℕ
+    s = now .left
+
+    abbrev u : List ℕ
+    u = next .left
+
+    abbrev At : Type 0
+    At = Marks g k (suc v) u × Growing g k (suc v) old after (next .count)
+
+    passed-next : own g k v ≡ false → next ≡ now → At
     unfolding graph-in radios
     passed-next o h = (
       record {
         long = same ∙ marks .long;
-        bits = λ w. ap (λ (x : List ℕ). in-set x w) (h .set) ∙ marks .bits w ∙ of-radio w (bool-cases (ltb w n));
+        bits = λ w. ap (λ (x : Stand). in-set (x .left) w) h ∙ marks .bits w ∙ of-radio w (bool-cases (ltb w n));
       },
-      rw (h .counted, h .lists) (growing-passed g k v radio positive old before c o grown),
+      rw h (growing-passed g k v radio positive old before c o grown),
     )
       where
         none : (a b : Bool) → (a || (own g k v && b)) ≡ a
@@ -127,19 +124,26 @@ module _ (n : ℕ) (t : Tables) (site : Sound-site n t) (k v : ℕ) (radio : v <
         of-radio w (inl e) = rw (covered-next g k v radio positive w (ltb-true w n e), none (covered g k v w) (member w (core-of g v k)))
         of-radio w (inr e) = rw e
 
-    module _ (o : own g k v ≡ true) (h : Node-taken (t .links) k v s before c u after r) where
+    module _ (o : own g k v ≡ true) (h : Node-taken (t .links) k v now next) where
       nodes-taken : nodes-before g k (suc v) ≡ nodes-before g k v ++ node v k (parent-name g v k) ∷ []
       unfolding graph-in
       nodes-taken = nodes-before-next g k v positive ∙ rw o
 
       few-taken : c < n + 1
       unfolding graph-in
-      few-taken = omega (arith, grown .counted, ap length nodes-taken, length-append (nodes-before g k v) (node v k (parent-name g v k) ∷ []), length-nodes-before g k (suc v) radio)
+      few-taken = omega (
+        arith,
+        grown .counted,
+        ap length nodes-taken,
+        length-append (nodes-before g k v) (node v k (parent-name g v k) ∷ []),
+        length-nodes-before g k (suc v) radio,
+      )
 
       table-taken : (f : Node → ℕ) (d table new : List ℕ) (y : ℕ) → n + 1 ≤ length d → table ≡ overwrite (map f (nodes-before g k v)) d → new ≡ set table c y
           → y ≡ f (node v k (parent-name g v k)) → new ≡ overwrite (map f (nodes-before g k (suc v))) d
       table-taken f d table new y l e m p =
-          m ∙ ap (λ (z : List ℕ). set z c y) e ∙ set-node f (nodes-before g k v) (node v k (parent-name g v k)) d c y (grown .counted) (omega (arith, few-taken)) p
+          m ∙ ap (λ (z : List ℕ). set z c y) e ∙ set-node f (nodes-before g k v) (node v k (parent-name g v k)) d c y (grown .counted)
+          (omega (arith, few-taken)) p
           ∙ ap (λ (xs : List Node). overwrite (map f xs) d) (sym nodes-taken)
 
       answer-before : before .answer ≡ overwrite (map (present g k v) (range 0 n)) (old .answer)
@@ -150,7 +154,7 @@ module _ (n : ℕ) (t : Tables) (site : Sound-site n t) (k v : ℕ) (radio : v <
       done = h .core .flooded
 
       came-in : (w : ℕ) → member w (take (h .core .came) (h .core .queue)) ≡ member w (core-of g v k)
-      came-in w = member-flood n t site k v s radio (inside marks) (whole marks o) (h .core .came) u (h .core .queue) done w
+      came-in w = member-flood n t site k v s radio (inside s marks) (whole s marks o) (h .core .came) u (h .core .queue) done w
 
       answer-taken : after .answer ≡ overwrite (map (present g k (suc v)) (range 0 n)) (old .answer)
       unfolding graph-in
@@ -158,14 +162,15 @@ module _ (n : ℕ) (t : Tables) (site : Sound-site n t) (k v : ℕ) (radio : v <
           h .core .named ∙ ap (entries-set v (take (h .core .came) (h .core .queue))) answer-before
           ∙ entries-set-map (present g k v) n v (take (h .core .came) (h .core .queue)) (old .answer)
           (λ w m. in-core-below g v k w radio (core-of-iff g v k radio w .0 (sym (came-in w) ∙ in-member w (take (h .core .came) (h .core .queue)) m)))
-          ∙ ap (λ (ys : List ℕ). overwrite ys (old .answer)) (map-range-ext (λ w. cond (member w (take (h .core .came) (h .core .queue))) v (present g k v w)) (present g k (suc v)) 0 n
+          ∙ ap (λ (ys : List ℕ). overwrite ys (old .answer))
+          (map-range-ext (λ w. cond (member w (take (h .core .came) (h .core .queue))) v (present g k v w)) (present g k (suc v)) 0 n
           (λ w a l. ap (λ (b : Bool). cond b v (present g k v w)) (came-in w) ∙ sym (present-next g k v radio positive w (omega arith) ∙ rw o)))
 
       marks-taken : Marks g k (suc v) u
       unfolding graph-in
       marks-taken = record {
         long = same ∙ marks .long;
-        bits = λ w. left-flood n t site k v s radio (inside marks) (whole marks o) (h .core .came) u (h .core .queue) done w
+        bits = λ w. left-flood n t site k v s radio (inside s marks) (whole s marks o) (h .core .came) u (h .core .queue) done w
             ∙ ap (λ (b : Bool). b && not (member w (core-of g v k))) (marks .bits w) ∙ of-radio w (bool-cases (ltb w n));
       }
         where
@@ -190,20 +195,23 @@ module _ (n : ℕ) (t : Tables) (site : Sound-site n t) (k v : ℕ) (radio : v <
         record {
           counted = h .counted ∙ omega (arith, grown .counted, ap length nodes-taken, length-append (nodes-before g k v) (node v k (parent-name g v k) ∷ []));
           front = lists-same after (with-front (nodes-before g k (suc v)) (map (present g k (suc v)) (range 0 n)) old)
-              (table-taken (λ x. x .name) (old .names) (before .names) (after .names) v (room .names) (ap (λ (x : Lists). x .names) (grown .front)) (h .names) refl)
-              (table-taken (λ x. x .level) (old .levels) (before .levels) (after .levels) k (room .levels) (ap (λ (x : Lists). x .levels) (grown .front)) (h .levels) refl)
-              (table-taken (λ x. x .parent) (old .parents) (before .parents) (after .parents) (getD (before .answer) v 0) (room .parents) (ap (λ (x : Lists). x .parents) (grown .front)) (h .parents)
+              (table-taken (λ x. x .name) (old .names) (before .names) (after .names) v (room .names) (ap (λ (x : Lists). x .names) (grown .front)) (h .names)
+              refl)
+              (table-taken (λ x. x .level) (old .levels) (before .levels) (after .levels) k (room .levels) (ap (λ (x : Lists). x .levels) (grown .front))
+              (h .levels) refl)
+              (table-taken (λ x. x .parent) (old .parents) (before .parents) (after .parents) (getD (before .answer) v 0) (room .parents)
+              (ap (λ (x : Lists). x .parents) (grown .front)) (h .parents)
               (ap (λ (z : List ℕ). getD z v 0) answer-before ∙ getD-front (present g k v) n v (old .answer) radio ∙ present-own g k v radio positive o))
               answer-taken;
         },
       )
 
-    pub visited-next : Visited (t .links) (t .numbers) k v s before c u after r → At
+    pub visited-next : Visited (t .links) (t .numbers) k v now next → At
     visited-next h = go (bool-cases (own g k v))
       where
         go : (own g k v ≡ true) ⊎ (own g k v ≡ false) → At
-        go (inl o) = taken-next o (h .taken (takes-own marks ∙ o))
-        go (inr o) = passed-next o (h .passed (takes-own marks ∙ o))
+        go (inl o) = taken-next o (h .taken (takes-own s marks ∙ o))
+        go (inr o) = passed-next o (h .passed (takes-own s marks ∙ o))
 
 -- ---- the start and the end of a level
 
@@ -212,7 +220,8 @@ pub marks-start : (n : ℕ) (t : Tables) → Sound-site n t → (k : ℕ) (s : L
 unfolding graph-in
 marks-start n t site k s words h = record {
   long = words;
-  bits = λ w. level-radios n t site k s words h w ∙ rw (covered-none (graph-in n (t .links)) k w) (and-true (ltb w n && leb k (number (graph-in n (t .links)) w)));
+  bits = λ w. level-radios n t site k s words h w ∙ rw (covered-none (graph-in n (t .links)) k w)
+      (and-true (ltb w n && leb k (number (graph-in n (t .links)) w)));
 }
   where
     and-true : (b : Bool) → b ≡ (b && true)

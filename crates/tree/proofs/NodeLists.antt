@@ -1,28 +1,13 @@
 -- The nodes that come before a radio at a level, and the lists with nodes and names in front.
 -- In order: laws of lists; nodes from one radio and one level to the next; how many they are; one node more in front.
-use mathlib.Core.Path.{_≡_, refl, sym, ap, _∙_}
-use mathlib.Core.Logic.{_⊎_, inl, inr}
-use mathlib.Core.Bool.{Bool, true, false, _&&_, _||_, cond}
-use mathlib.Core.List.{List, [], _∷_, _++_, map, flatMap, append-nil, append-assoc}
-use Prim.Native.Nat.{ℕ, zero, suc, _+_, _-_, _≤_, _<_}
-use native.Mathlib.Omega.{arith}
-use native.Mathlib.Nat.{zero-add}
-use lib.Dec.{leb, eqb}
-use lib.ListN.{length, length-append}
-use borrow.Author.Tests.{leb-true, le-leb, lt-leb, eqb-true, ne-eqb}
-use Rattle.lists.specs.Facts.{folded}
-use Rattle.lists.specs.Lists.{range, count, filter, member, overwrite, In}
-use Rattle.mesh.specs.Graph.{Graph, radios}
-use Rattle.mesh.specs.Cores.{number}
-use Rattle.mesh.specs.Tree.{root, node, node-name, parent-name, nodes-at, tree}
-use Rattle.mesh.specs.declared.Node.{Node}
-use Rattle.lists.proofs.Tests.{bool-cases, bit-one, bit-le}
-use Rattle.lists.proofs.Range.{range-in, length-range, range-append, range-suc, count-front}
-use Rattle.lists.proofs.Filter.{filter-append, filter-none, length-filter}
-use Rattle.lists.proofs.Count.{count-le-length, count-add}
-use Rattle.lists.proofs.Map.{length-map, map-append, flatMap-append, flatMap-none, map-range-ext}
+use Rattle.lists.{specs.Kit.{_≡_, refl, sym, ap, _∙_, _⊎_, inl, inr, Bool, true, false, _&&_, _||_, cond, List, [], _∷_, _++_, map, flatMap, append-nil}}
+use Rattle.lists.{specs.Kit.{append-assoc, ℕ, zero, suc, _+_, _-_, _≤_, _<_, arith, zero-add, leb, eqb, length, length-append, leb-true, le-leb, lt-leb}}
+use Rattle.lists.{specs.Kit.{eqb-true, ne-eqb}, specs.Facts.{folded}, specs.Lists.{range, count, filter, member, overwrite, In}, proofs.Tests.{bool-cases}}
+use Rattle.lists.{proofs.Tests.{bit-one, bit-le}, proofs.Range.{range-in, length-range, range-append, range-suc, count-front}, proofs.Filter.{filter-append}}
+use Rattle.lists.{proofs.Filter.{filter-none, length-filter}, proofs.Count.{count-le-length, count-add}, proofs.Map.{length-map, map-append, flatMap-append}}
+use Rattle.lists.{proofs.Map.{flatMap-none, map-range-ext}, proofs.Overwrite.{set-front}}
+use Rattle.mesh.specs.{Graph.{Graph, radios}, Cores.{number}, Tree.{root, node, node-name, parent-name, nodes-at, tree}, declared.Node.{Node}}
 use Rattle.tree.specs.Trees.{entries-set, own, nodes-within, nodes-before}
-use Rattle.lists.proofs.Overwrite.{set-front}
 
 -- ---- laws of lists
 

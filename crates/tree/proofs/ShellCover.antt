@@ -1,24 +1,12 @@
 -- Names and nodes of the shell tree, level by level and radio by radio.
 -- In order: the lowest radio of a shell, whom a level has named so far, names from one radio and one level to the next.
-use mathlib.Core.Path.{_≡_, refl, sym, ap, _∙_}
-use mathlib.Core.Logic.{_⊎_, inl, inr}
-use mathlib.Core.Bool.{Bool, true, false, _&&_, _||_, cond}
-use mathlib.Core.List.{List, [], _∷_}
-use Prim.Native.Nat.{ℕ, zero, suc, _≤_, _<_, min}
-use native.Mathlib.Omega.{arith}
-use lib.Dec.{ltb, leb, eqb}
-use borrow.Author.Tests.{ltb-true, ltb-false, lt-ltb, le-ltb, leb-true, leb-false, le-leb, eqb-true, eq-eqb, ne-eqb}
-use Rattle.lists.specs.Lists.{member, head-or}
-use Rattle.mesh.specs.Graph.{Graph}
-use Rattle.mesh.specs.Cores.{number}
-use Rattle.mesh.specs.Connected.{In-core, core-of}
-use Rattle.mesh.specs.Tree.{root-name, shell, node-name, parent-name}
-use Rattle.lists.proofs.Tests.{bool-cases, never, and-left, and-right, and-both, or-cases, or-left, or-right, iff-eq}
-use Rattle.mesh.proofs.Trees.Reach.{core-of-iff}
-use Rattle.mesh.proofs.Trees.CoreLevels.{in-core-here, in-core-below, in-core-level, in-core-sym, core-of-same}
-use Rattle.mesh.proofs.Trees.NodeSets.{core-has-self, shell-in, in-shell, core-set-of}
-use Rattle.lists.proofs.Member.{head-or-in, head-or-any}
-use Rattle.mesh.proofs.Trees.ShellNames.{shell-named}
+use Rattle.lists.{specs.Kit.{_≡_, refl, sym, ap, _∙_, _⊎_, inl, inr, Bool, true, false, _&&_, _||_, cond, List, [], _∷_, ℕ, zero, suc, _≤_, _<_, min, arith}}
+use Rattle.lists.{specs.Kit.{ltb, leb, eqb, ltb-true, ltb-false, lt-ltb, le-ltb, leb-true, leb-false, le-leb, eqb-true, eq-eqb, ne-eqb}, specs.Lists.{member}}
+use Rattle.lists.{specs.Lists.{head-or}, proofs.Tests.{bool-cases, never, and-left, and-right, and-both, or-cases, or-left, or-right, iff-eq}}
+use Rattle.lists.{proofs.Member.{head-or-in, head-or-any}}
+use Rattle.mesh.{specs.Graph.{Graph}, specs.Cores.{number}, specs.Connected.{In-core, core-of}, specs.Tree.{root-name, shell, node-name, parent-name}}
+use Rattle.mesh.{proofs.Trees.Reach.{core-of-iff}, proofs.Trees.CoreLevels.{in-core-here, in-core-below, in-core-level, in-core-sym, core-of-same}}
+use Rattle.mesh.{proofs.Trees.NodeSets.{core-has-self, shell-in, in-shell, core-set-of}, proofs.Trees.ShellNames.{shell-named}}
 use Rattle.tree.specs.Trees.{own, covered, name-before, present}
 
 module _ (g : Graph) (k : ℕ) where

@@ -1,33 +1,18 @@
 -- The radios of each level as sets.
 -- In order: the set of one number, the level after it, the lowest radio of a level that the set still has.
-use mathlib.Core.Path.{_≡_, refl, sym, ap, ap₂, _∙_}
-use mathlib.Core.Logic.{_⊎_, inl, inr}
-use mathlib.Core.Bool.{Bool, true, false, _&&_, not, cond}
-use mathlib.Core.List.{List, [], _∷_}
-use Prim.Native.Nat.{ℕ, zero, suc, _+_, _≤_, _<_}
-use native.Mathlib.Omega.{arith}
-use lib.Dec.{ltb, leb, eqb}
-use lib.ListN.{length, getD, take, replicate, length-replicate}
-use borrow.Author.Tests.{ltb-true, ltb-false, lt-ltb, leb-true, le-leb, lt-leb, eqb-true, eqb-false, eq-eqb}
-use Rattle.mesh.specs.Limits.{max-radios, max-neighbours}
-use Rattle.mesh.specs.Orders.{each-once, rising, few-later}
-use Rattle.mesh.specs.Tables.{Tables, marked}
-use Rattle.mesh.specs.Sound.{rows-proper, enough, sound, sound-within}
-use Rattle.mesh.proofs.Cores.Orders.{each-once-of, rising-of}
-use Rattle.lists.specs.Facts.{Each-once, Rising}
-use Rattle.lists.specs.Lists.{range, filter, head-or, member}
-use Rattle.lists.proofs.Tests.{bool-cases, never, and-left, and-right, and-both, iff-eq}
-use Rattle.lists.proofs.Member.{head-or-below, in-getD, getD-of-in}
-use Rattle.lists.proofs.Filter.{in-filter, filter-in}
-use Rattle.lists.proofs.Range.{in-range, once-in, once-below}
-use Rattle.lists.proofs.Ascending.{head-or-lowest, ascending-filter, ascending-range}
+use Rattle.lists.{specs.Kit.{_≡_, refl, sym, ap, ap₂, _∙_, _⊎_, inl, inr, Bool, true, false, _&&_, not, cond, List, [], _∷_, ℕ, zero, suc, _+_, _≤_, _<_}}
+use Rattle.lists.{specs.Kit.{arith, ltb, leb, eqb, length, getD, take, replicate, length-replicate, ltb-true, ltb-false, lt-ltb, leb-true, le-leb, lt-leb}}
+use Rattle.lists.{specs.Kit.{eqb-true, eqb-false, eq-eqb}, specs.Facts.{Each-once, Rising}, specs.Lists.{range, filter, head-or, member}}
+use Rattle.lists.{proofs.Tests.{bool-cases, never, and-left, and-right, and-both, iff-eq}, proofs.Member.{head-or-below, in-getD, getD-of-in}}
+use Rattle.lists.{proofs.Filter.{in-filter, filter-in}, proofs.Range.{in-range, once-in, once-below}, proofs.Ascending.{head-or-lowest, ascending-filter}}
+use Rattle.lists.{proofs.Ascending.{ascending-range}}
+use Rattle.mesh.{specs.Limits.{max-radios, max-neighbours}, specs.Orders.{each-once, rising, few-later}, specs.Tables.{Tables, marked}}
+use Rattle.mesh.{specs.Sound.{rows-proper, enough, sound, sound-within}, proofs.Cores.Orders.{each-once-of, rising-of}}
 use Rattle.calls.specs.Questions.{lengths-of, size-good, site-lengths}
-use Rattle.rows.specs.Sets.{in-set, put-in, common, Set-taken}
-use Rattle.rows.proofs.SetLaws.{in-set-zeros, in-set-radio, in-put-in, length-put-in}
+use Rattle.rows.{specs.Sets.{in-set, put-in, common, Set-taken}, proofs.SetLaws.{in-set-zeros, in-set-radio, in-put-in, length-put-in}}
 use Rattle.floods.specs.Floods.{of-level, Level-set, start}
-use Rattle.soundness.specs.Checks.{fits-sound, Sound-site}
-use Rattle.soundness.proofs.SoundSite.{fits-sound-site}
-use Rattle.tree.specs.Trees.{Lists, has-number, Shell-set, Level-from}
+use Rattle.soundness.{specs.Checks.{fits-sound, Sound-site}, proofs.SoundSite.{fits-sound-site}}
+use Rattle.tree.specs.Trees.{Stand, has-number, Shell-set, Level-from}
 use Rattle.tree.proofs.VisitSteps.{takes-node, Visited}
 
 -- ---- the set of one number, from the order
@@ -55,7 +40,8 @@ module _ (ns order : List ℕ) (k from : ℕ) (start : Level-from ns order k fro
     every = λ j l h. absurd (omega arith);
   }
 
-  pub shell-putting-turn : (i : ℕ) (set after : List ℕ) → i < length order → num i ≡ k → after ≡ put-in (getD order i 0) set → Shell-putting ns order k from i set
+  pub shell-putting-turn : (i : ℕ) (set after : List ℕ) → i < length order → num i ≡ k → after ≡ put-in (getD order i 0) set
+      → Shell-putting ns order k from i set
       → Shell-putting ns order k from (i + 1) after
   shell-putting-turn i set after l is e h = record {
     low = omega (arith, h .low);
@@ -232,11 +218,13 @@ module _ (x y : List ℕ) (lx : length x ≡ 8) (ly : length y ≡ 8) where
       go (inl q) =
           let r = in-set-radio x u lx (and-left (in-set x u) (in-set y u) q) in
           let m = filter-in both (range 0 max-radios) u (in-range 0 max-radios u (omega arith) (omega arith)) q in
-          let low = head-or-lowest max-radios u (filter both (range 0 max-radios)) (ascending-filter both (range 0 max-radios) (ascending-range 0 max-radios)) m in
+          let low = head-or-lowest max-radios u (filter both (range 0 max-radios)) (ascending-filter both (range 0 max-radios) (ascending-range 0 max-radios))
+          m in
           absurd (omega (arith, l, low))
 
 -- xs came in, v with them, and left the set
-gone-of : (s t xs : List ℕ) (v w : ℕ) → member v xs ≡ true → in-set t w ≡ (in-set s w && not (member w xs)) → in-set t w ≡ true → (in-set s w ≡ true) × (w ≡ v → ⊥)
+gone-of : (s t xs : List ℕ) (v w : ℕ) → member v xs ≡ true → in-set t w ≡ (in-set s w && not (member w xs)) → in-set t w ≡ true → (in-set s w ≡ true)
+    × (w ≡ v → ⊥)
 gone-of s t xs v w m bits e =
     let both = sym bits ∙ e in (
       and-left (in-set s w) (not (member w xs)) both,
@@ -262,27 +250,37 @@ module _ (ts ns : List ℕ) (k : ℕ) (shell : List ℕ) (own : Shell-set ns k s
       pub takes-lowest : takes-node ns k s v ≡ true
       takes-lowest = takes-shell s v radio ∙ rw lowest (first-in shell s (own .long) words (rw lowest at (let l : v < max-radios = omega arith in l)))
 
-      module _ (now : Lists) (c : ℕ) (t : List ℕ) (after : Lists) (r : ℕ) (same : length t ≡ length s) (h : Visited ts ns k v s now c t after r) where
-        gone : (w : ℕ) → in-set t w ≡ true → (in-set s w ≡ true) × (w ≡ v → ⊥)
-        gone w e =
-            let done = h .taken takes-lowest .core .flooded in
-            gone-of s t (take (h .taken takes-lowest .core .came) (h .taken takes-lowest .core .queue)) v w (done .radios v .1 start) (done .bits w) e
+  module _ (now after : Stand) (words : length (now .left) ≡ 8) (v : ℕ) (lowest : v ≡ head-or max-radios (common shell (now .left))) where
+    abbrev s : List ℕ
+    s = now .left
 
-        -- the lowest of the rest comes later
-        pub later : v < head-or max-radios (common shell t)
-        later = go (bool-cases (ltb v next))
-          where
-            next : ℕ
-            next = head-or max-radios (common shell t)
+    abbrev t : List ℕ
+    t = after .left
 
-            go : (ltb v next ≡ true) ⊎ (ltb v next ≡ false) → v < next
-            go (inl e) = ltb-true v next e
-            go (inr e) =
-                let l = ltb-false v next e in
-                let m = first-in shell t (own .long) (same ∙ words) (omega arith) in
-                let g = gone next (and-right (in-set shell next) (in-set t next) m) in
-                never (in-set shell next && in-set s next) (and-both (in-set shell next) (in-set s next) (and-left (in-set shell next) (in-set t next) m) (g .0))
-                (first-before shell s (own .long) words next (rw lowest at (earlier (g .1) l)))
-              where
-                earlier : (next ≡ v → ⊥) → next ≤ v → next < v
-                earlier d l = omega arith
+    module _ (radio : v < length ns) (small : length ns ≤ max-radios) (same : length t ≡ length s) (h : Visited ts ns k v now after) where
+      brings : takes-node ns k s v ≡ true
+      brings = takes-lowest s words v lowest radio small
+
+      gone : (w : ℕ) → in-set t w ≡ true → (in-set s w ≡ true) × (w ≡ v → ⊥)
+      gone w e =
+          let done = h .taken brings .core .flooded in
+          gone-of s t (take (h .taken brings .core .came) (h .taken brings .core .queue)) v w (done .radios v .1 start) (done .bits w) e
+
+      -- the lowest of the rest comes later
+      pub later : v < head-or max-radios (common shell t)
+      later = go (bool-cases (ltb v next))
+        where
+          next : ℕ
+          next = head-or max-radios (common shell t)
+
+          go : (ltb v next ≡ true) ⊎ (ltb v next ≡ false) → v < next
+          go (inl e) = ltb-true v next e
+          go (inr e) =
+              let l = ltb-false v next e in
+              let m = first-in shell t (own .long) (same ∙ words) (omega arith) in
+              let g = gone next (and-right (in-set shell next) (in-set t next) m) in
+              never (in-set shell next && in-set s next) (and-both (in-set shell next) (in-set s next) (and-left (in-set shell next) (in-set t next) m) (g .0))
+              (first-before shell s (own .long) words next (rw lowest at (earlier (g .1) l)))
+            where
+              earlier : (next ≡ v → ⊥) → next ≤ v → next < v
+              earlier d l = omega arith

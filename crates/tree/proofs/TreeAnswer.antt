@@ -1,23 +1,13 @@
 -- The shell tree's answer: refused, and accepted.
-use mathlib.Core.Path.{_≡_, sym, ap, _∙_}
-use mathlib.Core.Bool.{Bool, true, _&&_}
-use mathlib.Core.List.{List}
-use Prim.Native.Nat.{ℕ, _+_, _≤_, min}
-use lib.Dec.{ltb, leb}
-use borrow.Author.Tests.{ltb-true, lt-ltb, leb-true, le-leb}
-use native.Mathlib.Omega.{arith}
-use lib.ListN.{length}
-use Rattle.mesh.specs.Tables.{tables, graph-in}
-use Rattle.mesh.specs.Sound.{sound}
-use Rattle.lists.proofs.Tests.{and-left, and-right, and-both, iff-eq}
-use Rattle.calls.specs.Questions.{lengths-of, site-refusal, tree-refusal, nodes-length, answer-length}
-use Rattle.calls.specs.declared.Value.{Value}
-use Rattle.calls.proofs.ContractLaws.{by-accepted, by-refused}
-use Rattle.calls.proofs.ChainLaws.{Site-good, site-zero}
-use Rattle.calls.proofs.QuestionLaws.{nodes-length-true, answer-length-true}
-use Rattle.soundness.specs.Checks.{fits-sound}
-use Rattle.soundness.proofs.SoundSite.{site-good-fits}
+use Rattle.lists.{specs.Kit.{_≡_, sym, ap, _∙_, Bool, true, _&&_, List, ℕ, _+_, _≤_, min, ltb, leb, ltb-true, lt-ltb, leb-true, le-leb, arith, length}}
+use Rattle.lists.{proofs.Tests.{and-left, and-right, and-both, iff-eq}}
+use Rattle.mesh.specs.{Tables.{tables, graph-in}, Sound.{sound}}
+use Rattle.calls.{specs.Questions.{lengths-of, site-refusal, answer-length}, specs.declared.Value.{Value}}
+use Rattle.calls.{proofs.ContractLaws.{by-accepted, by-refused}, proofs.ChainLaws.{Site-good, site-zero}, proofs.QuestionLaws.{nodes-length-true}}
+use Rattle.calls.{proofs.QuestionLaws.{answer-length-true}}
+use Rattle.soundness.{specs.Checks.{fits-sound}, proofs.SoundSite.{site-good-fits}}
 use Rattle.tree.specs.Trees.{Lists, Room, Tree-written, places, tables-outcome, Tables-contract}
+use Rattle.calls.specs.{Chains.{tree-refusal, nodes-length}}
 
 -- ---- room
 
@@ -29,11 +19,15 @@ places-least room s a b c p q r = r ∙ ap (min room) (q ∙ ap (λ (j : ℕ). m
 
 -- question 2 of the list of nodes and of the answer table in one test
 pub room-test : (n nodes answer m : ℕ) → m ≡ min nodes (answer + 1) → ltb n m ≡ (nodes-length n nodes && answer-length n answer)
-unfolding nodes-length answer-length
+unfolding answer-length
 room-test n nodes answer m e =
     iff-eq (ltb n m) (leb (n + 1) nodes && leb n answer)
     (λ h. let l = ltb-true n m h in and-both (leb (n + 1) nodes) (leb n answer) (le-leb (n + 1) nodes (omega arith)) (le-leb n answer (omega arith)))
-    (λ h. lt-ltb n m (omega (arith, leb-true (n + 1) nodes (and-left (leb (n + 1) nodes) (leb n answer) h), leb-true n answer (and-right (leb (n + 1) nodes) (leb n answer) h))))
+    (λ h. lt-ltb n m (omega (
+      arith,
+      leb-true (n + 1) nodes (and-left (leb (n + 1) nodes) (leb n answer) h),
+      leb-true n answer (and-right (leb (n + 1) nodes) (leb n answer) h),
+    )))
 
 -- ---- the number that the questions give
 
@@ -41,7 +35,6 @@ module _ (n room : ℕ) (ts ns xs : List ℕ) (s : Lists) (m q : ℕ) (others : 
     (asked : others ≡ (nodes-length n m && answer-length n (length (s .answer))))
     (gave : q ≡ site-refusal n (lengths-of (tables ts ns xs)) others (sound n (tables ts ns xs)) 0) where
   number-is : q ≡ tree-refusal n (lengths-of (tables ts ns xs)) (min room (places s)) (length (s .answer)) (sound n (tables ts ns xs))
-  unfolding tree-refusal
   number-is = gave ∙ ap (λ (b : Bool). site-refusal n (lengths-of (tables ts ns xs)) b (sound n (tables ts ns xs)) 0)
       (asked ∙ ap (λ (j : ℕ). nodes-length n j && answer-length n (length (s .answer))) size)
 

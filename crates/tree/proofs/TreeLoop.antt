@@ -1,35 +1,14 @@
 -- All levels as a loop: the root first, then level by level to the greatest number, and what the lists hold at the end.
-use mathlib.Core.Path.{_≡_, refl, sym, ap, ap₂, _∙_}
-use mathlib.Core.Bool.{true, _&&_}
-use mathlib.Core.List.{List, [], _∷_, _++_, map}
-use Prim.Native.Nat.{ℕ, suc, _+_, _*_, _≤_, _<_, min}
-use native.Mathlib.Omega.{arith}
-use native.Mathlib.Numerals.{add-one}
-use lib.ListN.{length, take, drop, set, replicate, length-replicate}
-use lib.Seq.{length-take-le}
-use Rattle.mesh.specs.Limits.{max-radios, max-neighbours}
-use Rattle.lists.specs.Lists.{overwrite}
-use Rattle.mesh.specs.Graph.{Graph, radios}
-use Rattle.mesh.specs.Cores.{number}
-use Rattle.mesh.specs.Tables.{Tables, tables, graph-in}
-use Rattle.mesh.specs.Sound.{sound}
-use Rattle.calls.specs.Questions.{size-good, site-lengths, lengths-of}
-use Rattle.lists.proofs.Tests.{and-right}
-use Rattle.mesh.specs.Connected.{greatest}
-use Rattle.mesh.specs.Tree.{root-name, root, node-name, parent-name, node-names}
-use Rattle.mesh.proofs.Trees.Laws.{number-le-n}
-use Rattle.mesh.proofs.Trees.ShellNames.{node-name-parent}
-use Rattle.mesh.proofs.Trees.Listed.{getD-le-greatest, greatest-le}
-use Rattle.calls.proofs.SheetLaws.{numbers-two-digits}
-use Rattle.soundness.specs.Checks.{fits-sound}
-use Rattle.lists.proofs.Map.{map-range-constant, map-range-ext}
-use Rattle.soundness.proofs.SoundSite.{fits-sound-site, number-entry}
+use Rattle.lists.{specs.Kit.{_≡_, refl, sym, ap, ap₂, _∙_, true, _&&_, List, [], _∷_, _++_, map, ℕ, suc, _+_, _*_, _≤_, _<_, min, arith, add-one, length, take}}
+use Rattle.lists.{specs.Kit.{drop, set, replicate, length-replicate, length-take-le}, specs.Lists.{overwrite}, proofs.Tests.{and-right}}
+use Rattle.lists.{proofs.Map.{map-range-constant, map-range-ext}, proofs.Overwrite.{set-overwrite}}
+use Rattle.mesh.{specs.Limits.{max-radios, max-neighbours}, specs.Graph.{Graph, radios}, specs.Cores.{number}, specs.Tables.{Tables, tables, graph-in}}
+use Rattle.mesh.{specs.Sound.{sound}, specs.Connected.{greatest}, specs.Tree.{root-name, root, node-name, parent-name, node-names}}
+use Rattle.mesh.{proofs.Trees.Laws.{number-le-n}, proofs.Trees.ShellNames.{node-name-parent}, proofs.Trees.Listed.{getD-le-greatest, greatest-le}}
+use Rattle.calls.{specs.Questions.{size-good, site-lengths, lengths-of}, proofs.SheetLaws.{numbers-two-digits}}
+use Rattle.soundness.{specs.Checks.{fits-sound}, proofs.SoundSite.{fits-sound-site, number-entry}}
 use Rattle.tree.specs.Trees.{Lists, with-front, Room, name-before, present, Growing, Levelled, Treed, Tree-written}
-use Rattle.tree.proofs.ShellCover.{present-start}
-use Rattle.lists.proofs.Overwrite.{set-overwrite}
-use Rattle.tree.proofs.NodeLists.{nodes-before-start, nodes-before-tree}
-use Rattle.tree.proofs.GrowLaws.{lists-same}
-use Rattle.tree.proofs.LevelLoop.{Same-lengths}
+use Rattle.tree.proofs.{ShellCover.{present-start}, NodeLists.{nodes-before-start, nodes-before-tree}, GrowLaws.{lists-same}, LevelLoop.{Same-lengths}}
 
 -- ---- the root
 
@@ -40,7 +19,8 @@ present-first g =
     (λ w a l. let e : min 1 (suc (number g w)) ≡ 1 = omega arith in present-start g 1 w ∙ ap (parent-name g w) e)
     ∙ map-range-constant root-name 0 (g .n)
 
-pub growing-start : (g : Graph) (old new : Lists) (m : ℕ) → Room (g .n) old → m ≡ g .n → new .names ≡ set (old .names) 0 root-name → new .levels ≡ set (old .levels) 0 0
+pub growing-start : (g : Graph) (old new : Lists) (m : ℕ) → Room (g .n) old → m ≡ g .n → new .names ≡ set (old .names) 0 root-name → new .levels
+    ≡ set (old .levels) 0 0
     → new .parents ≡ set (old .parents) 0 root-name → new .answer ≡ overwrite (replicate m root-name) (old .answer)
     → Growing g 1 0 old new 1
 unfolding with-front overwrite
@@ -118,7 +98,8 @@ unfolding fits-sound
 is-sound n t h = and-right (site-lengths n (lengths-of t)) (sound n t) (and-right (size-good n) (site-lengths n (lengths-of t) && sound n t) h)
 
 -- on sound tables no number is above the most neighbours
-pub grown-all : (ts ns : List ℕ) (old before : Lists) (high top : ℕ) (after : Lists) (c : ℕ) → length ns ≤ max-radios → high ≡ greatest ns → top ≡ min high max-neighbours
+pub grown-all : (ts ns : List ℕ) (old before : Lists) (high top : ℕ) (after : Lists) (c : ℕ) → length ns ≤ max-radios → high ≡ greatest ns → top
+    ≡ min high max-neighbours
     → before .names ≡ set (old .names) 0 root-name → before .levels ≡ set (old .levels) 0 0 → before .parents ≡ set (old .parents) 0 root-name
     → before .answer ≡ overwrite (replicate (length ns) root-name) (old .answer)
     → Treed ts ns top before after c → (order : List ℕ) → fits-sound (length ns) (tables ts ns order) ≡ true → Room (length ns) old
@@ -129,13 +110,15 @@ grown-all ts ns old before high top after c small e m names levels parents answe
     let site = fits-sound-site (length ns) (tables ts ns order) h in
     let start = growing-start g old before (length ns) room refl names levels parents answer in
     let last : Growing g (suc top) 0 old after c = rw (add-one top) at (a order h old room start) in
-    let most : greatest ns ≤ max-neighbours = greatest-le ns max-neighbours (λ v l. numbers-two-digits (length ns) (tables ts ns order) refl (is-sound (length ns) (tables ts ns order) h) small v l) in
+    let most : greatest ns ≤ max-neighbours = greatest-le ns max-neighbours
+    (λ v l. numbers-two-digits (length ns) (tables ts ns order) refl (is-sound (length ns) (tables ts ns order) h) small v l) in
     growing-last g top c old after
     (omega (arith, greatest-le ns (length ns) (λ v l. omega (arith, number-entry (length ns) (tables ts ns order) site v l, number-le-n g v))))
     (λ w l. omega (arith, number-entry (length ns) (tables ts ns order) site w l, getD-le-greatest ns w l)) last
 
 -- the first entries of a table filled
-pub filled-front : (list new : List ℕ) (k x : ℕ) → k ≤ length list → new ≡ replicate (length (take k list)) x → new ++ drop k list ≡ overwrite (replicate k x) list
+pub filled-front : (list new : List ℕ) (k x : ℕ) → k ≤ length list → new ≡ replicate (length (take k list)) x → new ++ drop k list
+    ≡ overwrite (replicate k x) list
 unfolding overwrite
 filled-front list new k x h e =
     ap₂ (λ (xs : List ℕ) (j : ℕ). xs ++ drop j list) (e ∙ ap (λ (m : ℕ). replicate m x) (length-take-le k list h)) (sym (length-replicate {A = ℕ} k x))

@@ -2,8 +2,9 @@
 --   Lists                   names, levels and parents of nodes, and the answer table
 --   with-front xs ys s      the lists s with the nodes xs and the radios' names ys in front
 --   entries-set x ws t      the table t with x at each place that ws lists
+--   Stand                   a level on its way: the radios left, the lists, how many nodes stand in them
 --   Core-named              a flood from v, and v written for each radio that came in
---   Node-taken              a node behind the first c: radio v at level k
+--   Node-taken              a node behind the others: radio v at level k
 --   Shell-set               the radios with number k as a set
 --   Level-from              the radios with number k or more stand in the order from a place on
 --   Level-ready, Levels-ready  what one level, and all of them, want of tables, sets and lengths
@@ -18,27 +19,15 @@
 --   Filled, tables-outcome  what the call over the tables comes to
 --   Tables-contract         document 01: the shell tree, its nodes as three tables: result and lists are that outcome
 -- Definitions only.
-use mathlib.Core.Path.{_≡_}
-use mathlib.Core.Bool.{Bool, true, false, _&&_, not, cond}
-use mathlib.Core.List.{List, [], _∷_, _++_, map, flatMap}
-use Prim.Native.Nat.{ℕ, zero, suc, _+_, _*_, _≤_, _<_, min}
-use lib.Dec.{ltb, leb, eqb}
-use lib.ListN.{length, getD, take, set}
-use Rattle.lists.specs.Facts.{folded}
-use Rattle.lists.specs.Lists.{range, filter, head-or, overwrite, In, Entries-below}
-use Rattle.mesh.specs.Limits.{max-radios, max-neighbours}
-use Rattle.mesh.specs.Graph.{Graph, radios}
-use Rattle.mesh.specs.Cores.{number}
-use Rattle.mesh.specs.Tables.{Tables, tables, graph-in}
-use Rattle.mesh.specs.Sound.{sound}
-use Rattle.mesh.specs.Tree.{root-name, root, node, shell, node-name, parent-name, nodes-at, tree, node-names}
-use Rattle.mesh.specs.declared.Node.{Node}
-use Rattle.calls.specs.Questions.{lengths-of, tree-refusal}
-use Rattle.calls.specs.Outcomes.{by-number, value}
-use Rattle.calls.specs.declared.Value.{Value}
+use Rattle.lists.specs.{Kit.{_≡_, Bool, true, _&&_, not, cond, List, [], _∷_, _++_, map, flatMap, ℕ, zero, suc, _+_, _*_, _≤_, _<_, min, ltb, leb, eqb, length}}
+use Rattle.lists.specs.{Kit.{getD, take, set}, Facts.{folded}, Lists.{range, filter, head-or, overwrite, In, Entries-below}}
+use Rattle.mesh.specs.{Limits.{max-radios, max-neighbours}, Graph.{Graph, radios}, Cores.{number}, Tables.{Tables, tables, graph-in}, Sound.{sound}}
+use Rattle.mesh.specs.{Tree.{root-name, root, node, shell, node-name, parent-name, nodes-at, tree, node-names}, declared.Node.{Node}}
+use Rattle.calls.specs.{Questions.{lengths-of}, Outcomes.{value}, declared.Value.{Value}}
 use Rattle.rows.specs.Sets.{in-set}
 use Rattle.soundness.specs.Checks.{fits-sound}
 use Rattle.floods.specs.Floods.{Level-set, Flood-done}
+use Rattle.calls.specs.{Chains.{tree-refusal}, Questions.{by-number}}
 
 pub record Lists : Type 0 where
   pub names : List ℕ
@@ -67,6 +56,15 @@ pub record Room (n : ℕ) (s : Lists) : Type 0 where
 
 -- ---- one radio
 
+-- a level on its way: the set of radios left, the lists, and the count of nodes in them
+pub record Stand : Type 0 where
+  pub left : List ℕ
+  pub lists : Lists
+  pub count : ℕ
+
+abbrev pub stand : (left : List ℕ) → Lists → (count : ℕ) → Stand
+stand a b c = record { left = a; lists = b; count = c }
+
 unfoldable pub entries-set : (x : ℕ) → (places table : List ℕ) → List ℕ
 entries-set x ws t = folded (λ w now. set now w x) ws t
 
@@ -77,13 +75,13 @@ pub record Core-named (ts : List ℕ) (v : ℕ) (s a t b : List ℕ) : Type 0 wh
   pub flooded : Flood-done ts v s came t queue
   pub named : b ≡ entries-set v (take came queue) a
 
--- a node comes behind the first c: v, the level and the name that v had
-pub record Node-taken (ts : List ℕ) (k v : ℕ) (s : List ℕ) (old : Lists) (c : ℕ) (t : List ℕ) (new : Lists) (r : ℕ) : Type 0 where
-  pub names : new .names ≡ set (old .names) c v
-  pub levels : new .levels ≡ set (old .levels) c k
-  pub parents : new .parents ≡ set (old .parents) c (getD (old .answer) v 0)
-  pub core : Core-named ts v s (old .answer) t (new .answer)
-  pub counted : r ≡ c + 1
+-- a node comes behind the others: v, the level and the name that v had
+pub record Node-taken (ts : List ℕ) (k v : ℕ) (before after : Stand) : Type 0 where
+  pub names : after .lists .names ≡ set (before .lists .names) (before .count) v
+  pub levels : after .lists .levels ≡ set (before .lists .levels) (before .count) k
+  pub parents : after .lists .parents ≡ set (before .lists .parents) (before .count) (getD (before .lists .answer) v 0)
+  pub core : Core-named ts v (before .left) (before .lists .answer) (after .left) (after .lists .answer)
+  pub counted : after .count ≡ before .count + 1
 
 -- ---- the radios of a level
 
@@ -159,13 +157,15 @@ pub record Marks (g : Graph) (k v : ℕ) (s : List ℕ) : Type 0 where
 unfoldable pub Levelled : (links numbers : List ℕ) → (k : ℕ) → (before : Lists) → (c : ℕ) → (after : Lists) → (r : ℕ) → Type 0
 Levelled ts ns k s c t r =
     let g = graph-in (length ns) ts in
-    (order : List ℕ) → fits-sound (length ns) (tables ts ns order) ≡ true → (old : Lists) → Room (length ns) old → Growing g k 0 old s c → Growing g (k + 1) 0 old t r
+    (order : List ℕ) → fits-sound (length ns) (tables ts ns order) ≡ true → (old : Lists) → Room (length ns) old → Growing g k 0 old s c
+    → Growing g (k + 1) 0 old t r
 
 -- all levels to the top, where the lists hold the root alone
 unfoldable pub Treed : (links numbers : List ℕ) → (top : ℕ) → (before after : Lists) → (r : ℕ) → Type 0
 Treed ts ns top s t r =
     let g = graph-in (length ns) ts in
-    (order : List ℕ) → fits-sound (length ns) (tables ts ns order) ≡ true → (old : Lists) → Room (length ns) old → Growing g 1 0 old s 1 → Growing g (top + 1) 0 old t r
+    (order : List ℕ) → fits-sound (length ns) (tables ts ns order) ≡ true → (old : Lists) → Room (length ns) old → Growing g 1 0 old s 1
+    → Growing g (top + 1) 0 old t r
 
 -- the whole tree in front
 pub record Tree-written (g : Graph) (before : Lists) (r : ℕ) (after : Lists) : Type 0 where

@@ -1,14 +1,11 @@
 // The shell tree in document 01's order: level by level, and in a level radio by radio.
-ghost use mathlib.Core.Path.{_≡_};
-ghost use mathlib.Core.Bool.{true};
-ghost use Prim.Native.Nat.{_+_, _*_, _≤_, _<_};
-ghost use lib.ListN.{length, replicate};
+ghost use Rattle.lists.specs.Kit.{_≡_, true, _+_, _*_, _≤_, _<_, length, replicate};
 ghost use Rattle.mesh.specs.Limits.{max-radios};
 ghost use Rattle.mesh.specs.Lent.{lent};
 ghost use Rattle.mesh.specs.Tables.{tables, graph-in};
 ghost use Rattle.soundness.specs.Checks.{fits-sound};
 ghost use Rattle.floods.specs.Floods.{Floodable};
-ghost use Rattle.tree.specs.Trees.{lists, Room, Node-taken, Shell-set, Level-from, Level-ready, Levels-ready, Levelled, Treed};
+ghost use Rattle.tree.specs.Trees.{lists, Room, stand, Node-taken, Shell-set, Level-from, Level-ready, Levels-ready, Levelled, Treed};
 ghost use Rattle.tree.specs.Trees.{Tree-written, Tables-contract};
 use calls::Value;
 use mesh::Site;
@@ -35,9 +32,9 @@ fn take_node(
     count: u32,
 ) -> u32
     requires { ⌜ Floodable v (length (now set)) (length (now queue)) × (v < length (now answer)) × (count ≤ max-radios * (level + 1)) ⌝ }
-    ensures { λ r. ⌜ Node-taken (now (links .entry)) level v (now (set .entry))
-        (lists (now (names .entry)) (now (levels .entry)) (now (parents .entry)) (now (answer .entry))) count
-        (now (set .exit)) (lists (now (names .exit)) (now (levels .exit)) (now (parents .exit)) (now (answer .exit))) r ⌝ }
+    ensures { λ r. ⌜ Node-taken (now (links .entry)) level v
+        (stand (now (set .entry)) (lists (now (names .entry)) (now (levels .entry)) (now (parents .entry)) (now (answer .entry))) count)
+        (stand (now (set .exit)) (lists (now (names .exit)) (now (levels .exit)) (now (parents .exit)) (now (answer .exit))) r) ⌝ }
 {
     crate::nodes::put_node(
         names,

@@ -1,7 +1,5 @@
 // Single writes of the shell tree: a node in three tables, a name for each radio of a core.
-ghost use mathlib.Core.Path.{_≡_};
-ghost use Prim.Native.Nat.{_≤_};
-ghost use lib.ListN.{length, take, set};
+ghost use Rattle.lists.specs.Kit.{_≡_, _≤_, length, take, set};
 ghost use Rattle.floods.specs.Floods.{Floodable};
 ghost use Rattle.tree.specs.Trees.{entries-set, Core-named};
 

@@ -1,10 +1,7 @@
 -- Every history is right: computed on pairs and order, and so by `all-by-state` over the contracts' own outcomes. Group by group, since
 -- many rows in one declaration take longer than the same rows in several, and a declaration may compute only so much.
-use mathlib.Core.Path.{_≡_, refl}
-use mathlib.Core.Bool.{true}
-use Rattle.calls.specs.Worked.{All-right}
-use Rattle.calls.proofs.WorkedState.{all-state-right, compute}
-use Rattle.calls.proofs.WorkedLaws.{all-by-state, all-right-append}
+use Rattle.lists.specs.Kit.{_≡_, refl, true}
+use Rattle.calls.{specs.Worked.{All-right}, proofs.WorkedState.{all-state-right, compute}, proofs.WorkedLaws.{all-by-state, all-right-append}}
 use Rattle.vectors.specs.Histories.{refusals, cliques, joins, rises, falls, trees, printing, tables, images, random-small, random-middle, random-large}
 use Rattle.vectors.specs.Histories.{histories}
 

@@ -14,10 +14,10 @@
 --   random-large    random calls at 8 radios
 --   histories       all of them, 64 rows
 -- That every row is right is `histories-right` in proofs/Histories.antt. Definitions only.
-use mathlib.Core.Bool.{true, false}
-use mathlib.Core.List.{List, [], _∷_, _++_}
+use Rattle.lists.specs.Kit.{true, false, List, [], _∷_, _++_}
 use Rattle.mesh.specs.Tree.{root-name, node, root}
-use Rattle.calls.specs.Worked.{Row, row, up, down, risen, fallen, unchanged, refused, last-answers, all-numbers, whole-order, shell-tree, connected-core, backbone-radios, image-checks, printed, put, soundness, image-reading}
+use Rattle.calls.specs.Worked.{Row, row, up, down, risen, fallen, unchanged, refused, last-answers, all-numbers, whole-order, shell-tree, connected-core}
+use Rattle.calls.specs.Worked.{backbone-radios, image-checks, printed, put, soundness, image-reading}
 
 unfoldable pub refusals : List Row
 refusals =
@@ -158,7 +158,8 @@ cliques =
     ∷ all-numbers (3 ∷ 3 ∷ 3 ∷ 3 ∷ 3 ∷ 3 ∷ 3 ∷ []) ∷ whole-order (6 ∷ 5 ∷ 4 ∷ 3 ∷ 2 ∷ 0 ∷ 1 ∷ [])
     ∷ shell-tree (root ∷ node 0 3 root-name ∷ []) (0 ∷ 0 ∷ 0 ∷ 0 ∷ 0 ∷ 0 ∷ 0 ∷ []) ∷ backbone-radios (0 ∷ 1 ∷ 2 ∷ 3 ∷ 4 ∷ 5 ∷ 6 ∷ [])
     ∷ connected-core 6 0 0 (0 ∷ 1 ∷ 2 ∷ 3 ∷ 4 ∷ 5 ∷ 6 ∷ []) ∷ connected-core 0 3 0 (0 ∷ 1 ∷ 2 ∷ 3 ∷ 4 ∷ 5 ∷ 6 ∷ [])
-    ∷ connected-core 3 1 0 (0 ∷ 1 ∷ 2 ∷ 3 ∷ 4 ∷ 5 ∷ 6 ∷ []) ∷ connected-core 0 4 8 [] ∷ connected-core 7 0 4 [] ∷ image-checks 1536 (119 ∷ 181 ∷ 2580 ∷ []) ∷ [])
+    ∷ connected-core 3 1 0 (0 ∷ 1 ∷ 2 ∷ 3 ∷ 4 ∷ 5 ∷ 6 ∷ []) ∷ connected-core 0 4 8 [] ∷ connected-core 7 0 4 [] ∷ image-checks 1536 (119 ∷ 181 ∷ 2580 ∷ []) ∷
+    [])
     -- three against three, then a link inside a side
     ∷ row 6 (
     up 0 3 ∷ up 0 4 ∷ up 0 5 ∷ up 1 3 ∷ up 1 4 ∷ up 1 5 ∷ up 2 3 ∷ up 2 4 ∷ up 2 5 ∷ up 0 1 ∷ down 0 3 ∷ []) (
@@ -352,7 +353,8 @@ falls =
     last-answers (
     risen (0 ∷ 1 ∷ []) ∷ risen (2 ∷ []) ∷ risen (3 ∷ []) ∷ risen (4 ∷ []) ∷ fallen (0 ∷ []) ∷ fallen (1 ∷ []) ∷ fallen (2 ∷ []) ∷ fallen (3 ∷ 4 ∷ []) ∷ [])
     ∷ printed (
-    "0 +1 0 1\n" ∷ "0 +1 2\n" ∷ "0 +1 3\n" ∷ "0 +1 4\n" ∷ "0 -1 0\n" ∷ "0 -1 1\n" ∷ "0 -1 2\n" ∷ "0 -1 3 4\n" ∷ "numbers 0 0 0 0 0\n" ∷ "order 0 1 2 4 3\n" ∷ [])
+    "0 +1 0 1\n" ∷ "0 +1 2\n" ∷ "0 +1 3\n" ∷ "0 +1 4\n" ∷ "0 -1 0\n" ∷ "0 -1 1\n" ∷ "0 -1 2\n" ∷ "0 -1 3 4\n" ∷ "numbers 0 0 0 0 0\n" ∷ "order 0 1 2 4 3\n" ∷
+    [])
     ∷ all-numbers (0 ∷ 0 ∷ 0 ∷ 0 ∷ 0 ∷ []) ∷ whole-order (0 ∷ 1 ∷ 2 ∷ 4 ∷ 3 ∷ [])
     ∷ shell-tree (root ∷ []) (root-name ∷ root-name ∷ root-name ∷ root-name ∷ root-name ∷ []) ∷ backbone-radios [] ∷ connected-core 4 0 0 (4 ∷ [])
     ∷ connected-core 0 0 0 (0 ∷ []) ∷ connected-core 2 1 8 [] ∷ connected-core 0 1 8 [] ∷ connected-core 5 0 4 [] ∷ image-checks 1024 (25 ∷ 112 ∷ []) ∷ [])
@@ -362,7 +364,8 @@ falls =
     last-answers (
     risen (2 ∷ 4 ∷ []) ∷ risen (0 ∷ []) ∷ risen (1 ∷ []) ∷ risen (3 ∷ []) ∷ fallen (3 ∷ []) ∷ fallen (1 ∷ []) ∷ fallen (0 ∷ []) ∷ fallen (2 ∷ 4 ∷ []) ∷ [])
     ∷ printed (
-    "0 +1 2 4\n" ∷ "0 +1 0\n" ∷ "0 +1 1\n" ∷ "0 +1 3\n" ∷ "0 -1 3\n" ∷ "0 -1 1\n" ∷ "0 -1 0\n" ∷ "0 -1 2 4\n" ∷ "numbers 0 0 0 0 0\n" ∷ "order 3 1 0 2 4\n" ∷ [])
+    "0 +1 2 4\n" ∷ "0 +1 0\n" ∷ "0 +1 1\n" ∷ "0 +1 3\n" ∷ "0 -1 3\n" ∷ "0 -1 1\n" ∷ "0 -1 0\n" ∷ "0 -1 2 4\n" ∷ "numbers 0 0 0 0 0\n" ∷ "order 3 1 0 2 4\n" ∷
+    [])
     ∷ all-numbers (0 ∷ 0 ∷ 0 ∷ 0 ∷ 0 ∷ []) ∷ whole-order (3 ∷ 1 ∷ 0 ∷ 2 ∷ 4 ∷ [])
     ∷ shell-tree (root ∷ []) (root-name ∷ root-name ∷ root-name ∷ root-name ∷ root-name ∷ []) ∷ backbone-radios [] ∷ connected-core 4 0 0 (4 ∷ [])
     ∷ connected-core 0 0 0 (0 ∷ []) ∷ connected-core 2 1 8 [] ∷ connected-core 0 1 8 [] ∷ connected-core 5 0 4 [] ∷ image-checks 1024 (25 ∷ 100 ∷ []) ∷ [])
@@ -378,7 +381,8 @@ falls =
     ∷ all-numbers (2 ∷ 2 ∷ 2 ∷ 2 ∷ 2 ∷ 2 ∷ 2 ∷ []) ∷ whole-order (3 ∷ 4 ∷ 5 ∷ 6 ∷ 0 ∷ 1 ∷ 2 ∷ [])
     ∷ shell-tree (root ∷ node 0 2 root-name ∷ []) (0 ∷ 0 ∷ 0 ∷ 0 ∷ 0 ∷ 0 ∷ 0 ∷ []) ∷ backbone-radios (0 ∷ 1 ∷ 2 ∷ 3 ∷ 4 ∷ 5 ∷ 6 ∷ [])
     ∷ connected-core 6 0 0 (0 ∷ 1 ∷ 2 ∷ 3 ∷ 4 ∷ 5 ∷ 6 ∷ []) ∷ connected-core 0 2 0 (0 ∷ 1 ∷ 2 ∷ 3 ∷ 4 ∷ 5 ∷ 6 ∷ [])
-    ∷ connected-core 3 1 0 (0 ∷ 1 ∷ 2 ∷ 3 ∷ 4 ∷ 5 ∷ 6 ∷ []) ∷ connected-core 0 3 8 [] ∷ connected-core 7 0 4 [] ∷ image-checks 1536 (105 ∷ 207 ∷ 1441 ∷ []) ∷ [])
+    ∷ connected-core 3 1 0 (0 ∷ 1 ∷ 2 ∷ 3 ∷ 4 ∷ 5 ∷ 6 ∷ []) ∷ connected-core 0 3 8 [] ∷ connected-core 7 0 4 [] ∷ image-checks 1536 (105 ∷ 207 ∷ 1441 ∷ []) ∷
+    [])
     -- a star loses its links one by one
     ∷ row 6 (
     up 5 0 ∷ up 5 1 ∷ up 5 2 ∷ up 5 3 ∷ up 5 4 ∷ down 5 0 ∷ down 5 1 ∷ down 5 2 ∷ down 5 3 ∷ down 5 4 ∷ []) (
@@ -454,7 +458,8 @@ trees =
     ∷ all-numbers (4 ∷ 4 ∷ 4 ∷ 4 ∷ 4 ∷ 1 ∷ 1 ∷ []) ∷ whole-order (6 ∷ 5 ∷ 4 ∷ 3 ∷ 2 ∷ 0 ∷ 1 ∷ [])
     ∷ shell-tree (root ∷ node 5 1 root-name ∷ node 0 4 5 ∷ []) (0 ∷ 0 ∷ 0 ∷ 0 ∷ 0 ∷ 5 ∷ 5 ∷ []) ∷ backbone-radios (0 ∷ 1 ∷ 2 ∷ 3 ∷ 4 ∷ [])
     ∷ connected-core 6 0 0 (0 ∷ 1 ∷ 2 ∷ 3 ∷ 4 ∷ 5 ∷ 6 ∷ []) ∷ connected-core 0 4 0 (0 ∷ 1 ∷ 2 ∷ 3 ∷ 4 ∷ [])
-    ∷ connected-core 3 1 0 (0 ∷ 1 ∷ 2 ∷ 3 ∷ 4 ∷ 5 ∷ 6 ∷ []) ∷ connected-core 0 5 8 [] ∷ connected-core 7 0 4 [] ∷ image-checks 1536 (119 ∷ 181 ∷ 2146 ∷ []) ∷ [])
+    ∷ connected-core 3 1 0 (0 ∷ 1 ∷ 2 ∷ 3 ∷ 4 ∷ 5 ∷ 6 ∷ []) ∷ connected-core 0 5 8 [] ∷ connected-core 7 0 4 [] ∷ image-checks 1536 (119 ∷ 181 ∷ 2146 ∷ []) ∷
+    [])
     -- levels 3 and 2 under one node of level 1
     ∷ row 8 (
     up 0 1 ∷ up 0 2 ∷ up 0 3 ∷ up 1 2 ∷ up 1 3 ∷ up 2 3 ∷ up 3 7 ∷ up 7 4 ∷ up 4 5 ∷ up 5 6 ∷ up 4 6 ∷ down 4 7 ∷ up 7 6 ∷ []) (
@@ -727,7 +732,8 @@ unfoldable pub random-middle : List Row
 random-middle =
     -- random, seed 201
     row 6 (
-    up 0 2 ∷ up 5 3 ∷ up 3 4 ∷ up 4 3 ∷ up 5 1 ∷ up 4 2 ∷ down 3 5 ∷ down 2 4 ∷ up 2 4 ∷ up 3 1 ∷ up 0 3 ∷ down 0 3 ∷ down 1 5 ∷ up 0 2 ∷ up 4 0 ∷ up 4 2 ∷ []) (
+    up 0 2 ∷ up 5 3 ∷ up 3 4 ∷ up 4 3 ∷ up 5 1 ∷ up 4 2 ∷ down 3 5 ∷ down 2 4 ∷ up 2 4 ∷ up 3 1 ∷ up 0 3 ∷ down 0 3 ∷ down 1 5 ∷ up 0 2 ∷ up 4 0 ∷ up 4 2 ∷ [])
+    (
     last-answers (
     risen (0 ∷ 2 ∷ []) ∷ risen (3 ∷ 5 ∷ []) ∷ risen (4 ∷ []) ∷ refused 6 ∷ risen (1 ∷ []) ∷ unchanged ∷ unchanged ∷ unchanged ∷ unchanged ∷ unchanged
     ∷ risen (0 ∷ 2 ∷ 3 ∷ 4 ∷ []) ∷ fallen (0 ∷ 2 ∷ 3 ∷ 4 ∷ []) ∷ fallen (5 ∷ []) ∷ refused 6 ∷ risen (0 ∷ 2 ∷ 4 ∷ []) ∷ refused 6 ∷ [])
@@ -799,7 +805,8 @@ random-middle =
     ∷ all-numbers (1 ∷ 3 ∷ 3 ∷ 3 ∷ 3 ∷ 3 ∷ 3 ∷ []) ∷ whole-order (0 ∷ 3 ∷ 5 ∷ 2 ∷ 1 ∷ 6 ∷ 4 ∷ [])
     ∷ shell-tree (root ∷ node 0 1 root-name ∷ node 1 3 0 ∷ []) (0 ∷ 1 ∷ 1 ∷ 1 ∷ 1 ∷ 1 ∷ 1 ∷ []) ∷ backbone-radios (1 ∷ 2 ∷ 3 ∷ 4 ∷ 5 ∷ 6 ∷ [])
     ∷ connected-core 6 0 0 (0 ∷ 1 ∷ 2 ∷ 3 ∷ 4 ∷ 5 ∷ 6 ∷ []) ∷ connected-core 1 3 0 (1 ∷ 2 ∷ 3 ∷ 4 ∷ 5 ∷ 6 ∷ [])
-    ∷ connected-core 3 1 0 (0 ∷ 1 ∷ 2 ∷ 3 ∷ 4 ∷ 5 ∷ 6 ∷ []) ∷ connected-core 0 2 8 [] ∷ connected-core 7 0 4 [] ∷ image-checks 1536 (119 ∷ 263 ∷ 2489 ∷ []) ∷ [])
+    ∷ connected-core 3 1 0 (0 ∷ 1 ∷ 2 ∷ 3 ∷ 4 ∷ 5 ∷ 6 ∷ []) ∷ connected-core 0 2 8 [] ∷ connected-core 7 0 4 [] ∷ image-checks 1536 (119 ∷ 263 ∷ 2489 ∷ []) ∷
+    [])
     -- random, seed 206
     ∷ row 7 (
     up 5 1 ∷ down 1 5 ∷ up 5 4 ∷ up 2 5 ∷ up 3 6 ∷ up 2 0 ∷ down 0 2 ∷ down 2 5 ∷ up 0 3 ∷ up 6 0 ∷ up 0 1 ∷ up 5 6 ∷ up 6 1 ∷ down 0 1 ∷ down 3 6 ∷ up 4 6
@@ -892,4 +899,5 @@ random-large =
     ∷ []
 
 unfoldable pub histories : List Row
-histories = refusals ++ (cliques ++ (joins ++ (rises ++ (falls ++ (trees ++ (printing ++ (tables ++ (images ++ (random-small ++ (random-middle ++ random-large))))))))))
+histories = refusals ++ (cliques ++ (joins ++ (rises ++
+    (falls ++ (trees ++ (printing ++ (tables ++ (images ++ (random-small ++ (random-middle ++ random-large))))))))))

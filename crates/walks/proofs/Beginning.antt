@@ -4,38 +4,17 @@
 --   before-kept   entries before the beginning end's place never move
 --   order-walked, changed-walked   the new order and the changed radios by any peel of the level from that end on
 --   unmoved       the quick path: that end has at most K later neighbours after the call, and nothing moves or rises
-use mathlib.Core.Path.{_≡_, refl, sym, ap, _∙_}
-use mathlib.Core.Logic.{_⊎_, inl, inr}
-use mathlib.Core.Bool.{true, false}
-use mathlib.Core.List.{List, [], _∷_, _++_, append-nil, append-assoc}
-use Prim.Native.Nat.{ℕ, _+_, _≤_, _<_, min}
-use native.Mathlib.Omega.{arith}
-use lib.Dec.{ltb, eqb}
-use lib.ListN.{length, take}
-use lib.Seq.{take-at}
-use borrow.Author.Tests.{eqb-true, eq-eqb, ltb-true, le-ltb}
-use Rattle.lists.specs.Lists.{count, filter, member, In}
-use Rattle.lists.specs.Facts.{Rising}
-use Rattle.mesh.specs.Graph.{Graph, linked, relinked, Allowed}
-use Rattle.mesh.specs.Cores.{number}
-use Rattle.mesh.specs.Levels.{changed, lower-level, new-order}
-use Rattle.lists.proofs.Member.{in-left, in-cases}
-use Rattle.lists.proofs.Filter.{in-filter, filter-append, filter-none}
-use Rattle.lists.proofs.Distinct.{distinct-right}
-use Rattle.lists.proofs.Range.{once-in, once-distinct}
-use Rattle.mesh.proofs.GraphLaws.{Ends}
-use Rattle.mesh.proofs.Cores.Orders.{Few-later, few-later-right}
-use Rattle.lists.proofs.Ascending.{rising-left, rising-right, rising-before}
-use Rattle.mesh.proofs.Cores.Certificate.{Certificate}
-use Rattle.mesh.proofs.Cores.KOrders.{k-order-certificate}
-use Rattle.mesh.specs.Peel.{Takes, Peels}
-use Rattle.mesh.proofs.Links.Peel.{Peeling, peeling}
-use Rattle.mesh.proofs.Links.Moves.{adds-elsewhere}
-use Rattle.mesh.proofs.Links.LevelCut.{lows, mids, highs, level-cut}
-use Rattle.mesh.proofs.Links.Call as link-call
-use Rattle.mesh.specs.Valid.{Valid, smaller, larger}
+use Rattle.lists.{specs.Kit.{_≡_, refl, sym, ap, _∙_, _⊎_, inl, inr, true, false, List, [], _∷_, _++_, append-nil, append-assoc, ℕ, _+_, _≤_, _<_, min, arith}}
+use Rattle.lists.{specs.Kit.{ltb, eqb, length, take, take-at, eqb-true, eq-eqb, ltb-true, le-ltb}, specs.Lists.{count, filter, member, In}}
+use Rattle.lists.{specs.Facts.{Rising}, proofs.Member.{in-left, in-cases}, proofs.Filter.{in-filter, filter-append, filter-none}}
+use Rattle.lists.{proofs.Distinct.{distinct-right}, proofs.Range.{once-in, once-distinct}, proofs.Ascending.{rising-left, rising-right, rising-before}}
+use Rattle.mesh.{specs.Graph.{Graph, linked, relinked, Allowed}, specs.Cores.{number}, specs.Levels.{changed, lower-level, new-order}, proofs.GraphLaws.{Ends}}
+use Rattle.mesh.{proofs.Cores.Orders.{Few-later, few-later-right}, proofs.Cores.Certificate.{Certificate}, proofs.Cores.KOrders.{k-order-certificate}}
+use Rattle.mesh.{specs.Peel.{Takes, Peels}, proofs.Links.Peel.{Peeling, peeling}, proofs.Links.Moves.{adds-elsewhere}, proofs.Links.LevelCut.{lows, mids}}
+use Rattle.mesh.{proofs.Links.LevelCut.{highs, level-cut}, specs.Valid.{Valid, smaller, larger}}
 use Rattle.walks.specs.Walk.{Few-front}
 use Rattle.walks.proofs.Front.{few-front-of, takes-front, peels-from}
+use Rattle.mesh.proofs.Links.Call as link-call
 
 module _ (most : ℕ) (a b : ℕ) (g : Graph) (xs : List ℕ) (valid : Valid most g xs) (ok : Allowed most true a b g) where
   abbrev K : ℕ

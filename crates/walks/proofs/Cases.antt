@@ -1,9 +1,6 @@
 -- The worked case of the walk is right: computed on pairs and order, and so by `all-by-state` over the contracts' own outcomes.
-use mathlib.Core.Path.{_≡_, refl}
-use mathlib.Core.Bool.{true}
-use Rattle.calls.specs.Worked.{All-right}
-use Rattle.calls.proofs.WorkedState.{all-state-right, compute}
-use Rattle.calls.proofs.WorkedLaws.{all-by-state}
+use Rattle.lists.specs.Kit.{_≡_, refl, true}
+use Rattle.calls.{specs.Worked.{All-right}, proofs.WorkedState.{all-state-right, compute}, proofs.WorkedLaws.{all-by-state}}
 use Rattle.walks.specs.Cases.{cases, taken-back}
 
 computed : all-state-right cases ≡ true

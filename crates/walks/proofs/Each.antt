@@ -1,23 +1,11 @@
 -- Entries before the beginning end's place never move, of each link that a batch or a hearing takes up.
 --   each-begins    of allowed links, one after the other, from good tables
 --   batch-begins, hear-begins   of the links of a batch, and of a hearing
-use mathlib.Core.Path.{_≡_, refl, sym, _∙_, ap, subst}
-use mathlib.Core.Bool.{Bool, true}
-use mathlib.Core.List.{List, [], _∷_}
-use Prim.Native.Nat.{ℕ}
-use lib.ListN.{length}
-use Rattle.mesh.specs.Limits.{max-neighbours}
-use Rattle.mesh.specs.Graph.{Link, graph, relinked, new-links, Allowed}
-use Rattle.mesh.specs.Tables.{Tables, graph-in}
-use Rattle.mesh.specs.Sound.{sound}
-use Rattle.calls.specs.Questions.{lengths-of, site-refusal}
-use Rattle.calls.specs.Switches.{Switch, switched, All-allowed}
-use Rattle.calls.specs.Batches.{list-length, batch-refusal, batch-switches}
-use Rattle.calls.specs.Heard.{heard-lengths, hear-refusal, heard-switches}
-use Rattle.calls.proofs.ChainLaws.{site-zero}
-use Rattle.calls.proofs.Batches.{batch-allowed}
-use Rattle.calls.proofs.HeardCalls.{hear-right}
-use Rattle.calls.proofs.SoundSwitches.{Good, good-valid, switched-graph, switched-good}
+use Rattle.lists.specs.Kit.{_≡_, refl, sym, _∙_, ap, subst, Bool, true, List, [], _∷_, ℕ, length}
+use Rattle.mesh.specs.{Limits.{max-neighbours}, Graph.{Link, graph, relinked, new-links, Allowed}, Tables.{Tables, graph-in}, Sound.{sound}}
+use Rattle.calls.{specs.Questions.{lengths-of, site-refusal}, specs.Switches.{Switch, switched, All-allowed}, specs.Batches.{list-length, batch-refusal}}
+use Rattle.calls.{specs.Batches.{batch-switches}, specs.Heard.{heard-lengths, hear-refusal, heard-switches}, proofs.ChainLaws.{site-zero}}
+use Rattle.calls.{proofs.Batches.{batch-allowed}, proofs.HeardCalls.{hear-right}, proofs.SoundSwitches.{Good, good-valid, switched-graph, switched-good}}
 use Rattle.walks.specs.Results.{Beginning-kept, Each-begins}
 use Rattle.walks.proofs.Kept.{beginning-kept}
 

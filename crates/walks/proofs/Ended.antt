@@ -1,23 +1,12 @@
 -- The walk's answer is the present call's: at its end the order table, from the beginning end on, is document 01's, and the radios
 -- that rise are the candidates that are left.
-use mathlib.Core.Path.{_≡_, ap, _∙_}
-use mathlib.Core.Logic.{_⊎_}
-use mathlib.Core.Bool.{Bool, true, false}
-use mathlib.Core.List.{List, [], _∷_, _++_, append-assoc}
-use Prim.Native.Nat.{ℕ, zero, suc, _+_, _≤_, _<_}
-use native.Mathlib.Omega.{arith}
-use lib.Dec.{ltb}
-use lib.ListN.{length, drop, take, take-append-drop}
-use Rattle.lists.specs.Lists.{filter, member, In}
-use Rattle.mesh.specs.Graph.{Graph, linked, relinked, Allowed}
-use Rattle.mesh.specs.Cores.{number}
-use Rattle.mesh.specs.Levels.{changed, lower-level, new-order}
-use Rattle.mesh.proofs.Links.LevelCut.{mids, highs}
-use Rattle.mesh.specs.Valid.{Valid}
+use Rattle.lists.specs.{Kit.{_≡_, ap, _∙_, _⊎_, Bool, true, false, List, [], _∷_, _++_, append-assoc, ℕ, zero, suc, _≤_, _<_, arith, ltb, length, drop, take}}
+use Rattle.lists.specs.{Kit.{take-append-drop}, Lists.{filter, member, In}}
+use Rattle.mesh.{specs.Graph.{Graph, linked, relinked, Allowed}, specs.Cores.{number}, specs.Levels.{changed, lower-level, new-order}}
+use Rattle.mesh.{proofs.Links.LevelCut.{mids, highs}, specs.Valid.{Valid}}
 use Rattle.walks.specs.Walk.{Few-front, Part, Walking}
-use Rattle.walks.proofs.Front.{few-front-right}
+use Rattle.walks.proofs.{Front.{few-front-right}, Turns.{turns-end, turns-stop}}
 use Rattle.walks.proofs.Beginning as walk-call
-use Rattle.walks.proofs.Turns.{turns-end, turns-stop}
 
 module _ (most : ℕ) (a b : ℕ) (g : Graph) (xs : List ℕ) (valid : Valid most g xs) (ok : Allowed most true a b g)
     (ps : List ℕ) (e : ℕ) (qs : List ℕ) (at : xs ≡ ps ++ e ∷ qs) (is-end : (e ≡ a) ⊎ (e ≡ b))
@@ -52,13 +41,15 @@ module _ (most : ℕ) (a b : ℕ) (g : Graph) (xs : List ℕ) (valid : Valid mos
 
     pub stopped-order : 1 ≤ front → length taken ≡ front → new-order true a b g xs ≡ ps ++ (taken ++ (drop front part ++ high))
     stopped-order l q =
-        walk-call.order-walked most a b g xs valid ok ps e qs at is-end no-end (taken ++ drop front part) [] (turns-stop (linked after) K high part pos P h q (rest-few l))
+        walk-call.order-walked most a b g xs valid ok ps e qs at is-end no-end (taken ++ drop front part) []
+        (turns-stop (linked after) K high part pos P h q (rest-few l))
         ∙ ap (λ (z : List ℕ). ps ++ z) (append-assoc taken (drop front part) high)
 
     pub stopped-changed : 1 ≤ front → length taken ≡ front → (v : ℕ) → v < g .n → member v (changed true a b g) ≡ false
     unfolding member
     stopped-changed l q v lv =
-        walk-call.changed-walked most a b g xs valid ok ps e qs at is-end no-end (taken ++ drop front part) [] (turns-stop (linked after) K high part pos P h q (rest-few l)) v lv
+        walk-call.changed-walked most a b g xs valid ok ps e qs at is-end no-end (taken ++ drop front part) []
+        (turns-stop (linked after) K high part pos P h q (rest-few l)) v lv
 
     -- the level is at its end, and no place is due
     module _ (none : (p : ℕ) → p < front → due p ≡ false) (whole : front ≡ length part) where

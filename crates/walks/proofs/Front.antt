@@ -2,19 +2,9 @@
 --   takes-then      one run of takings after another
 --   takes-front     entries with at most so many later neighbours are taken in their order: the prefix law
 --   peels-from      a peel of the level is its front, unchanged, and a peel of the rest
-use mathlib.Core.Path.{_≡_, refl, ap, _∙_}
-use mathlib.Core.Logic.{_⊎_, inl, inr}
-use mathlib.Core.Bool.{Bool}
-use mathlib.Core.List.{List, [], _∷_, _++_, append-nil, append-assoc}
-use Prim.Native.Nat.{ℕ, zero, suc, _+_, _≤_, _<_}
-use native.Mathlib.Omega.{arith}
-use lib.ListN.{length, getD, take, drop, take-append-drop}
-use lib.Seq.{drop-cons}
-use Rattle.lists.specs.Lists.{count, In}
-use Rattle.lists.proofs.Count.{count-append, count-ext}
-use Rattle.mesh.proofs.Cores.Orders.{Few-later}
-use Rattle.mesh.specs.Peel.{Takes, none, first, Peels}
-use Rattle.mesh.proofs.Links.Peel.{takes-more}
+use Rattle.lists.{specs.Kit.{_≡_, refl, ap, _∙_, inl, inr, Bool, List, [], _∷_, _++_, append-nil, append-assoc, ℕ, zero, suc, _+_, _≤_, _<_, arith, length}}
+use Rattle.lists.{specs.Kit.{getD, take, drop, take-append-drop, drop-cons}, specs.Lists.{count, In}, proofs.Count.{count-append, count-ext}}
+use Rattle.mesh.{proofs.Cores.Orders.{Few-later}, specs.Peel.{Takes, none, first, Peels}, proofs.Links.Peel.{takes-more}}
 use Rattle.walks.specs.Walk.{Few-front}
 
 module _ (f : ℕ → ℕ → Bool) (most : ℕ) (above : List ℕ) where
@@ -92,6 +82,7 @@ module _ (f : ℕ → ℕ → Bool) (most : ℕ) (above : List ℕ) where
       record { takes = takes-then t (rw (append-nil rest) at (takes-front rest [] h)); full = λ v m. absurd m }
 
   -- the part is at its end: the candidates are stuck
-  pub walk-end : {part taken : List ℕ} (held : List ℕ) → Takes f most above part taken (held ++ []) → ((v : ℕ) → In v held → most < count (f v) held + count (f v) above)
+  pub walk-end : {part taken : List ℕ} (held : List ℕ) → Takes f most above part taken (held ++ []) →
+      ((v : ℕ) → In v held → most < count (f v) held + count (f v) above)
       → Peels f most above part taken held
   walk-end held t h = record { takes = rw (append-nil held) at t; full = h }

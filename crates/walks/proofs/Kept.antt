@@ -2,35 +2,16 @@
 --   beginning-kept   the order of the definitions
 --   link-begins      after a link call
 --   commit-begins    after a committing
-use mathlib.Core.Path.{_≡_, refl, ap, _∙_}
-use mathlib.Core.Logic.{_⊎_, inl, inr}
-use mathlib.Core.Bool.{true, false}
-use mathlib.Core.List.{List, [], _∷_, _++_}
-use Prim.Native.Nat.{ℕ}
-use lib.Dec.{eqb}
-use lib.IntN.{ℤ}
-use lib.ListN.{length, getD, take}
-use lib.Seq.{take-at, getD-at}
-use borrow.Author.Tests.{eqb-true, eqb-false}
-use Rattle.mesh.specs.Limits.{max-neighbours}
-use Rattle.lists.specs.Lists.{In}
-use Rattle.mesh.specs.Graph.{Graph, Allowed}
-use Rattle.mesh.specs.Cores.{number}
-use Rattle.mesh.specs.Levels.{new-order}
-use Rattle.mesh.specs.Tables.{Tables, graph-in}
-use Rattle.mesh.specs.Sound.{sound}
-use Rattle.mesh.specs.Valid.{Valid}
-use Rattle.lists.proofs.Tests.{bool-cases}
-use Rattle.lists.proofs.Range.{once-in}
-use Rattle.mesh.proofs.Cores.KOrders.{k-order-certificate}
-use Rattle.mesh.proofs.Images.Tables.{valid-graph-in}
-use Rattle.calls.specs.Questions.{lengths-of, link-refusal}
-use Rattle.calls.specs.Switches.{switched}
-use Rattle.calls.specs.Outcomes.{Linked, Committed, link-outcome, commit-outcome}
-use Rattle.calls.proofs.ChainLaws.{link-zero, commit-zero}
-use Rattle.calls.proofs.ContractLaws.{accepted-is}
+use Rattle.lists.{specs.Kit.{_≡_, refl, ap, _∙_, _⊎_, inl, inr, true, false, List, [], _∷_, _++_, ℕ, eqb, ℤ, length, getD, take, take-at, getD-at, eqb-true}}
+use Rattle.lists.{specs.Kit.{eqb-false}, specs.Lists.{In}, proofs.Tests.{bool-cases}, proofs.Range.{once-in}}
+use Rattle.mesh.{specs.Limits.{max-neighbours}, specs.Graph.{Graph, Allowed}, specs.Cores.{number}, specs.Levels.{new-order}, specs.Tables.{Tables, graph-in}}
+use Rattle.mesh.{specs.Sound.{sound}, specs.Valid.{Valid}, proofs.Cores.KOrders.{k-order-certificate}, proofs.Images.Tables.{valid-graph-in}}
+use Rattle.calls.{specs.Questions.{lengths-of}, specs.Switches.{switched}, specs.Outcomes.{Linked, Tabled, link-outcome, commit-outcome}}
+use Rattle.calls.{proofs.ChainLaws.{link-zero, commit-zero}, proofs.ContractLaws.{accepted-is}}
 use Rattle.walks.specs.Results.{before-ends, Beginning-kept}
 use Rattle.walks.proofs.Beginning as beginning
+use Rattle.calls.specs.declared.Reply.{Reply}
+use Rattle.calls.specs.Chains.{link-refusal}
 
 -- a list cut at the first end that it has
 pub record Cut (a b : ℕ) (xs : List ℕ) : Type 0 where
@@ -82,10 +63,10 @@ beginning-kept a b g xs valid ok = at (cut-at a b xs (once-in (g .n) xs (k-order
 pub link-begins :
     (n a b : ℕ) (t : Tables) (w : List ℕ) → let o = link-outcome true n a b t w in
     o .reply .number ≡ 0 → Beginning-kept a b (graph-in n (t .links)) (t .order) (o .tables .order)
-unfolding link-outcome link-refusal switched graph-in sound
+unfolding link-outcome switched graph-in sound
 link-begins n a b t w z =
     let g = graph-in n (t .links) in
-    let c = accepted-is (λ (o : Linked). o .reply .number) (link-outcome true n a b t w) _ _ _ (λ q. refl) refl z in
+    let c = accepted-is (λ (o : Linked Reply). o .reply .number) (link-outcome true n a b t w) _ _ _ (λ q. refl) refl z in
     let good = link-zero true a b (lengths-of t) (length w) (sound n t) g (c .0) in
     rw (c .1) (beginning-kept a b g (t .order) (valid-graph-in max-neighbours n t (good .0 .lent .most) (good .0 .is-sound)) (good .1))
 
@@ -95,6 +76,6 @@ pub commit-begins :
 unfolding commit-outcome switched graph-in sound
 commit-begins n a b z xs t y =
     let g = graph-in n (t .links) in
-    let c = accepted-is (λ (o : Committed). o .reply .number) (commit-outcome true n a b z xs t) _ _ _ (λ q. refl) refl y in
+    let c = accepted-is (λ (o : Tabled Reply). o .reply .number) (commit-outcome true n a b z xs t) _ _ _ (λ q. refl) refl y in
     let good = commit-zero true a b z xs (lengths-of t) (sound n t) g (c .0) in
     rw (c .1) (beginning-kept a b g (t .order) (valid-graph-in max-neighbours n t (good .0 .lent .most) (good .0 .is-sound)) (good .1))

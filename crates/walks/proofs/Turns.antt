@@ -5,28 +5,16 @@
 --   Held         what holding x writes: its counter, and its later neighbours of the part are due
 --   turn-leave   x is taken
 --   turn-hold    x is held
-use mathlib.Core.Path.{_≡_, refl, sym, ap, _∙_}
-use mathlib.Core.Logic.{_⊎_, inl, inr}
-use mathlib.Core.Bool.{Bool, true, false, not, _&&_, cond}
-use mathlib.Core.List.{List, [], _∷_, _++_, append-nil, append-assoc}
-use Prim.Native.Nat.{ℕ, zero, suc, _+_, _-_, _≤_, _<_}
-use native.Mathlib.Omega.{arith}
-use native.Mathlib.Nat.{add-zero, add-suc, le-antisymm}
-use lib.Dec.{ltb, leb, eqb}
-use lib.ListN.{length, getD, take, drop, length-drop, length-append, take-append-drop, drop-of-length-le}
-use lib.Seq.{drop-cons, getD-drop, take-at, take-all, take-suc}
-use borrow.Author.Tests.{leb-true, leb-false, le-leb, lt-leb, eqb-true, eqb-false, ltb-true, ltb-false, lt-ltb, le-ltb, not-true}
-use Rattle.lists.specs.Lists.{range, count, filter, member, In}
-use Rattle.lists.specs.Facts.{Distinct, Rising}
-use Rattle.lists.proofs.Tests.{bool-cases, never, and-left, and-right, and-both, bit-true, bit-false}
-use Rattle.lists.proofs.Member.{in-left, in-right, in-cases, in-drop, split-in, member-in, in-member, not-member, getD-of-in, in-getD}
-use Rattle.lists.proofs.Count.{count-append, count-mid, count-none, count-all}
-use Rattle.lists.proofs.Filter.{filter-all, filter-none, filter-ext, filter-append}
-use Rattle.lists.proofs.Distinct.{count-sub, distinct-left, distinct-mid, distinct-right, distinct-apart, permutation-in, permutation-distinct}
-use Rattle.lists.proofs.Range.{in-range, range-in, distinct-range}
-use Rattle.mesh.specs.Peel.{Takes, none, Peels}
-use Rattle.mesh.proofs.Links.Peel.{takes-permutation, takes-now-in, takes-now-filter}
-use Rattle.lists.proofs.Ascending.{rising-filter, rising-before}
+use Rattle.lists.{specs.Kit.{_≡_, refl, sym, ap, _∙_, _⊎_, inl, inr, Bool, true, false, not, _&&_, cond, List, [], _∷_, _++_, append-nil, append-assoc, ℕ}}
+use Rattle.lists.{specs.Kit.{zero, suc, _+_, _≤_, _<_, arith, add-zero, add-suc, le-antisymm, ltb, leb, eqb, length, getD, take, drop, length-drop}}
+use Rattle.lists.{specs.Kit.{length-append, take-append-drop, drop-of-length-le, drop-cons, getD-drop, take-at, take-all, take-suc, leb-true, leb-false}}
+use Rattle.lists.{specs.Kit.{le-leb, lt-leb, eqb-true, eqb-false, ltb-true, ltb-false, lt-ltb, le-ltb, not-true}, specs.Lists.{range, count, filter, member}}
+use Rattle.lists.{specs.Lists.{In}, specs.Facts.{Distinct, Rising}, proofs.Tests.{bool-cases, never, and-left, and-right, and-both, bit-true, bit-false}}
+use Rattle.lists.{proofs.Member.{in-left, in-right, in-cases, in-drop, split-in, member-in, in-member, not-member, getD-of-in, in-getD}}
+use Rattle.lists.{proofs.Count.{count-append, count-mid, count-none, count-all}, proofs.Filter.{filter-all, filter-none, filter-ext, filter-append}}
+use Rattle.lists.{proofs.Distinct.{count-sub, distinct-left, distinct-mid, distinct-right, distinct-apart, permutation-in, permutation-distinct}}
+use Rattle.lists.{proofs.Range.{in-range, range-in, distinct-range}, proofs.Ascending.{rising-filter, rising-before}}
+use Rattle.mesh.{specs.Peel.{Takes, none, Peels}, proofs.Links.Peel.{takes-permutation, takes-now-in, takes-now-filter}}
 use Rattle.walks.specs.Walk.{Part, left-of, Walking, Few-front}
 use Rattle.walks.proofs.Front.{walk-back, walk-take, walk-hold, walk-stop, walk-end}
 

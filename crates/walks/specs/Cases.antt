@@ -1,6 +1,6 @@
 -- The worked case of the walk: where the paper lays a radio elsewhere, document 01's order is kept. That the row is right is `cases-right` in
 -- proofs/Cases.antt. Definitions only.
-use mathlib.Core.List.{List, [], _∷_}
+use Rattle.lists.specs.Kit.{List, [], _∷_}
 use Rattle.calls.specs.Worked.{up, risen, unchanged, last-answers, all-numbers, whole-order, Row, row}
 
 -- 5 radios, links 1-2, 1-4, 0-3, 0-2, 1-3, 3-4, and last 0-4. The last call takes candidates back, the first in the order first; document

@@ -3,17 +3,8 @@
 --   Beginning-kept       these stand as they stood; the entry after them is the beginning end, the lower one, with equal numbers the earlier
 --   Each-begins          so it is of each link that goes up, of links taken up and down one after the other: of a batch, and of a hearing
 -- Definitions only.
-use mathlib.Core.Path.{_≡_}
-use mathlib.Core.Logic.{_⊎_}
-use mathlib.Core.Bool.{true, _||_, cond}
-use mathlib.Core.List.{List, [], _∷_}
-use Prim.Native.Nat.{ℕ}
-use lib.Dec.{eqb}
-use lib.ListN.{length, getD, take}
-use Rattle.mesh.specs.Graph.{Graph}
-use Rattle.mesh.specs.Cores.{number}
-use Rattle.mesh.specs.Levels.{lower-level}
-use Rattle.mesh.specs.Tables.{Tables, graph-in}
+use Rattle.lists.specs.Kit.{_≡_, _⊎_, true, _||_, cond, List, [], _∷_, ℕ, eqb, length, getD, take}
+use Rattle.mesh.specs.{Graph.{Graph}, Cores.{number}, Levels.{lower-level}, Tables.{Tables, graph-in}}
 use Rattle.calls.specs.Switches.{Switch, switched}
 
 -- the entries before the first end of the link a-b

@@ -6,14 +6,8 @@
 --   left-of           a radio's neighbours that are candidates, not yet looked at, or above
 --   Walking           so many radios are taken, how far the front is, the candidates, their counters and the places due
 -- Laws are in proofs/Turns.antt. Definitions only.
-use mathlib.Core.Path.{_≡_}
-use mathlib.Core.Bool.{Bool, true, false}
-use mathlib.Core.List.{List, [], _∷_, _++_}
-use Prim.Native.Nat.{ℕ, _+_, _≤_, _<_}
-use lib.Dec.{leb}
-use lib.ListN.{length, getD, drop}
-use Rattle.lists.specs.Lists.{count, member, In}
-use Rattle.lists.specs.Facts.{Distinct, Rising}
+use Rattle.lists.specs.{Kit.{_≡_, Bool, true, false, List, [], _∷_, _++_, ℕ, _+_, _≤_, _<_, leb, length, getD, drop}, Lists.{count, member, In}}
+use Rattle.lists.specs.{Facts.{Distinct, Rising}}
 use Rattle.mesh.specs.Peel.{Takes}
 
 -- f tells neighbours after the call, pos where a radio stands in the part

@@ -1,29 +1,23 @@
 -- `come_back` meets its contract: a refusal touches nothing; accepted, the mark's image is read from its part of the store.
-use native.Mathlib.Omega.{arith}
-use borrow.Author.Needs.{needs}
-use borrow.Author.Tests.{not-true, not-false}
+use Rattle.lists.specs.Kit.{arith, needs, not-true, not-false}
 use Rattle.mesh.specs.Tables.{tables}
-use Rattle.marks.proofs.CallLaws.{return-refused, return-absent, returned, fits, spotted, below}
-use Rattle.marks.proofs.come_back.Statement.{statement}
-use Rattle.marks.proofs.come_back.Tie as tie
+use Rattle.marks.proofs.{CallLaws.{return-refused, return-absent, returned, fits, spotted, below}, come_back.{Statement.{statement}, Tie.{close, spec}}}
 
-returns : tie.Need-returns
-returns c =
+pub come-back-spec : {M : Type 1} → statement M
+come-back-spec = close (spec (λ c κs. search needs) (λ c. search needs) (λ c. search needs) (λ c. search needs)
+    (λ c.
     let a = c .before .before .before .before .before .before .before .before .before .before .before .args in
     let spot = c .before .before .spot-of in
     return-refused (a .n) (a .name .now) (tables (a .links .now) (a .numbers .now) (a .order .now)) (a .kept .now) _
-    (spot .ensures .0) (c .if1 .taken)
-
-returns-2 : tie.Need-returns-2
-returns-2 c =
+    (spot .ensures .0) (c .if1 .taken))
+    (λ c. search needs) (λ c. search needs) (λ c. search needs)
+    (λ c.
     let a = c .before .before .before .before .before .before .before .before .before .before .before .before .before .args in
     let spot = c .before .before .before .before .spot-of in
     let zero = c .before .before .if1 .left in
     return-absent (a .n) (a .name .now) (tables (a .links .now) (a .numbers .now) (a .order .now)) (a .kept .now) _
-    (spot .ensures .0) zero _ _ _ (spot .ensures .1 zero) (not-true _ (c .if2 .taken))
-
-mul-at : tie.Need-mul-at
-mul-at c =
+    (spot .ensures .0) zero _ _ _ (spot .ensures .1 zero) (not-true _ (c .if2 .taken)))
+    (λ c.
     let else2 = c .before in
     let a = c .before .before .before .before .before .before .before .before .before .before .before .before .before .before .args in
     let spot = c .before .before .before .before .before .spot-of in
@@ -31,10 +25,8 @@ mul-at c =
     let t = tables (a .links .now) (a .numbers .now) (a .order .now) in
     let s = spotted (a .n) (a .name .now) t (a .kept .now) _ (spot .ensures .0) zero _ _ _ (spot .ensures .1 zero) in
     let b = below (a .n) (a .name .now) t (a .kept .now) _ (spot .ensures .0) zero _ _ _ (spot .ensures .1 zero) (not-false _ (else2 .if2 .left)) in
-    record { fits = omega (arith, s .few, b) }
-
-add-end : tie.Need-add-end
-add-end c =
+    record { fits = omega (arith, s .few, b) })
+    (λ c.
     let else2 = c .before in
     let a = c .before .before .before .before .before .before .before .before .before .before .before .before .before .before .args in
     let spot = c .before .before .before .before .before .spot-of in
@@ -42,10 +34,8 @@ add-end c =
     let t = tables (a .links .now) (a .numbers .now) (a .order .now) in
     let s = spotted (a .n) (a .name .now) t (a .kept .now) _ (spot .ensures .0) zero _ _ _ (spot .ensures .1 zero) in
     let b = below (a .n) (a .name .now) t (a .kept .now) _ (spot .ensures .0) zero _ _ _ (spot .ensures .1 zero) (not-false _ (else2 .if2 .left)) in
-    record { fits = omega (arith, s .few, b) }
-
-add-from : tie.Need-add-from
-add-from c =
+    record { fits = omega (arith, s .few, b) })
+    (λ c.
     let else2 = c .before in
     let a = c .before .before .before .before .before .before .before .before .before .before .before .before .before .before .args in
     let spot = c .before .before .before .before .before .spot-of in
@@ -53,10 +43,9 @@ add-from c =
     let t = tables (a .links .now) (a .numbers .now) (a .order .now) in
     let s = spotted (a .n) (a .name .now) t (a .kept .now) _ (spot .ensures .0) zero _ _ _ (spot .ensures .1 zero) in
     let b = below (a .n) (a .name .now) t (a .kept .now) _ (spot .ensures .0) zero _ _ _ (spot .ensures .1 zero) (not-false _ (else2 .if2 .left)) in
-    record { fits = omega (arith, s .few, b) }
-
-part-image-size-end : tie.Need-part-image-size-end
-part-image-size-end c =
+    record { fits = omega (arith, s .few, b) })
+    (λ c. search needs) (λ c. search needs)
+    (λ c.
     let else2 = c .before in
     let a = c .before .before .before .before .before .before .before .before .before .before .before .before .before .before .args in
     let spot = c .before .before .before .before .before .spot-of in
@@ -64,10 +53,9 @@ part-image-size-end c =
     let t = tables (a .links .now) (a .numbers .now) (a .order .now) in
     let s = spotted (a .n) (a .name .now) t (a .kept .now) _ (spot .ensures .0) zero _ _ _ (spot .ensures .1 zero) in
     let b = below (a .n) (a .name .now) t (a .kept .now) _ (spot .ensures .0) zero _ _ _ (spot .ensures .1 zero) (not-false _ (else2 .if2 .left)) in
-    omega (arith, s .long, s .few, b)
-
-add-to : tie.Need-add-to
-add-to c =
+    omega (arith, s .long, s .few, b))
+    (λ c κs. search needs)
+    (λ c.
     let sized = c in
     let else2 = c .before .before .before in
     let a = c .before .before .before .before .before .before .before .before .before .before .before .before .before .before .before .before .args in
@@ -76,14 +64,14 @@ add-to c =
     let t = tables (a .links .now) (a .numbers .now) (a .order .now) in
     let s = spotted (a .n) (a .name .now) t (a .kept .now) _ (spot .ensures .0) zero _ _ _ (spot .ensures .1 zero) in
     let b = below (a .n) (a .name .now) t (a .kept .now) _ (spot .ensures .0) zero _ _ _ (spot .ensures .1 zero) (not-false _ (else2 .if2 .left)) in
-    record { fits = omega (arith, s .few, b, sized .image-size .ensures .1) }
-
-part-read-end : tie.Need-part-read-end
-part-read-end c =
+    record { fits = omega (arith, s .few, b, sized .image-size .ensures .1) })
+    (λ c. search needs) (λ c. search needs)
+    (λ c.
     let sized = c .before .before .before in
     let else2 = c .before .before .before .before .before .before in
     let a =
-    c .before .before .before .before .before .before .before .before .before .before .before .before .before .before .before .before .before .before .before .args
+    c .before .before .before .before .before .before .before .before .before .before .before .before .before .before .before .before .before .before .before
+    .args
     in
     let spot = c .before .before .before .before .before .before .before .before .before .before .spot-of in
     let zero = c .before .before .before .before .before .before .before .before .if1 .left in
@@ -92,15 +80,15 @@ part-read-end c =
     let b = below (a .n) (a .name .now) t (a .kept .now) _ (spot .ensures .0) zero _ _ _ (spot .ensures .1 zero) (not-false _ (else2 .if2 .left)) in
     let f = fits (a .n) (a .name .now) t (a .kept .now) _ (spot .ensures .0) zero _ _ _ (spot .ensures .1 zero) (not-false _ (else2 .if2 .left))
     (sized .image-size .result) (sized .image-size .ensures .0) in
-    omega (arith, s .long, s .few, b, f)
-
-returns-3 : tie.Need-returns-3
-returns-3 c =
+    omega (arith, s .long, s .few, b, f))
+    (λ c κs. search needs) (λ c. search needs) (λ c. search needs) (λ c. search needs)
+    (λ c.
     let done = c .before .before .before .before .before .before in
     let sized = c .before .before .before .before .before .before .before .before .before .before .before in
     let else2 = c .before .before .before .before .before .before .before .before .before .before .before .before .before .before in
     let a =
-    c .before .before .before .before .before .before .before .before .before .before .before .before .before .before .before .before .before .before .before .before .before .before .before .before .before .before .before .args
+    c .before .before .before .before .before .before .before .before .before .before .before .before .before .before .before .before .before .before .before
+    .before .before .before .before .before .before .before .before .args
     in
     let spot =
     c .before .before .before .before .before .before .before .before .before .before .before .before .before .before .before .before .before .before .spot-of
@@ -109,12 +97,4 @@ returns-3 c =
     let t = tables (a .links .now) (a .numbers .now) (a .order .now) in
     returned (a .n) (a .name .now) t (a .kept .now) _ (spot .ensures .0) zero _ _ _ (spot .ensures .1 zero) (not-false _ (else2 .if2 .left))
     (sized .image-size .result)
-    (sized .image-size .ensures .0) (done .read .result) _ (done .read .ensures)
-
-pub come-back-spec : {M : Type 1} → statement M
-come-back-spec =
-    tie.close (
-    tie.spec (λ c κs. search needs) (λ c. search needs) (λ c. search needs) (λ c. search needs) returns
-    (λ c. search needs) (λ c. search needs) (λ c. search needs) returns-2 mul-at add-end add-from (λ c. search needs) (λ c. search needs) part-image-size-end
-    (λ c κs. search needs) add-to (λ c. search needs) (λ c. search needs) part-read-end (λ c κs. search needs) (λ c. search needs) (λ c. search needs)
-    (λ c. search needs) returns-3)
+    (sized .image-size .ensures .0) (done .read .result) _ (done .read .ensures)))

@@ -1,39 +1,26 @@
 -- `remove` meets its contract: a refusal touches nothing; accepted, later places move down and the last used one is zeroed.
-use mathlib.Core.Path.{_≡_, ap, _∙_}
-use mathlib.Core.List.{List}
-use Prim.Native.Nat.{ℕ, _+_, _*_, _-_}
-use native.Mathlib.Omega.{arith}
-use lib.ListN.{length, drop, replicate, length-drop}
-use lib.Seq.{length-take-le}
-use borrow.Author.Needs.{needs}
-use borrow.Author.Tests.{not-true, not-false}
+use Rattle.lists.specs.Kit.{_≡_, ap, _∙_, List, ℕ, _+_, _*_, _-_, arith, length, drop, replicate, length-drop, length-take-le, needs, not-true, not-false}
 use borrow.Rule.Slice.PartMut.{midOf}
-use Rattle.mesh.specs.Marks.{place-bytes}
-use Rattle.mesh.specs.Tables.{tables}
+use Rattle.mesh.specs.{Marks.{place-bytes}, Tables.{tables}}
 use Rattle.marks.specs.Placing.{put-place}
-use Rattle.marks.proofs.Moving.{length-moved-down}
-use Rattle.marks.proofs.Placed.{placed-at}
-use Rattle.marks.proofs.CallLaws.{remove-refused, remove-absent, removed, spotted, below}
-use Rattle.marks.proofs.remove.Statement.{statement}
-use Rattle.marks.proofs.remove.Tie as tie
+use Rattle.marks.proofs.{Moving.{length-moved-down}, Placed.{placed-at}, CallLaws.{remove-refused, remove-absent, removed, spotted, below}}
+use Rattle.marks.proofs.remove.{Statement.{statement}, Tie.{close, spec}}
 
-returns : tie.Need-returns
-returns c =
+pub remove-spec : {M : Type 1} → statement M
+remove-spec = close (spec (λ c κs. search needs) (λ c. search needs)
+    (λ c.
     let a = c .before .before .before .before .before .before .before .before .before .args in
     let spot = c .before .before .spot-of in
     let t = tables (a .links .now) (a .numbers .now) (a .order .now) in
-    remove-refused (a .n) (a .name .now) t (a .kept .now) _ (spot .ensures .0) (c .if1 .taken)
-
-returns-2 : tie.Need-returns-2
-returns-2 c =
+    remove-refused (a .n) (a .name .now) t (a .kept .now) _ (spot .ensures .0) (c .if1 .taken))
+    (λ c. search needs)
+    (λ c.
     let a = c .before .before .before .before .before .before .before .before .before .before .before .args in
     let spot = c .before .before .before .before .spot-of in
     let zero = c .before .before .if1 .left in
     let t = tables (a .links .now) (a .numbers .now) (a .order .now) in
-    remove-absent (a .n) (a .name .now) t (a .kept .now) _ (spot .ensures .0) zero _ _ _ (spot .ensures .1 zero) (not-true _ (c .if2 .taken))
-
-add-move-down : tie.Need-add-move-down
-add-move-down c =
+    remove-absent (a .n) (a .name .now) t (a .kept .now) _ (spot .ensures .0) zero _ _ _ (spot .ensures .1 zero) (not-true _ (c .if2 .taken)))
+    (λ c.
     let else2 = c .before .before in
     let a = c .before .before .before .before .before .before .before .before .before .before .before .before .before .args in
     let spot = c .before .before .before .before .before .before .spot-of in
@@ -41,10 +28,8 @@ add-move-down c =
     let t = tables (a .links .now) (a .numbers .now) (a .order .now) in
     let s = spotted (a .n) (a .name .now) t (a .kept .now) _ (spot .ensures .0) zero _ _ _ (spot .ensures .1 zero) in
     let b = below (a .n) (a .name .now) t (a .kept .now) _ (spot .ensures .0) zero _ _ _ (spot .ensures .1 zero) (not-false _ (else2 .if2 .left)) in
-    record { fits = omega (arith, s .few, b) }
-
-mul-move-down : tie.Need-mul-move-down
-mul-move-down c =
+    record { fits = omega (arith, s .few, b) })
+    (λ c.
     let else2 = c .before .before in
     let a = c .before .before .before .before .before .before .before .before .before .before .before .before .before .args in
     let spot = c .before .before .before .before .before .before .spot-of in
@@ -52,10 +37,8 @@ mul-move-down c =
     let t = tables (a .links .now) (a .numbers .now) (a .order .now) in
     let s = spotted (a .n) (a .name .now) t (a .kept .now) _ (spot .ensures .0) zero _ _ _ (spot .ensures .1 zero) in
     let b = below (a .n) (a .name .now) t (a .kept .now) _ (spot .ensures .0) zero _ _ _ (spot .ensures .1 zero) (not-false _ (else2 .if2 .left)) in
-    record { fits = omega (arith, s .few, b) }
-
-mul-move-down-2 : tie.Need-mul-move-down-2
-mul-move-down-2 c =
+    record { fits = omega (arith, s .few, b) })
+    (λ c.
     let else2 = c .before .before .before in
     let a = c .before .before .before .before .before .before .before .before .before .before .before .before .before .before .args in
     let spot = c .before .before .before .before .before .before .before .spot-of in
@@ -63,10 +46,8 @@ mul-move-down-2 c =
     let t = tables (a .links .now) (a .numbers .now) (a .order .now) in
     let s = spotted (a .n) (a .name .now) t (a .kept .now) _ (spot .ensures .0) zero _ _ _ (spot .ensures .1 zero) in
     let b = below (a .n) (a .name .now) t (a .kept .now) _ (spot .ensures .0) zero _ _ _ (spot .ensures .1 zero) (not-false _ (else2 .if2 .left)) in
-    record { fits = omega (arith, s .few, b) }
-
-move-down-requires : tie.Need-move-down-requires
-move-down-requires c κs =
+    record { fits = omega (arith, s .few, b) })
+    (λ c κs.
     let else2 = c .before .before .before in
     let a = c .before .before .before .before .before .before .before .before .before .before .before .before .before .before .args in
     let spot = c .before .before .before .before .before .before .before .spot-of in
@@ -74,10 +55,8 @@ move-down-requires c κs =
     let t = tables (a .links .now) (a .numbers .now) (a .order .now) in
     let s = spotted (a .n) (a .name .now) t (a .kept .now) _ (spot .ensures .0) zero _ _ _ (spot .ensures .1 zero) in
     let b = below (a .n) (a .name .now) t (a .kept .now) _ (spot .ensures .0) zero _ _ _ (spot .ensures .1 zero) (not-false _ (else2 .if2 .left)) in
-    (omega arith, omega (arith, b), omega (arith, s .long, s .few))
-
-sub-last : tie.Need-sub-last
-sub-last c =
+    (omega arith, omega (arith, b), omega (arith, s .long, s .few)))
+    (λ c.
     let moved = c .before .before .before in
     let else2 = c .before .before .before .before .before .before .before in
     let a =
@@ -88,10 +67,8 @@ sub-last c =
     let t = tables (a .links .now) (a .numbers .now) (a .order .now) in
     let s = spotted (a .n) (a .name .now) t (a .kept .now) _ (spot .ensures .0) zero _ _ _ (spot .ensures .1 zero) in
     let b = below (a .n) (a .name .now) t (a .kept .now) _ (spot .ensures .0) zero _ _ _ (spot .ensures .1 zero) (not-false _ (else2 .if2 .left)) in
-    omega (arith, b)
-
-mul-last : tie.Need-mul-last
-mul-last c =
+    omega (arith, b))
+    (λ c.
     let moved = c .before .before .before in
     let else2 = c .before .before .before .before .before .before .before in
     let a =
@@ -102,10 +79,8 @@ mul-last c =
     let t = tables (a .links .now) (a .numbers .now) (a .order .now) in
     let s = spotted (a .n) (a .name .now) t (a .kept .now) _ (spot .ensures .0) zero _ _ _ (spot .ensures .1 zero) in
     let b = below (a .n) (a .name .now) t (a .kept .now) _ (spot .ensures .0) zero _ _ _ (spot .ensures .1 zero) (not-false _ (else2 .if2 .left)) in
-    record { fits = omega (arith, s .few, b) }
-
-add-end : tie.Need-add-end
-add-end c =
+    record { fits = omega (arith, s .few, b) })
+    (λ c.
     let moved = c .before .before .before in
     let else2 = c .before .before .before .before .before .before .before in
     let a =
@@ -116,10 +91,9 @@ add-end c =
     let t = tables (a .links .now) (a .numbers .now) (a .order .now) in
     let s = spotted (a .n) (a .name .now) t (a .kept .now) _ (spot .ensures .0) zero _ _ _ (spot .ensures .1 zero) in
     let b = below (a .n) (a .name .now) t (a .kept .now) _ (spot .ensures .0) zero _ _ _ (spot .ensures .1 zero) (not-false _ (else2 .if2 .left)) in
-    record { fits = omega (arith, s .few, b) }
-
-part-fill8-end : tie.Need-part-fill8-end
-part-fill8-end c =
+    record { fits = omega (arith, s .few, b) })
+    (λ c. search needs) (λ c. search needs)
+    (λ c.
     let moved = c .before .before .before in
     let else2 = c .before .before .before .before .before .before .before in
     let a =
@@ -132,15 +106,15 @@ part-fill8-end c =
     let b = below (a .n) (a .name .now) t (a .kept .now) _ (spot .ensures .0) zero _ _ _ (spot .ensures .1 zero) (not-false _ (else2 .if2 .left)) in
     let long = ap length (moved .move-down .ensures) ∙ length-moved-down (a .kept .now) _ _ (omega arith) (omega (arith, b))
     (omega (arith, s .long, s .few)) ∙ s .long in
-    omega (arith, long, s .few, b)
-
-returns-3 : tie.Need-returns-3
-returns-3 c =
+    omega (arith, long, s .few, b))
+    (λ c κs. search needs) (λ c. search needs)
+    (λ c.
     let zeroed = c .before .before in
     let moved = c .before .before .before .before .before .before .before in
     let else2 = c .before .before .before .before .before .before .before .before .before .before .before in
     let a =
-    c .before .before .before .before .before .before .before .before .before .before .before .before .before .before .before .before .before .before .before .before .before .before .args
+    c .before .before .before .before .before .before .before .before .before .before .before .before .before .before .before .before .before .before .before
+    .before .before .before .args
     in
     let spot = c .before .before .before .before .before .before .before .before .before .before .before .before .before .before .before .spot-of in
     let zero = c .before .before .before .before .before .before .before .before .before .before .before .before .before .if1 .left in
@@ -157,11 +131,4 @@ returns-3 c =
     (rw e (length-take-le place-bytes (drop (place-bytes * i) ds) (omega (arith, length-drop (place-bytes * i) ds, long, s .few, b))))
     (placed-at ds i (zeroed .fill8 .last .0) _ (zeroed .fill8 .ensures)
     ∙ ap (λ (os : List ℕ). put-place os i (replicate (length (midOf (place-bytes * i) (place-bytes * i + place-bytes - place-bytes * i) ds)) 0))
-    (moved .move-down .ensures))
-
-pub remove-spec : {M : Type 1} → statement M
-remove-spec =
-    tie.close (
-    tie.spec (λ c κs. search needs) (λ c. search needs) returns (λ c. search needs) returns-2 add-move-down mul-move-down
-    mul-move-down-2 move-down-requires sub-last mul-last add-end (λ c. search needs) (λ c. search needs) part-fill8-end (λ c κs. search needs)
-    (λ c. search needs) returns-3)
+    (moved .move-down .ensures))))

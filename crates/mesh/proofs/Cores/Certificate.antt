@@ -1,24 +1,11 @@
 -- The order is a certificate: numbers that meet the local conditions along an order are the core numbers.
 -- Why: the first member, in the order, of any group has all its group neighbours later, so the group's k is at most that
 -- member's number, which is at most any later member's; and the radios numbered k or more are a group.
-use mathlib.Core.Path.{_≡_, refl}
-use mathlib.Core.Logic.{_⊎_, inl, inr}
-use mathlib.Core.Bool.{Bool, true, false, _&&_, and-false}
-use mathlib.Core.List.{List, [], _∷_}
-use Prim.Native.Nat.{ℕ, _≤_, _<_}
-use native.Mathlib.Omega.{arith}
-use native.Mathlib.Nat.{le-antisymm, le-trans, le-refl, le-of-eq}
-use lib.Dec.{leb}
-use borrow.Author.Tests.{leb-true, le-leb}
-use Rattle.lists.specs.Lists.{count, In}
-use Rattle.lists.specs.Facts.{Each-once, Rising}
-use Rattle.mesh.specs.Graph.{Graph, linked}
-use Rattle.mesh.specs.Cores.{Group, Core}
-use Rattle.lists.proofs.Tests.{bool-cases, never, bit-false, and-left}
-use Rattle.lists.proofs.Count.{count-mono}
-use Rattle.lists.proofs.Range.{once-in, once-below}
-use Rattle.mesh.proofs.GraphLaws.{neighbours-in-list, neighbours-in-subset}
-use Rattle.mesh.proofs.Cores.Orders.{Few-later, Enough}
+use Rattle.lists.{specs.Kit.{_≡_, refl, _⊎_, inl, inr, Bool, true, false, _&&_, and-false, List, [], _∷_, ℕ, _≤_, _<_, arith, le-antisymm, le-trans, le-refl}}
+use Rattle.lists.{specs.Kit.{le-of-eq, leb, leb-true, le-leb}, specs.Lists.{count, In}, specs.Facts.{Each-once, Rising}, proofs.Tests.{bool-cases, never}}
+use Rattle.lists.{proofs.Tests.{bit-false, and-left}, proofs.Count.{count-mono}, proofs.Range.{once-in, once-below}}
+use Rattle.mesh.specs.{Graph.{Graph, linked}, Cores.{Group, Core}}
+use Rattle.mesh.proofs.{GraphLaws.{neighbours-in-list, neighbours-in-subset}, Cores.Orders.{Few-later, Enough}}
 
 -- the local conditions on numbers and order
 pub record Certificate (g : Graph) (num : ℕ → ℕ) (xs : List ℕ) : Type 0 where

@@ -1,18 +1,9 @@
 -- A k-order is a certificate of the core numbers, and a certificate is a k-order.
-use mathlib.Core.Path.{_≡_, sym}
-use mathlib.Core.Bool.{true, false, _&&_}
-use mathlib.Core.List.{List}
-use Prim.Native.Nat.{ℕ, _<_}
-use native.Mathlib.Nat.{le-of-eq}
-use Rattle.mesh.specs.Graph.{Graph, linked}
-use Rattle.mesh.specs.Cores.{number}
-use Rattle.mesh.specs.Orders.{each-once, rising, few-later, is-k-order}
-use Rattle.lists.proofs.Tests.{and-left, and-right, and-both}
-use Rattle.lists.proofs.Range.{once-below}
-use Rattle.mesh.proofs.Cores.Orders.{each-once-of, of-each-once, rising-of, of-rising, few-later-of, of-few-later, few-later-cong}
-use Rattle.lists.proofs.Ascending.{rising-cong}
-use Rattle.mesh.proofs.Cores.Certificate.{Certificate, certificate-core, core-enough}
-use Rattle.mesh.proofs.Cores.Peeling.{number-core, number-unique}
+use Rattle.lists.{specs.Kit.{_≡_, sym, true, false, _&&_, List, ℕ, _<_, le-of-eq}, proofs.Tests.{and-left, and-right, and-both}, proofs.Range.{once-below}}
+use Rattle.lists.{proofs.Ascending.{rising-cong}}
+use Rattle.mesh.specs.{Graph.{Graph, linked}, Cores.{number}, Orders.{each-once, rising, few-later, is-k-order}}
+use Rattle.mesh.proofs.Cores.{Orders.{each-once-of, of-each-once, rising-of, of-rising, few-later-of, of-few-later, few-later-cong}}
+use Rattle.mesh.proofs.Cores.{Certificate.{Certificate, certificate-core, core-enough}, Peeling.{number-core, number-unique}}
 
 pub k-order-certificate : (g : Graph) (xs : List ℕ) → is-k-order g xs ≡ true → Certificate g (number g) xs
 unfolding is-k-order

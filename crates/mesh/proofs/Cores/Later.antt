@@ -1,23 +1,12 @@
 -- The neighbours of a radio that stand after it in an order.
---   length-later-in     how many: what `few-later` bounds
 --   later-in-at         they are the neighbours among the entries after its place
 --   in-later-in         each stands in the order
 --   first-is-first      the first of them is a neighbour, and there is none between
 --   nobody-none         nobody exactly when there are none
-use mathlib.Core.Path.{_≡_, refl, sym, ap, _∙_}
-use mathlib.Core.Logic.{_⊎_, inl, inr, _↔_}
-use mathlib.Core.Bool.{Bool, true, false}
-use mathlib.Core.List.{List, [], _∷_, _++_}
-use Prim.Native.Nat.{ℕ, zero, suc, _≤_, _<_}
-use native.Mathlib.Omega.{arith}
-use lib.Dec.{eqb}
-use lib.ListN.{length, getD, drop}
-use borrow.Author.Tests.{eqb-true, eqb-false, eq-eqb, ne-eqb}
-use Rattle.lists.specs.Lists.{filter, head-or, In}
-use Rattle.mesh.specs.Graph.{neighbours-among}
-use Rattle.mesh.specs.Orders.{later-in, nobody, First-later}
-use Rattle.lists.proofs.Tests.{bool-cases}
-use Rattle.lists.proofs.Filter.{in-filter, length-filter}
+use Rattle.lists.{specs.Kit.{_≡_, refl, ap, _⊎_, inl, inr, _↔_, Bool, true, false, List, [], _∷_, _++_, ℕ, zero, suc, _<_, arith, eqb, length, getD, drop}}
+use Rattle.lists.{specs.Kit.{eqb-true, eq-eqb, ne-eqb}, specs.Lists.{filter, head-or, In}, proofs.Tests.{bool-cases}, proofs.Filter.{in-filter}}
+use Rattle.lists.specs.Kit.{⊎-elim}
+use Rattle.mesh.specs.{Orders.{later-in, nobody, First-later}}
 
 -- ---- the first entry that passes a test
 
@@ -54,14 +43,6 @@ first-passing g (x ∷ xs) w ws e = go (first-passing g xs w ws) (bool-cases (g 
 -- ---- later-in
 
 module _ (f : ℕ → ℕ → Bool) (v : ℕ) where
-  later-in-here : (xs : List ℕ) → later-in f v (v ∷ xs) ≡ filter (f v) xs
-  unfolding later-in
-  later-in-here xs = rw (eq-eqb v v refl)
-
-  pub length-later-in : (xs : List ℕ) → length (later-in f v (v ∷ xs)) ≡ neighbours-among f v xs
-  unfolding neighbours-among
-  length-later-in xs = ap length (later-in-here xs) ∙ length-filter (f v) xs
-
   pub later-in-at : (xs : List ℕ) (p : ℕ) → p < length xs → getD xs p 0 ≡ v → ((j : ℕ) → j < p → getD xs j 0 ≡ v → ⊥)
       → later-in f v xs ≡ filter (f v) (drop (suc p) xs)
   unfolding later-in
@@ -73,11 +54,8 @@ module _ (f : ℕ → ℕ → Bool) (v : ℕ) where
   pub in-later-in : (xs : List ℕ) (u : ℕ) → In u (later-in f v xs) → In u xs
   unfolding later-in
   in-later-in [] u m = m
-  in-later-in (x ∷ xs) u m = go (in-later-in xs u) (bool-cases (eqb x v))
-    where
-      go : (In u (later-in f v xs) → In u xs) → (eqb x v ≡ true) ⊎ (eqb x v ≡ false) → (x ≡ u) ⊎ In u xs
-      go rec (inl t) = inr (in-filter (f v) xs u (rw t at m) .0)
-      go rec (inr t) = inr (rec (rw t at m))
+  in-later-in (x ∷ xs) u m = let rec = in-later-in xs u in
+      ⊎-elim (λ t. inr (in-filter (f v) xs u (rw t at m) .0)) (λ t. inr (rec (rw t at m))) (bool-cases (eqb x v))
 
   pub first-is-first : (xs : List ℕ) → 0 < length (later-in f v xs) → First-later f v (head-or nobody (later-in f v xs)) xs
   unfolding later-in head-or

@@ -1,23 +1,9 @@
 -- Laws of orders: the conditions of a k-order as types, with a bridge to each test, and how they pass along parts of a list.
-use mathlib.Core.Path.{_≡_, refl}
-use mathlib.Core.Logic.{inl, inr}
-use mathlib.Core.Bool.{Bool, true}
-use mathlib.Core.List.{List, [], _∷_, _++_}
-use Prim.Native.Nat.{ℕ, _+_, _≤_, _<_}
-use native.Mathlib.Omega.{arith}
-use native.Mathlib.Nat.{le-trans}
-use lib.Dec.{leb, eqb}
-use lib.ListN.{length}
-use borrow.Author.Tests.{leb-true, le-leb, eqb-true, eq-eqb}
-use Rattle.lists.specs.Lists.{range, count, all, In}
-use Rattle.lists.specs.Facts.{Distinct, Permutation, Each-once, Rising}
-use Rattle.mesh.specs.Graph.{Graph, neighbours-among, neighbours-in}
-use Rattle.mesh.specs.Orders.{each-once, rising, few-later}
-use Rattle.lists.proofs.Tests.{and-left, and-right, and-both}
-use Rattle.lists.proofs.Range.{once-in, once-distinct, once-length, once-from}
-use Rattle.lists.proofs.Distinct.{distinct-one}
-use Rattle.lists.proofs.Count.{count-append, count-mid, count-mono, count-some, count-pos}
-use Rattle.lists.proofs.All.{all-below, below-all}
+use Rattle.lists.{specs.Kit.{_≡_, refl, inl, inr, Bool, true, List, [], _∷_, _++_, ℕ, _≤_, _<_, arith, le-trans, leb, eqb, length, leb-true, le-leb, eqb-true}}
+use Rattle.lists.{specs.Kit.{eq-eqb}, specs.Lists.{range, count, all, In}, specs.Facts.{Distinct, Permutation, Each-once, Rising}, proofs.Tests.{and-left}}
+use Rattle.lists.{proofs.Tests.{and-right, and-both}, proofs.Range.{once-in, once-distinct, once-length, once-from}, proofs.Distinct.{distinct-one}}
+use Rattle.lists.{proofs.Count.{count-append, count-mid, count-mono, count-some, count-pos}, proofs.All.{all-below, below-all}}
+use Rattle.mesh.specs.{Graph.{Graph, neighbours-among, neighbours-in}, Orders.{each-once, rising, few-later}}
 
 -- ---- each radio once
 

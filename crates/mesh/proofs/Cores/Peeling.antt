@@ -1,26 +1,12 @@
 -- Peeling computes core numbers: each list of `cores` is the largest group of its k, and `number` is the core number.
-use mathlib.Core.Path.{_≡_, refl, sym, ap, _∙_}
-use mathlib.Core.Logic.{_⊎_, inl, inr}
-use mathlib.Core.Bool.{Bool, true, false, _&&_, cond}
-use mathlib.Core.List.{List, [], _∷_}
-use Prim.Native.Nat.{ℕ, zero, suc, _+_, _-_, _≤_, _<_}
-use native.Mathlib.Omega.{arith}
-use native.Mathlib.Nat.{le-trans, le-refl, le-of-eq}
-use lib.Dec.{leb, eqb}
-use lib.ListN.{length, getD}
-use borrow.Author.Tests.{leb-true, leb-false, le-leb, eqb-true, eqb-false}
-use Rattle.lists.specs.Lists.{range, count, member, In}
-use Rattle.lists.specs.Facts.{Distinct}
-use Rattle.mesh.specs.Graph.{Graph, radios, linked, neighbours-among, neighbours-in}
-use Rattle.mesh.specs.Cores.{Group, Core, survivors, peeled, cores-from, cores, depth, number, numbers}
-use Rattle.lists.proofs.Tests.{bool-cases, never, bit-true, bit-false}
-use Rattle.lists.proofs.Member.{member-in, in-member, not-member}
-use Rattle.lists.proofs.Count.{count-le-length, all-or-less}
-use Rattle.lists.proofs.Range.{distinct-range, in-range, range-in, length-range}
-use Rattle.lists.proofs.Filter.{in-filter, filter-in, length-filter, distinct-filter}
-use Rattle.lists.proofs.Map.{length-map, getD-map-range}
-use Rattle.mesh.proofs.GraphLaws.{neighbours-in-subset, neighbours-in-members}
-use Rattle.mesh.proofs.Cores.Certificate.{core-unique}
+use Rattle.lists.specs.Kit.{_≡_, refl, sym, ap, _∙_, _⊎_, inl, inr, Bool, true, false, _&&_, cond, List, [], _∷_, ℕ, zero, suc, _+_, _≤_, _<_, arith, ⊎-elim}
+use Rattle.lists.{specs.Kit.{le-trans, le-refl, le-of-eq, leb, eqb, length, getD, leb-true, leb-false, le-leb, eqb-true, eqb-false}, specs.Lists.{range, count}}
+use Rattle.lists.{specs.Lists.{member, In}, specs.Facts.{Distinct}, proofs.Tests.{bool-cases, never, bit-true, bit-false}, proofs.Member.{member-in, in-member}}
+use Rattle.lists.{proofs.Member.{not-member}, proofs.Count.{count-le-length, all-or-less}, proofs.Range.{distinct-range, in-range, range-in, length-range}}
+use Rattle.lists.{proofs.Filter.{in-filter, filter-in, length-filter, distinct-filter}, proofs.Map.{length-map, getD-map-range}}
+use Rattle.mesh.specs.{Graph.{Graph, radios, linked, neighbours-among, neighbours-in}, Cores.{Group, Core, survivors, peeled, cores-from, cores, depth}}
+use Rattle.mesh.specs.Cores.{number, numbers}
+use Rattle.mesh.proofs.{GraphLaws.{neighbours-in-subset, neighbours-in-members}, Cores.Certificate.{core-unique}}
 
 -- radios below n, without repeats
 pub record Part (g : Graph) (xs : List ℕ) : Type 0 where
@@ -65,11 +51,9 @@ module _ (g : Graph) (k : ℕ) where
       go (λ l. peeled-is f (survivors g k xs) (survivors-part xs p) l) (eqb (length (survivors g k xs)) (length xs)) refl
     where
       all-fit : length (survivors g k xs) ≡ length xs → Stable g k xs
-      all-fit e v m = pick (all-or-less (λ v. leb k (count (linked g v) xs)) xs)
-        where
-          pick : ((v : ℕ) → In v xs → leb k (count (linked g v) xs) ≡ true) ⊎ (count (λ v. leb k (count (linked g v) xs)) xs < length xs) → k ≤ count (linked g v) xs
-          pick (inl c) = leb-true k (count (linked g v) xs) (c v m)
-          pick (inr c) = absurd (omega (arith, c, e, length-filter (λ v. leb k (count (linked g v) xs)) xs))
+      all-fit e v m =
+          ⊎-elim (λ c. leb-true k (count (linked g v) xs) (c v m)) (λ c. absurd (omega (arith, c, e, length-filter (λ v. leb k (count (linked g v) xs)) xs)))
+          (all-or-less (λ v. leb k (count (linked g v) xs)) xs)
 
       go : (length (survivors g k xs) ≤ f → Peeled (survivors g k xs) (peeled f g k (survivors g k xs))) → (t : Bool)
           → eqb (length (survivors g k xs)) (length xs) ≡ t → Peeled xs (cond t xs (peeled f g k (survivors g k xs)))
@@ -153,12 +137,11 @@ depth-core (suc f) k g (x ∷ xs) e c v m =
     later = depth (cores-from f (suc (suc k)) g next) v
 
     most : member v next ≡ false → (j : ℕ) (s : ℕ → Bool) → Group g j s → s v ≡ true → j ≤ k
-    most out j s gr sv = pick (bool-cases (leb j k))
-      where
-        pick : (leb j k ≡ true) ⊎ (leb j k ≡ false) → j ≤ k
-        pick (inl h) = leb-true j k h
-        pick (inr h) = never (member v next)
-            (in-member v next (next-core g k (x ∷ xs) c .groups s (group-less g j (suc k) s (leb-false j k h) gr) v (c .part .below v m) sv)) out
+    most out j s gr sv =
+        ⊎-elim (λ h. leb-true j k h)
+        (λ h. never (member v next) (in-member v next (next-core g k (x ∷ xs) c .groups s (group-less g j (suc k) s (leb-false j k h) gr) v (c .part .below v m)
+        sv)) out)
+        (bool-cases (leb j k))
 
     go : (In v next → Core g v (suc k + later)) → (member v next ≡ true) ⊎ (member v next ≡ false) → Core g v (k + (cond (member v next) 1 0 + later))
     go rec (inl i) =

@@ -1,27 +1,12 @@
 -- How a reader decides that an order is a k-order: it takes the running maxima of the later-neighbour counts for numbers, and
 -- asks of them only that each radio has at least its number of neighbours whose number is not below its own.
 -- The other conditions hold by themselves: running maxima never fall, and none is below its radio's count.
-use mathlib.Core.Path.{_≡_, sym, ap, _∙_}
-use mathlib.Core.Logic.{inl, inr, _↔_}
-use mathlib.Core.Bool.{Bool, true, false}
-use mathlib.Core.List.{List, [], _∷_, map}
-use Prim.Native.Nat.{ℕ, _≤_, _<_, max}
-use native.Mathlib.Omega.{arith}
-use native.Mathlib.Nat.{le-trans, le-of-eq}
-use lib.Dec.{leb}
-use borrow.Author.Tests.{leb-true, le-leb}
-use Rattle.lists.specs.Lists.{count, In}
-use Rattle.lists.specs.Facts.{Each-once, Rising}
-use Rattle.mesh.specs.Graph.{Graph, linked, neighbours-among}
-use Rattle.mesh.specs.Cores.{number}
-use Rattle.mesh.specs.Orders.{is-k-order}
-use Rattle.mesh.proofs.Cores.RunningMaximum.{running-maxima}
-use Rattle.lists.proofs.Range.{once-in}
-use Rattle.mesh.proofs.GraphLaws.{neighbours-in-subset}
-use Rattle.mesh.proofs.Cores.Orders.{Few-later, Enough}
-use Rattle.mesh.proofs.Cores.KOrders.{k-order-certificate, certificate-k-order}
-use Rattle.mesh.proofs.Cores.RunningMaximum.{numbers-k-order}
-use Rattle.lists.proofs.Map.{head-eq, tail-eq, map-eq-in}
+use Rattle.lists.{specs.Kit.{_≡_, sym, ap, _∙_, inl, inr, _↔_, Bool, true, false, List, [], _∷_, map, ℕ, _≤_, _<_, max, arith, le-trans, le-of-eq, leb}}
+use Rattle.lists.{specs.Kit.{leb-true, le-leb}, specs.Lists.{count, In}, specs.Facts.{Each-once, Rising}, proofs.Range.{once-in}, proofs.Map.{head-eq, tail-eq}}
+use Rattle.lists.{proofs.Map.{map-eq-in}}
+use Rattle.mesh.specs.{Graph.{Graph, linked, neighbours-among}, Cores.{number}, Orders.{is-k-order}}
+use Rattle.mesh.proofs.{Cores.RunningMaximum.{running-maxima, numbers-k-order}, GraphLaws.{neighbours-in-subset}, Cores.Orders.{Few-later, Enough}}
+use Rattle.mesh.proofs.{Cores.KOrders.{k-order-certificate, certificate-k-order}}
 
 -- ---- running maxima as numbers
 

@@ -2,24 +2,11 @@
 -- At least: each count is at most its radio's number, and numbers never fall. At most: while the maximum so far is below the
 -- number of the next radio v, everybody before v has a smaller number, so the largest group that has v stands from v on, and
 -- v's neighbours in it are later.
-use mathlib.Core.Path.{_≡_, refl, ap, ap₂, _∙_}
-use mathlib.Core.Logic.{_⊎_, inl, inr}
-use mathlib.Core.Bool.{Bool, true, false, _&&_}
-use mathlib.Core.List.{List, [], _∷_, map}
-use Prim.Native.Nat.{ℕ, _≤_, _<_, max}
-use native.Mathlib.Omega.{arith}
-use native.Mathlib.Nat.{le-trans}
-use Rattle.lists.specs.Lists.{range, count, In}
-use Rattle.lists.specs.Facts.{Each-once, Rising}
-use Rattle.mesh.specs.Graph.{Graph, radios, linked, neighbours-among, neighbours-in}
-use Rattle.mesh.specs.Cores.{Group, Core, number}
-use Rattle.mesh.specs.Orders.{is-k-order}
-use Rattle.lists.proofs.Tests.{never, and-left, and-right, trichotomy}
-use Rattle.lists.proofs.Range.{range-in, distinct-range, once-in, once-below}
-use Rattle.lists.proofs.Distinct.{count-sub}
-use Rattle.mesh.proofs.Cores.Orders.{Few-later}
-use Rattle.mesh.proofs.Cores.Peeling.{number-core}
-use Rattle.mesh.proofs.Cores.KOrders.{k-order-certificate}
+use Rattle.lists.{specs.Kit.{_≡_, refl, ap, ap₂, _∙_, _⊎_, inl, inr, Bool, true, false, _&&_, List, [], _∷_, map, ℕ, _≤_, _<_, max, arith, le-trans}}
+use Rattle.lists.{specs.Lists.{range, count, In}, specs.Facts.{Each-once, Rising}, proofs.Tests.{never, and-left, and-right, trichotomy}}
+use Rattle.lists.{proofs.Range.{range-in, distinct-range, once-in, once-below}, proofs.Distinct.{count-sub}}
+use Rattle.mesh.specs.{Graph.{Graph, radios, linked, neighbours-among, neighbours-in}, Cores.{Group, Core, number}, Orders.{is-k-order}}
+use Rattle.mesh.proofs.Cores.{Orders.{Few-later}, Peeling.{number-core}, KOrders.{k-order-certificate}}
 
 -- for each radio of a list, the greatest count of later neighbours up to it, and at least `top`, the maximum so far: so a read image's
 -- numbers are worked out

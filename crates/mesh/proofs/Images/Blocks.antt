@@ -1,16 +1,11 @@
 -- Laws of a block and of the payloads.
 -- In order: a block's bytes by place, its length, its check; the payloads of kind 1 and kind 2, entry by entry.
-use mathlib.Core.Path.{_≡_, refl, sym, ap, _∙_}
-use mathlib.Core.List.{List, _∷_, _++_, flatMap}
-use Prim.Native.Nat.{ℕ, zero, suc, _+_, _*_, _-_, _/_, _%_, _≤_, _<_, min}
-use native.Mathlib.Omega.{arith}
-use lib.ListN.{length, getD, take, drop, replicate, length-append, length-take, length-drop, length-replicate, List·getD-append}
-use lib.Seq.{getD-append-add, getD-take, getD-drop, take-at, drop-at}
-use Rattle.mesh.specs.Graph.{Link}
-use Rattle.mesh.specs.Image.{block-bytes, payload-bytes, block-entries, block-links, word, long, check-sum, block, link-bytes, order-payload}
-use Rattle.mesh.specs.Image.{links-payload}
-use Rattle.lists.specs.Facts.{Bytes}
-use Rattle.lists.proofs.Parts.{bytes-replicate, length-flatMap, getD-flatMap, bytes-cons, bytes-append, bytes-flatMap, getD-append-zeros}
+use Rattle.lists.{specs.Kit.{_≡_, refl, sym, ap, _∙_, List, _∷_, _++_, flatMap, ℕ, zero, suc, _+_, _*_, _-_, _/_, _%_, _≤_, _<_, min, arith, length, getD}}
+use Rattle.lists.{specs.Kit.{take, drop, replicate, length-append, length-take, length-drop, length-replicate, List·getD-append, getD-append-add, getD-take}}
+use Rattle.lists.{specs.Kit.{getD-drop, take-at, drop-at}, specs.Facts.{Bytes}, proofs.Parts.{bytes-replicate, length-flatMap, getD-flatMap, bytes-cons}}
+use Rattle.lists.{proofs.Parts.{bytes-append, bytes-flatMap, getD-append-zeros}}
+use Rattle.mesh.specs.{Graph.{Link}, Image.{block-bytes, payload-bytes, block-entries, block-links, word, long, check-sum, block, link-bytes}}
+use Rattle.mesh.specs.{Image.{order-payload, links-payload}}
 use Rattle.mesh.proofs.Images.Words.{length-word, bytes-word, getD-word-zero, length-long, bytes-long}
 
 -- ---- a block

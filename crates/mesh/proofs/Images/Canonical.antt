@@ -3,39 +3,20 @@
 --   canonical-written   then what is read from the bytes is written as these bytes
 --   written-canonical   and only then
 --   is-image-canonical  question 11: canonical bytes that list a valid site
-use mathlib.Core.Path.{_≡_, refl, sym, ap, ap₂, subst, _∙_}
-use mathlib.Core.Logic.{_⊎_, inl, inr, _↔_}
-use mathlib.Core.Bool.{true, false}
-use mathlib.Core.List.{List, _++_}
-use Prim.Native.Nat.{ℕ, zero, suc, _+_, _*_, _-_, _/_, _%_, _≤_, _<_}
-use native.Mathlib.Omega.{arith}
-use lib.Dec.{ltb}
-use lib.ListN.{length, getD, take, drop, length-map, take-append-drop, List·getD-eq-default}
-use lib.Seq.{getD-take, length-take-le, ext-getD}
-use borrow.Author.Tests.{ltb-true, ltb-false}
-use Rattle.mesh.specs.Limits.{max-radios, max-neighbours}
-use Rattle.lists.specs.Lists.{range}
-use Rattle.lists.specs.Facts.{Bytes}
-use Rattle.mesh.specs.Graph.{Graph}
-use Rattle.mesh.specs.Image.{block-bytes, payload-bytes, block-entries, block-links, word, long, check-sum, block, blocks-for, order-blocks, block-count}
-use Rattle.mesh.specs.Image.{link-bytes, order-payload, links-payload, block-at, image-of, word-at, entry-at, image-order, image-link, image-links}
-use Rattle.mesh.specs.Image.{image-graph, block-check, checks-good, is-image}
-use Rattle.lists.proofs.Tests.{bool-cases}
-use Rattle.lists.proofs.Range.{length-range}
-use Rattle.lists.proofs.All.{all-below, same-eq}
-use Rattle.lists.proofs.Parts.{flatMap-take-drop, getD-append-zeros}
-use Rattle.lists.proofs.Map.{getD-map-range}
-use Rattle.mesh.proofs.Images.Words.{word-at-word, getD-word-word-at, word-at-less}
-use Rattle.mesh.proofs.Images.Blocks.{block-body, block-check-last, length-block-body, getD-block-kind, getD-block-zero, getD-block-index}
-use Rattle.mesh.proofs.Images.Blocks.{getD-block-index-high, no-link, length-order-payload, getD-order-payload, length-links-payload, getD-links-payload}
-use Rattle.mesh.proofs.Images.Blocks.{getD-link-bytes-low, getD-link-bytes-high}
+use Rattle.lists.specs.Kit.{_≡_, refl, sym, ap, ap₂, subst, _∙_, _↔_, true, List, _++_, ℕ, zero, suc, _+_, _*_, _-_, _/_, _%_, _≤_, _<_}
+use Rattle.lists.specs.Kit.{arith, ltb, length, getD, take, drop, length-map, take-append-drop, List·getD-eq-default, getD-take, length-take-le, ext-getD}
+use Rattle.lists.{specs.Kit.{ltb-true, ltb-false, ⊎-elim}, specs.Lists.{range}, specs.Facts.{Bytes}, proofs.Tests.{bool-cases}, proofs.Range.{length-range}}
+use Rattle.lists.{proofs.All.{all-below, same-eq}, proofs.Parts.{flatMap-take-drop, getD-append-zeros}, proofs.Map.{getD-map-range}}
+use Rattle.mesh.specs.{Limits.{max-radios, max-neighbours}, Graph.{Graph}, Image.{block-bytes, payload-bytes, block-entries, block-links, word, long}}
+use Rattle.mesh.specs.Image.{check-sum, block, blocks-for, order-blocks, block-count, link-bytes, order-payload, links-payload, block-at, image-of}
+use Rattle.mesh.specs.{Image.{word-at, entry-at, image-order, image-link, image-links, image-graph, block-check, checks-good, is-image}, Valid.{Valid}}
+use Rattle.mesh.proofs.{Images.Words.{word-at-word, getD-word-word-at, word-at-less}, Images.Blocks.{block-body, block-check-last, length-block-body}}
+use Rattle.mesh.proofs.Images.Blocks.{getD-block-kind, getD-block-zero, getD-block-index, getD-block-index-high, no-link, length-order-payload}
+use Rattle.mesh.proofs.Images.Blocks.{getD-order-payload, length-links-payload, getD-links-payload, getD-link-bytes-low, getD-link-bytes-high}
 use Rattle.mesh.proofs.Images.Of.{kind-at, content-at, block-at-parts, length-content-at, blocks, length-image-of, bytes-image-of, getD-image-of}
-use Rattle.mesh.proofs.Images.Of.{getD-image-content, content-at-order, content-at-links, checks-good-image-of}
-use Rattle.mesh.proofs.Images.Checks.{part-at, length-part-at, getD-part-at}
-use Rattle.mesh.proofs.Images.Read.{word-at-radios}
-use Rattle.mesh.proofs.Tables.Sites.{image-valid}
+use Rattle.mesh.proofs.{Images.Of.{getD-image-content, content-at-order, content-at-links, checks-good-image-of}, Images.Checks.{part-at}}
+use Rattle.mesh.proofs.{Images.Checks.{length-part-at, getD-part-at}, Images.Read.{word-at-radios}, Tables.Sites.{image-valid}}
 use Rattle.mesh.proofs.Images.Sites.{is-image-iff, written-read}
-use Rattle.mesh.specs.Valid.{Valid}
 
 module _ (n : ℕ) (bs : List ℕ) where
   abbrev pub site : Graph
@@ -92,15 +73,12 @@ module _ (n : ℕ) (bs : List ℕ) where
 
     link-byte : (k e : ℕ) → e < 4 → getD (link-bytes (image-link n bs k)) e 0 ≡ getD bs (link-place k + e) 0
     unfolding image-link
-    link-byte k e h = go (bool-cases (ltb e 2))
-      where
-        go : (ltb e 2 ≡ true) ⊎ (ltb e 2 ≡ false) → getD (link-bytes (image-link n bs k)) e 0 ≡ getD bs (link-place k + e) 0
-        go (inl t) =
-            getD-link-bytes-low (image-link n bs k) e (ltb-true e 2 t) ∙ getD-word-word-at bs b (link-place k) e (ltb-true e 2 t)
-        go (inr t) =
-            let high : 2 + (e - 2) ≡ e = omega (arith, ltb-false e 2 t) in
-            ap (λ (d : ℕ). getD (link-bytes (image-link n bs k)) d 0) (sym high) ∙ getD-link-bytes-high (image-link n bs k) (e - 2)
-            ∙ getD-word-word-at bs b (link-place k + 2) (e - 2) (omega arith) ∙ ap (λ (d : ℕ). getD bs d 0) (omega arith)
+    link-byte k e h =
+        ⊎-elim (λ t. getD-link-bytes-low (image-link n bs k) e (ltb-true e 2 t) ∙ getD-word-word-at bs b (link-place k) e (ltb-true e 2 t))
+        (λ t. let high : 2 + (e - 2) ≡ e = omega (arith, ltb-false e 2 t) in ap (λ (d : ℕ). getD (link-bytes (image-link n bs k)) d 0) (sym high) ∙
+        getD-link-bytes-high (image-link n bs k) (e - 2) ∙ getD-word-word-at bs b (link-place k + 2) (e - 2) (omega arith) ∙ ap (λ (d : ℕ). getD bs d 0)
+        (omega arith))
+        (bool-cases (ltb e 2))
 
     links-place : (q j : ℕ) → j < length (links-payload (site .links) q)
         → getD bs (block-bytes * suc (order-blocks n + q) + 4 + j) 0 ≡ getD (links-payload (site .links) q) j 0
@@ -127,29 +105,20 @@ module _ (n : ℕ) (bs : List ℕ) where
       content-listed zero (suc (suc (suc zero))) h =
           sym (getD-word-word-at bs b 6 1 (omega arith)) ∙ ap (λ (x : ℕ). x / 256 % 256) (sym length-image-links)
       content-listed zero (suc (suc (suc (suc j)))) h = absurd (omega arith)
-      content-listed (suc q) j h = go (bool-cases (ltb q (order-blocks n)))
-        where
-          go : (ltb q (order-blocks n) ≡ true) ⊎ (ltb q (order-blocks n) ≡ false)
-              → getD bs (block-bytes * suc q + 4 + j) 0 ≡ getD (content-at site order (suc q)) j 0
-          go (inl t) =
-              let e = content-at-order site order q (ltb-true q (order-blocks n) t) in
-              order-place q j (omega (arith, ap length e)) ∙ ap (λ (x : List ℕ). getD x j 0) (sym e)
-          go (inr t) =
-              let r : ℕ = q - order-blocks n in
-              let from : order-blocks n + r ≡ q = omega (arith, ltb-false q (order-blocks n) t) in
-              let e = ap (λ (k : ℕ). content-at site order (suc k)) (sym from) ∙ content-at-links site order r in
-              ap (λ (k : ℕ). getD bs (block-bytes * suc k + 4 + j) 0) (sym from)
-              ∙ links-place r j (omega (arith, ap length e)) ∙ ap (λ (x : List ℕ). getD x j 0) (sym e)
+      content-listed (suc q) j h =
+          ⊎-elim (λ t. let e = content-at-order site order q (ltb-true q (order-blocks n) t) in order-place q j (omega (arith, ap length e)) ∙ ap
+          (λ (x : List ℕ). getD x j 0) (sym e))
+          (λ t. let r : ℕ = q - order-blocks n in let from : order-blocks n + r ≡ q = omega (arith, ltb-false q (order-blocks n) t) in let e = ap
+          (λ (k : ℕ). content-at site order (suc k)) (sym from) ∙ content-at-links site order r in ap (λ (k : ℕ). getD bs (block-bytes * suc k + 4 + j) 0)
+          (sym from) ∙ links-place r j (omega (arith, ap length e)) ∙ ap (λ (x : List ℕ). getD x j 0) (sym e))
+          (bool-cases (ltb q (order-blocks n)))
 
       content-place : (i j : ℕ) → i < listed-blocks → j < payload-bytes → getD bs (block-bytes * i + 4 + j) 0 ≡ getD (content-at site order i) j 0
-      content-place i j h l = go (bool-cases (ltb j (length (content-at site order i))))
-        where
-          go : (ltb j (length (content-at site order i)) ≡ true) ⊎ (ltb j (length (content-at site order i)) ≡ false)
-              → getD bs (block-bytes * i + 4 + j) 0 ≡ getD (content-at site order i) j 0
-          go (inl t) = content-listed i j (ltb-true j (length (content-at site order i)) t)
-          go (inr t) =
-              let past = ltb-false j (length (content-at site order i)) t in
-              c .padding i j h past l ∙ sym (List·getD-eq-default (content-at site order i) 0 {n = j} past)
+      content-place i j h l =
+          ⊎-elim (λ t. content-listed i j (ltb-true j (length (content-at site order i)) t))
+          (λ t. let past = ltb-false j (length (content-at site order i)) t in c .padding i j h past l ∙ sym
+          (List·getD-eq-default (content-at site order i) 0 {n = j} past))
+          (bool-cases (ltb j (length (content-at site order i))))
 
       module _ (i : ℕ) (h : i < listed-blocks) where
         abbrev body : List ℕ

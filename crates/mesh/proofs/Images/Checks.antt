@@ -2,20 +2,10 @@
 --   four-at, long-at       four bytes at a place, and the number they stand for
 --   block-check-value      a block passes its check when the sum of its first 508 bytes is the number in its last four
 --   payload-at-image-of    what the block reader gives back of an image
-use mathlib.Core.Path.{_≡_, sym, ap, ap₂, _∙_}
-use mathlib.Core.List.{List, [], _∷_}
-use Prim.Native.Nat.{ℕ, zero, suc, _+_, _*_, _≤_, _<_}
-use native.Mathlib.Omega.{arith}
-use lib.Dec.{eqb}
-use lib.ListN.{length, getD, take, drop, length-take, length-drop}
-use lib.Seq.{getD-take, getD-drop, take-take, length-take-le, ext-getD}
-use borrow.Author.Tests.{eqb-true, eq-eqb}
-use Rattle.lists.specs.Lists.{same}
-use Rattle.lists.specs.Facts.{Bytes}
+use Rattle.lists.{specs.Kit.{_≡_, sym, ap, ap₂, _∙_, List, [], _∷_, ℕ, zero, suc, _+_, _*_, _≤_, _<_, arith, eqb, length, getD, take, drop, length-take}}
+use Rattle.lists.{specs.Kit.{length-drop, getD-take, getD-drop, take-take, length-take-le, ext-getD, eqb-true, eq-eqb}, specs.Lists.{same}, specs.Facts.{Bytes}}
+use Rattle.lists.{proofs.Tests.{iff-eq}, proofs.All.{same-refl, same-eq}, proofs.Parts.{getD-bytes, bytes-take, bytes-drop}}
 use Rattle.mesh.specs.Image.{block-bytes, long, check-sum, block-check}
-use Rattle.lists.proofs.Tests.{iff-eq}
-use Rattle.lists.proofs.All.{same-refl, same-eq}
-use Rattle.lists.proofs.Parts.{getD-bytes, bytes-take, bytes-drop}
 use Rattle.mesh.proofs.Images.Words.{long-of, long-of-long, long-long-of, check-sum-less}
 
 -- ---- four bytes at a place

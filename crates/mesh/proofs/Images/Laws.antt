@@ -1,10 +1,5 @@
 -- Laws of the image's definitions that writing and reading rest on.
-use mathlib.Core.Path.{_≡_, ap, _∙_}
-use mathlib.Core.List.{List, [], _∷_, _++_}
-use Prim.Native.Nat.{ℕ, suc, _+_, _*_}
-use native.Mathlib.Omega.{arith}
-use native.Mathlib.Nat.{add-zero}
-use lib.ListN.{length}
+use Rattle.lists.specs.Kit.{_≡_, ap, _∙_, List, [], _∷_, _++_, ℕ, suc, _+_, _*_, arith, add-zero, length}
 use Rattle.mesh.specs.Image.{weighted-sum, check-sum}
 
 weighted-sum-snoc : (i : ℕ) (bs : List ℕ) (x : ℕ) → weighted-sum i (bs ++ (x ∷ [])) ≡ weighted-sum i bs + x * (i + length bs)

@@ -1,25 +1,13 @@
 -- Laws of the image as a whole.
 -- In order: kind and payload of block i, an image's length and bytes, block i in the image, questions 9 and 10.
-use mathlib.Core.Path.{_≡_, refl, ap, _∙_}
-use mathlib.Core.Bool.{Bool, true, false, cond}
-use mathlib.Core.List.{List, _++_}
-use Prim.Native.Nat.{ℕ, zero, suc, _+_, _*_, _-_, _/_, _%_, _≤_, _<_}
-use native.Mathlib.Omega.{arith}
-use lib.Dec.{ltb}
-use lib.ListN.{length, getD, take, drop}
-use borrow.Author.Tests.{eq-eqb, ne-eqb, lt-ltb, le-ltb}
-use Rattle.lists.specs.Lists.{range, same}
-use Rattle.lists.specs.Facts.{Bytes}
-use Rattle.mesh.specs.Graph.{Graph}
-use Rattle.mesh.specs.Image.{block-bytes, payload-bytes, word, long, check-sum, block, order-blocks, block-count, order-payload, links-payload, block-at}
-use Rattle.mesh.specs.Image.{image-of, whole-blocks, block-check, checks-good}
-use Rattle.lists.proofs.Range.{length-range, getD-range}
-use Rattle.lists.proofs.All.{below-all, same-refl}
-use Rattle.mesh.proofs.Tables.Laws.{length-flatMap-range, getD-flatMap-range}
-use Rattle.lists.proofs.Parts.{take-drop-flatMap, bytes-append, bytes-flatMap}
-use Rattle.mesh.proofs.Images.Words.{bytes-word}
-use Rattle.mesh.proofs.Images.Blocks.{length-block, bytes-block, getD-block-payload, drop-block, length-order-payload, bytes-order-payload}
-use Rattle.mesh.proofs.Images.Blocks.{length-links-payload, bytes-links-payload}
+use Rattle.lists.{specs.Kit.{_≡_, refl, ap, _∙_, Bool, true, false, cond, List, _++_, ℕ, zero, suc, _+_, _*_, _-_, _/_, _%_, _≤_, _<_, arith, ltb, length}}
+use Rattle.lists.{specs.Kit.{getD, take, drop, eq-eqb, ne-eqb, lt-ltb, le-ltb}, specs.Lists.{range, same}, specs.Facts.{Bytes}, proofs.Range.{length-range}}
+use Rattle.lists.{proofs.Range.{getD-range}, proofs.All.{below-all, same-refl}, proofs.Parts.{take-drop-flatMap, bytes-append, bytes-flatMap}}
+use Rattle.mesh.specs.{Graph.{Graph}, Image.{block-bytes, payload-bytes, word, long, check-sum, block, order-blocks, block-count, order-payload}}
+use Rattle.mesh.specs.{Image.{links-payload, block-at, image-of, whole-blocks, block-check, checks-good}}
+use Rattle.mesh.proofs.{Tables.Laws.{length-flatMap-range, getD-flatMap-range}, Images.Words.{bytes-word}, Images.Blocks.{length-block, bytes-block}}
+use Rattle.mesh.proofs.{Images.Blocks.{getD-block-payload, drop-block, length-order-payload, bytes-order-payload, length-links-payload}}
+use Rattle.mesh.proofs.{Images.Blocks.{bytes-links-payload}}
 
 -- ---- kind and payload of block i
 
@@ -125,7 +113,11 @@ module _ (g : Graph) (xs : List ℕ) where
   pub whole-blocks-image-of : whole-blocks (image-of g xs) ≡ true
   unfolding whole-blocks block-count
   whole-blocks-image-of =
-      rw (ne-eqb (length (image-of g xs)) 0 (λ e. omega (arith, length-image-of)), eq-eqb (length (image-of g xs) % block-bytes) 0 (omega (arith, length-image-of)))
+      rw (
+        ne-eqb (length (image-of g xs)) 0 (λ e. omega (arith, length-image-of)),
+        eq-eqb (length (image-of g xs) % block-bytes) 0
+            (omega (arith, length-image-of)),
+      )
 
   pub checks-good-image-of : checks-good (image-of g xs) ≡ true
   unfolding checks-good block-check

@@ -1,21 +1,12 @@
 -- What is read from an image is what was written.
 -- In order: words at their places, the order, the links, both round trips.
-use mathlib.Core.Path.{_≡_, sym, ap, _∙_}
-use mathlib.Core.List.{List, [], _∷_, map}
-use Prim.Native.Nat.{ℕ, zero, suc, _+_, _*_, _/_, _%_, _≤_, _<_}
-use native.Mathlib.Omega.{arith}
-use lib.ListN.{length, getD, List·getD-append}
-use lib.Seq.{getD-append-add}
-use Rattle.lists.specs.Lists.{range}
-use Rattle.mesh.specs.Graph.{Link, Graph, graph}
-use Rattle.mesh.specs.Image.{block-bytes, payload-bytes, block-entries, block-links, word, blocks-for, order-blocks, block-count, link-bytes}
-use Rattle.mesh.specs.Image.{links-payload, image-of, word-at, entry-at, image-order, image-link, image-links, image-graph}
-use Rattle.mesh.proofs.GraphLaws.{Proper}
-use Rattle.mesh.proofs.Tables.AscendingLinks.{link-eq}
-use Rattle.lists.proofs.Map.{map-range-of-getD}
-use Rattle.mesh.proofs.Images.Words.{length-word, word-at-word}
-use Rattle.mesh.proofs.Images.Blocks.{no-link, getD-link-bytes-low, getD-link-bytes-high, getD-order-payload, getD-links-payload}
-use Rattle.mesh.proofs.Images.Of.{content-at, blocks, getD-image-content, content-at-order, content-at-links}
+use Rattle.lists.{specs.Kit.{_≡_, sym, ap, _∙_, List, [], _∷_, map, ℕ, zero, suc, _+_, _*_, _/_, _%_, _≤_, _<_, arith, length, getD, List·getD-append}}
+use Rattle.lists.{specs.Kit.{getD-append-add}, specs.Lists.{range}, proofs.Map.{map-range-of-getD}}
+use Rattle.mesh.specs.{Graph.{Link, Graph, graph}, Image.{block-bytes, payload-bytes, block-entries, block-links, word, blocks-for, order-blocks}}
+use Rattle.mesh.specs.{Image.{block-count, link-bytes, links-payload, image-of, word-at, entry-at, image-order, image-link, image-links, image-graph}}
+use Rattle.mesh.proofs.{GraphLaws.{Proper}, Tables.AscendingLinks.{link-eq}, Images.Words.{length-word, word-at-word}, Images.Blocks.{no-link}}
+use Rattle.mesh.proofs.{Images.Blocks.{getD-link-bytes-low, getD-link-bytes-high, getD-order-payload, getD-links-payload}, Images.Of.{content-at}}
+use Rattle.mesh.proofs.{Images.Of.{blocks, getD-image-content, content-at-order, content-at-links}}
 
 module _ (g : Graph) (xs : List ℕ) where
   abbrev image : List ℕ

@@ -4,31 +4,13 @@
 --   is-image-radios     its header says its n
 --   image-injective     valid sites with equal images are equal
 --   is-image-iff        accepted are exactly the images of valid sites with this n
-use mathlib.Core.Path.{_≡_, refl, sym, ap, ap₂, _∙_}
-use mathlib.Core.Logic.{_↔_}
-use mathlib.Core.Bool.{Bool, true, _&&_}
-use mathlib.Core.List.{List}
-use Prim.Native.Nat.{ℕ, _≤_, _<_}
-use native.Mathlib.Omega.{arith}
-use lib.ListN.{length, getD}
-use Rattle.mesh.specs.Limits.{max-radios, max-neighbours}
-use Rattle.lists.specs.Lists.{same}
-use Rattle.lists.specs.Facts.{Each-once}
-use Rattle.mesh.specs.Graph.{Graph, proper, ascending}
-use Rattle.mesh.specs.Tables.{tables-of}
-use Rattle.mesh.specs.Sound.{sound, sound-within}
-use Rattle.mesh.specs.Image.{image-of, word-at, image-order, image-graph, is-image-within, is-image}
-use Rattle.lists.proofs.Tests.{and-right, and-both}
-use Rattle.lists.proofs.Range.{once-length, once-below}
-use Rattle.lists.proofs.All.{same-refl, same-eq}
-use Rattle.mesh.proofs.GraphLaws.{proper-of}
-use Rattle.mesh.proofs.Cores.KOrders.{k-order-certificate}
-use Rattle.mesh.proofs.Tables.Soundness.{valid-sound}
-use Rattle.mesh.proofs.Tables.Sites.{image-valid}
-use Rattle.lists.proofs.Member.{in-getD}
-use Rattle.mesh.proofs.Images.Read.{word-at-radios, image-order-image-of, image-graph-image-of}
-use Rattle.mesh.proofs.Tables.DegreeSum.{links-most}
-use Rattle.mesh.specs.Valid.{Valid}
+use Rattle.lists.{specs.Kit.{_≡_, refl, sym, ap, ap₂, _∙_, _↔_, Bool, true, _&&_, List, ℕ, _≤_, _<_, arith, length, getD}, specs.Lists.{same}}
+use Rattle.lists.{specs.Facts.{Each-once}, proofs.Tests.{and-right, and-both}, proofs.Range.{once-length, once-below}, proofs.All.{same-refl, same-eq}}
+use Rattle.lists.{proofs.Member.{in-getD}}
+use Rattle.mesh.specs.{Limits.{max-radios, max-neighbours}, Graph.{Graph, proper, ascending}, Tables.{tables-of}, Sound.{sound, sound-within}}
+use Rattle.mesh.specs.{Image.{image-of, word-at, image-order, image-graph, is-image-within, is-image}, Valid.{Valid}}
+use Rattle.mesh.proofs.{GraphLaws.{proper-of}, Cores.KOrders.{k-order-certificate}, Tables.Soundness.{valid-sound}, Tables.Sites.{image-valid}}
+use Rattle.mesh.proofs.{Images.Read.{word-at-radios, image-order-image-of, image-graph-image-of}, Tables.DegreeSum.{links-most}}
 
 -- ---- written and read
 

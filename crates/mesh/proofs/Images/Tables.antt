@@ -3,33 +3,16 @@
 --   tables-of-graph-in   sound tables are the tables of the site that they mark
 --   is-image-tables      accepted are exactly the images of sound tables with this n
 --   tables-read-written  sound tables, written and read
-use mathlib.Core.Path.{_≡_, refl, sym, ap, ap₂, _∙_}
-use mathlib.Core.Logic.{_↔_}
-use mathlib.Core.Bool.{true, _&&_}
-use mathlib.Core.List.{List}
-use Prim.Native.Nat.{ℕ, _≤_, _<_}
-use native.Mathlib.Omega.{arith}
-use native.Mathlib.Nat.{le-trans, le-of-eq}
-use lib.Dec.{leb}
-use Rattle.mesh.specs.Limits.{max-radios, max-neighbours}
-use Rattle.mesh.specs.Graph.{Graph}
-use Rattle.mesh.specs.Cores.{number, numbers}
-use Rattle.mesh.specs.Tables.{Tables, tables, graph-in, tables-of, Tables-of-size}
-use Rattle.mesh.specs.Sound.{symmetric, irreflexive, within, few, rows-proper, number-in, sound-within, sound}
-use Rattle.mesh.specs.Image.{image-of, image-order, image-graph, is-image-within, is-image, Tables-image}
-use Rattle.lists.proofs.Tests.{and-left, and-right}
-use Rattle.mesh.proofs.GraphLaws.{linked-self, neighbours-in-subset, degree-in}
-use Rattle.mesh.proofs.Cores.KOrders.{k-order-certificate, certificate-k-order}
-use Rattle.mesh.proofs.Cores.Peeling.{length-numbers, getD-numbers}
-use Rattle.lists.specs.Facts.{Bytes}
-use Rattle.mesh.proofs.Tables.Laws.{length-links-table, bytes-links-table}
-use Rattle.mesh.proofs.Tables.Rows.{few-of}
-use Rattle.mesh.proofs.Tables.ReadBack.{proper-graph-in, ascending-graph-in, graph-in-links-table, links-table-graph-in, degree-graph-in}
-use Rattle.mesh.proofs.Tables.Soundness.{sound-certificate, sound-right, valid-sound}
-use Rattle.mesh.proofs.Tables.Sites.{image-valid}
-use Rattle.mesh.proofs.Tables.Older.{sound-within-more}
-use Rattle.mesh.specs.Valid.{Valid}
-use Rattle.mesh.proofs.Images.Sites.{length-order, getD-order-less, read-written-graph, read-written-order, is-image-within-image-of, written-read}
+use Rattle.lists.{specs.Kit.{_≡_, refl, sym, ap, ap₂, _∙_, _↔_, true, _&&_, List, ℕ, _≤_, _<_, arith, le-trans, le-of-eq, leb}, proofs.Tests.{and-left}}
+use Rattle.lists.{proofs.Tests.{and-right}, specs.Facts.{Bytes}}
+use Rattle.mesh.specs.{Limits.{max-radios, max-neighbours}, Graph.{Graph}, Cores.{number, numbers}, Tables.{Tables, tables, graph-in, tables-of}}
+use Rattle.mesh.specs.{Tables.{Tables-of-size}, Sound.{symmetric, irreflexive, within, few, rows-proper, number-in, sound-within, sound}}
+use Rattle.mesh.specs.{Image.{image-of, image-order, image-graph, is-image-within, is-image, Tables-image}, Valid.{Valid}}
+use Rattle.mesh.proofs.{GraphLaws.{linked-self, neighbours-in-subset, degree-in}, Cores.KOrders.{k-order-certificate, certificate-k-order}}
+use Rattle.mesh.proofs.{Cores.Peeling.{length-numbers, getD-numbers}, Tables.Laws.{length-links-table, bytes-links-table}, Tables.Rows.{few-of}}
+use Rattle.mesh.proofs.{Tables.ReadBack.{proper-graph-in, ascending-graph-in, graph-in-links-table, links-table-graph-in, degree-graph-in}}
+use Rattle.mesh.proofs.{Tables.Soundness.{sound-certificate, sound-right, valid-sound}, Tables.Sites.{image-valid}, Tables.Older.{sound-within-more}}
+use Rattle.mesh.proofs.{Images.Sites.{length-order, getD-order-less, read-written-graph, read-written-order, is-image-within-image-of, written-read}}
 
 -- ---- sites and tables
 

@@ -1,13 +1,7 @@
 -- Laws of numbers as little-endian bytes, and how large a block's check can be.
-use mathlib.Core.Path.{_≡_, refl, ap, _∙_}
-use mathlib.Core.List.{List, [], _∷_}
-use Prim.Native.Nat.{ℕ, zero, suc, _+_, _*_, _/_, _%_, _≤_, _<_}
-use native.Mathlib.Omega.{arith}
-use native.Mathlib.Nat.{mul-suc, mul-le-mul, div-div-eq-div-mul}
-use lib.ListN.{length, getD}
+use Rattle.lists.{specs.Kit.{_≡_, refl, ap, _∙_, List, [], _∷_, ℕ, zero, suc, _+_, _*_, _/_, _%_, _≤_, _<_, arith, mul-suc, mul-le-mul, div-div-eq-div-mul}}
+use Rattle.lists.{specs.Kit.{length, getD}, specs.Facts.{Bytes}, proofs.Parts.{getD-bytes, bytes-cons}}
 use Rattle.mesh.specs.Image.{word, long, weighted-sum, check-sum, word-at}
-use Rattle.lists.specs.Facts.{Bytes}
-use Rattle.lists.proofs.Parts.{getD-bytes, bytes-cons}
 
 -- ---- word
 

@@ -1,50 +1,34 @@
 -- An accepted link call on a site: its peel, the numbers after it, the changed radios, and document 01's new order, which is
 -- the peel's. Up and down alike.
-use mathlib.Core.Path.{_≡_, refl, sym, ap, subst, _∙_}
-use mathlib.Core.Logic.{_⊎_, inl, inr}
-use mathlib.Core.Bool.{Bool, true, false, _&&_, _||_, not, cond, Bool·not-not}
-use mathlib.Core.List.{List, _++_, append-assoc}
-use Prim.Native.Nat.{ℕ, suc, _+_, _-_, _≤_, _<_}
-use native.Mathlib.Omega.{arith}
-use lib.Dec.{ltb, eqb}
-use lib.ListN.{length}
-use borrow.Author.Tests.{ltb-true, eqb-true, eqb-false, eq-eqb, ne-eqb, not-true, not-false}
-use Rattle.lists.specs.Lists.{range, filter, member, In}
-use Rattle.lists.specs.Facts.{Distinct}
-use Rattle.mesh.specs.Graph.{Graph, radios, linked, neighbours-in, relinked, proper, new-links, Allowed}
-use Rattle.mesh.specs.Cores.{Group, number}
-use Rattle.mesh.specs.Orders.{is-k-order}
+use Rattle.lists.specs.Kit.{_≡_, refl, sym, ap, subst, _∙_, _⊎_, inl, inr, Bool, true, false, _&&_, _||_, not, cond, Bool·not-not, List, _++_, append-assoc}
+use Rattle.lists.specs.Kit.{ℕ, suc, _-_, _≤_, _<_, arith, ltb, eqb, length, ltb-true, eqb-true, eqb-false, eq-eqb, ne-eqb, not-true, not-false, ⊎-elim}
+use Rattle.lists.{specs.Lists.{range, filter, member, In}, specs.Facts.{Distinct}, proofs.Tests.{bool-cases, never, and-both, or-cases, or-left, or-right}}
+use Rattle.lists.{proofs.Member.{in-cases, member-in, in-member, not-member}, proofs.Count.{count-pos}, proofs.Range.{in-range, range-in, once-in, once-below}}
+use Rattle.lists.{proofs.Range.{once-distinct}, proofs.Distinct.{permutation-in}, proofs.Filter.{in-filter, filter-in, member-filter, filter-ext}}
+use Rattle.lists.proofs.Filter.{distinct-filter}
+use Rattle.mesh.specs.{Graph.{Graph, radios, linked, neighbours-in, relinked, proper, new-links, Allowed}, Cores.{Group, number}, Orders.{is-k-order}}
 use Rattle.mesh.specs.Levels.{changed, lower-level, stretch-start, stretch-length, laid-out, stretch-up, stretch-down, new-stretch, with-stretch}
-use Rattle.mesh.specs.Levels.{new-order}
-use Rattle.lists.proofs.Tests.{bool-cases, never, and-both, or-cases, or-left, or-right}
-use Rattle.lists.proofs.Member.{in-cases, member-in, in-member, not-member}
-use Rattle.lists.proofs.Count.{count-pos}
-use Rattle.lists.proofs.Range.{in-range, range-in, once-in, once-below, once-distinct}
-use Rattle.lists.proofs.Distinct.{permutation-in}
-use Rattle.lists.proofs.Filter.{in-filter, filter-in, member-filter, filter-ext, distinct-filter}
+use Rattle.mesh.specs.{Levels.{new-order}, Peel.{Takes, bound}, Valid.{Valid, smaller, larger}}
 use Rattle.mesh.proofs.GraphLaws.{linked-sym, proper-of, of-proper, proper-new-links, linked-self, relinked-adds, Adds}
-use Rattle.mesh.proofs.Cores.Certificate.{Certificate}
-use Rattle.mesh.proofs.Cores.Peeling.{number-core}
-use Rattle.mesh.proofs.Cores.KOrders.{k-order-certificate, certificate-number, certificate-k-order}
-use Rattle.mesh.specs.Peel.{Takes, bound}
-use Rattle.mesh.proofs.Links.Peel.{Peeling, takes-permutation, takes-now-filter, laid-out-is, length-taken}
+use Rattle.mesh.proofs.{Cores.Certificate.{Certificate}, Cores.Peeling.{number-core}, Cores.KOrders.{k-order-certificate, certificate-number}}
+use Rattle.mesh.proofs.{Cores.KOrders.{certificate-k-order}, Links.Peel.{Peeling, takes-permutation, takes-now-filter, laid-out-is, length-taken}}
 use Rattle.mesh.proofs.Links.PeelSound.{Moves, Peeled-level, new-list, new-number, new-stuck, new-taken, new-else, taken-level, stuck-level, apart}
-use Rattle.mesh.proofs.Links.PeelSound.{peel-certificate}
-use Rattle.mesh.proofs.Links.Moves.{link-moves}
-use Rattle.mesh.proofs.Links.LevelCut.{lows, mids, highs, level-cut, stretch-start-is, stretch-length-is, take-below, take-level, drop-above}
-use Rattle.mesh.specs.Valid.{Valid, smaller, larger}
+use Rattle.mesh.proofs.{Links.PeelSound.{peel-certificate}, Links.Moves.{link-moves}, Links.LevelCut.{lows, mids, highs, level-cut, stretch-start-is}}
+use Rattle.mesh.proofs.Links.LevelCut.{stretch-length-is, take-below, take-level, drop-above}
 
 -- ---- both ends of a link have a number above 0
 
 pub linked-positive : (g : Graph) (a b : ℕ) → a < g .n → b < g .n → linked g a b ≡ true → 1 ≤ number g a
 unfolding Group neighbours-in radios
-linked-positive g a b la lb h = number-core g a la .largest 1 pair (λ v l q. one v (or-cases (eqb v a) (eqb v b) q)) (or-left (eqb a a) (eqb a b) (eq-eqb a a refl))
+linked-positive g a b la lb h = number-core g a la .largest 1 pair (λ v l q. one v (or-cases (eqb v a) (eqb v b) q))
+    (or-left (eqb a a) (eqb a b) (eq-eqb a a refl))
   where
     pair : ℕ → Bool
     pair v = eqb v a || eqb v b
 
     has : (v w : ℕ) → w < g .n → linked g v w ≡ true → pair w ≡ true → 1 ≤ neighbours-in g v pair
-    has v w l k q = count-pos (λ x. linked g v x && pair x) w (range 0 (g .n)) (in-range 0 (g .n) w (omega arith) (omega arith)) (and-both (linked g v w) (pair w) k q)
+    has v w l k q = count-pos (λ x. linked g v x && pair x) w (range 0 (g .n)) (in-range 0 (g .n) w (omega arith) (omega arith))
+        (and-both (linked g v w) (pair w) k q)
 
     one : (v : ℕ) → (eqb v a ≡ true) ⊎ (eqb v b ≡ true) → 1 ≤ neighbours-in g v pair
     one v (inl e) = has v b lb (rw (eqb-true v a e) h) (or-right (eqb b a) (eqb b b) (eq-eqb b b refl))
@@ -61,7 +45,11 @@ module _ (u : Bool) (a b : ℕ) (g : Graph) (v : ℕ) where
   pub changed-below : member v (changed u a b g) ≡ true → v < g .n
   unfolding changed radios
   changed-below m =
-      omega (arith, range-in 0 (g .n) v (in-filter (λ v. not (eqb (number g v) (number (relinked u a b g) v))) (range 0 (g .n)) v (member-in v (changed u a b g) m) .0))
+      omega (
+        arith,
+        range-in 0 (g .n) v (in-filter (λ v. not (eqb (number g v) (number (relinked u a b g) v))) (range 0 (g .n)) v
+            (member-in v (changed u a b g) m) .0),
+      )
 
   pub changed-differs : member v (changed u a b g) ≡ true → number g v ≡ number (relinked u a b g) v → ⊥
   changed-differs m =
@@ -177,12 +165,10 @@ module _ (most : ℕ) (u : Bool) (a b : ℕ) (g : Graph) (xs : List ℕ) (valid 
 
     -- changed radios stood at the lower end's level
     pub changed-level : (v : ℕ) → member v (changed u a b g) ≡ true → number g v ≡ K
-    changed-level v m = go (bool-cases (eqb (number g v) K))
-      where
-        go : (eqb (number g v) K ≡ true) ⊎ (eqb (number g v) K ≡ false) → number g v ≡ K
-        go (inl e) = eqb-true (number g v) K e
-        go (inr e) =
-            absurd (changed-differs u a b g v m (sym (number-else v (changed-below u a b g v m) (eqb-false (number g v) K e))))
+    changed-level v m =
+        ⊎-elim (λ e. eqb-true (number g v) K e)
+        (λ e. absurd (changed-differs u a b g v m (sym (number-else v (changed-below u a b g v m) (eqb-false (number g v) K e)))))
+        (bool-cases (eqb (number g v) K))
 
     changed-taken : (v : ℕ) → v < g .n → In v taken → member v (changed u a b g) ≡ not u
     changed-taken v l m = changed-member u a b g v l ∙ go u refl

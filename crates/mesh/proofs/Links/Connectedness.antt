@@ -2,24 +2,11 @@
 -- has the link, and include an end of it.
 -- Why: take the radios that one of them reaches over changed radios. With no end among them, they and the radios above the level
 -- would be a group of the larger number in the graph without the link already.
-use mathlib.Core.Path.{_≡_, refl, sym, ap, _∙_}
-use mathlib.Core.Logic.{_⊎_, inl, inr}
-use mathlib.Core.Bool.{Bool, true, false, _||_}
-use mathlib.Core.List.{List, [], _∷_}
-use Prim.Native.Nat.{ℕ, suc, _≤_, _<_}
-use native.Mathlib.Omega.{arith}
-use native.Mathlib.Nat.{le-trans, le-of-eq}
-use lib.Dec.{leb}
-use borrow.Author.Tests.{leb-true, le-leb}
-use Rattle.lists.specs.Lists.{member}
-use Rattle.mesh.specs.Graph.{Graph, linked, neighbours-in}
-use Rattle.mesh.specs.Cores.{Group, number}
-use Rattle.mesh.specs.Connected.{Reachable, here, onward, reached}
-use Rattle.lists.proofs.Tests.{bool-cases, never, or-cases, or-left, or-right}
-use Rattle.mesh.proofs.GraphLaws.{Ends, Adds, adds-cases, adds-has, linked-sym, neighbours-in-mono}
-use Rattle.mesh.proofs.Cores.Certificate.{core-enough}
-use Rattle.mesh.proofs.Cores.Peeling.{number-core}
-use Rattle.mesh.proofs.Trees.Reach.{reachable-passes, reachable-trans, reachable-sym, reached-iff}
+use Rattle.lists.specs.Kit.{_≡_, refl, sym, ap, _∙_, _⊎_, inl, inr, Bool, true, false, _||_, List, [], _∷_, ℕ, suc, _≤_, _<_, arith, le-trans, le-of-eq, leb}
+use Rattle.lists.{specs.Kit.{leb-true, le-leb, ⊎-elim}, specs.Lists.{member}, proofs.Tests.{bool-cases, never, or-cases, or-left, or-right}}
+use Rattle.mesh.specs.{Graph.{Graph, linked, neighbours-in}, Cores.{Group, number}, Connected.{Reachable, here, onward, reached}}
+use Rattle.mesh.proofs.{GraphLaws.{Ends, Adds, adds-cases, adds-has, linked-sym, neighbours-in-mono}, Cores.Certificate.{core-enough}}
+use Rattle.mesh.proofs.{Cores.Peeling.{number-core}, Trees.Reach.{reachable-passes, reachable-trans, reachable-sym, reached-iff}}
 
 module _ {p q : Graph} {a b : ℕ} (apart : Adds p q a b) (a-radio : a < q .n) (b-radio : b < q .n) (j : ℕ) (changed : List ℕ)
     (below : (v : ℕ) → member v changed ≡ true → v < q .n)
@@ -104,8 +91,4 @@ module _ {p q : Graph} {a b : ℕ} (apart : Adds p q a b) (a-radio : a < q .n) (
 
   -- an end is among them
   pub changed-has-end : (v : ℕ) → over v ≡ true → (over a ≡ true) ⊎ (over b ≡ true)
-  changed-has-end v m = go (reaches-end v m)
-    where
-      go : Reachable q over v a ⊎ Reachable q over v b → (over a ≡ true) ⊎ (over b ≡ true)
-      go (inl x) = inl (reachable-passes m x)
-      go (inr x) = inr (reachable-passes m x)
+  changed-has-end v m = ⊎-elim (λ x. inl (reachable-passes m x)) (λ x. inr (reachable-passes m x)) (reaches-end v m)

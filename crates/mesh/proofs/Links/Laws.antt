@@ -6,36 +6,17 @@
 --   link-has-end     they include an end (which stood at that level, by link-level)
 --   link-below, link-above, link-stretch   the order changes in the stretch of that level alone, which is laid out as document 01 says
 --   link-table       two bits of the links table change
-use mathlib.Core.Path.{_≡_, refl, sym, ap, _∙_}
-use mathlib.Core.Logic.{_⊎_, inl, inr}
-use mathlib.Core.Bool.{Bool, true, false}
-use mathlib.Core.List.{List, _++_, append-assoc}
-use Prim.Native.Nat.{ℕ, suc, _+_, _≤_, _<_}
-use native.Mathlib.Omega.{arith}
-use native.Mathlib.Nat.{le-trans}
-use lib.Dec.{eqb}
-use lib.ListN.{length, take, drop}
-use borrow.Author.Tests.{eqb-true, eqb-false}
-use Rattle.mesh.specs.Limits.{max-radios}
-use Rattle.lists.specs.Lists.{range, member}
-use Rattle.mesh.specs.Graph.{Graph, radios, linked, neighbours-among, degree, relinked, Allowed}
-use Rattle.mesh.specs.Cores.{number}
-use Rattle.mesh.specs.Levels.{changed, lower-level, stretch-start, stretch-length, new-stretch, new-order}
-use Rattle.mesh.specs.Tables.{put-link, links-table}
-use Rattle.mesh.specs.Connected.{Reachable}
-use Rattle.lists.proofs.Tests.{bool-cases}
-use Rattle.lists.proofs.Count.{count-all, count-mono}
-use Rattle.lists.proofs.Range.{distinct-range}
-use Rattle.mesh.proofs.GraphLaws.{Ends, Adds, relinked-adds}
-use Rattle.mesh.proofs.Links.Peel.{Peeling, peeling, takes-permutation}
-use Rattle.mesh.specs.Peel.{bound}
-use Rattle.mesh.proofs.Links.Moves.{adds-elsewhere, adds-least, adds-most}
-use Rattle.mesh.proofs.Links.LevelCut.{lows, mids, highs, take-below, take-level, drop-above}
-use Rattle.mesh.proofs.Links.Call.{link-adds, cut, start-is, length-is, relinked-proper, changed-below, changed-level, changed-numbers}
-use Rattle.mesh.proofs.Links.Call.{unchanged-numbers, new-stretch-is, new-order-is, new-order-k-order}
-use Rattle.mesh.proofs.Links.Connectedness.{changed-connected, changed-has-end}
-use Rattle.mesh.proofs.Tables.Relinked.{ascending-new-links, links-table-relinked}
-use Rattle.mesh.specs.Valid.{Valid, smaller, larger}
+use Rattle.lists.{specs.Kit.{_≡_, refl, sym, ap, _∙_, _⊎_, inl, inr, Bool, true, false, List, _++_, append-assoc, ℕ, suc, _+_, _≤_, _<_, arith, le-trans, eqb}}
+use Rattle.lists.{specs.Kit.{length, take, drop, eqb-true, eqb-false}, specs.Lists.{range, member}, proofs.Tests.{bool-cases}, proofs.Count.{count-all}}
+use Rattle.lists.{proofs.Count.{count-mono}, proofs.Range.{distinct-range}}
+use Rattle.mesh.specs.{Limits.{max-radios}, Graph.{Graph, radios, linked, neighbours-among, degree, relinked, Allowed}, Cores.{number}, Levels.{changed}}
+use Rattle.mesh.specs.{Levels.{lower-level, stretch-start, stretch-length, new-stretch, new-order}, Tables.{put-link, links-table}, Connected.{Reachable}}
+use Rattle.mesh.specs.{Peel.{bound}, Valid.{Valid, smaller, larger}}
+use Rattle.mesh.proofs.{GraphLaws.{Ends, Adds, relinked-adds}, Links.Peel.{Peeling, peeling, takes-permutation}, Links.Moves.{adds-elsewhere}}
+use Rattle.mesh.proofs.{Links.Moves.{adds-least, adds-most}, Links.LevelCut.{lows, mids, highs, take-below, take-level, drop-above}}
+use Rattle.mesh.proofs.{Links.Call.{link-adds, cut, start-is, length-is, relinked-proper, changed-below, changed-level, changed-numbers}}
+use Rattle.mesh.proofs.{Links.Call.{unchanged-numbers, new-stretch-is, new-order-is, new-order-k-order}, Links.Connectedness.{changed-connected}}
+use Rattle.mesh.proofs.{Links.Connectedness.{changed-has-end}, Tables.Relinked.{ascending-new-links, links-table-relinked}}
 
 -- ---- degrees
 
@@ -140,7 +121,8 @@ module _ (most : ℕ) (u : Bool) (a b : ℕ) (g : Graph) (xs : List ℕ) (valid 
   old-cut = cut most u a b g xs valid ok
 
   new-cut : new-order u a b g xs ≡ lows (number g) K xs ++ (fresh ++ high-part)
-  new-cut = new-order-is most u a b g xs valid ok peel ∙ ap (λ (z : List ℕ). lows (number g) K xs ++ z) (sym (append-assoc (peel .taken) (peel .stuck) high-part))
+  new-cut = new-order-is most u a b g xs valid ok peel ∙ ap (λ (z : List ℕ). lows (number g) K xs ++ z)
+      (sym (append-assoc (peel .taken) (peel .stuck) high-part))
 
   start-at : start ≡ length (lows (number g) K xs)
   start-at = start-is most u a b g xs valid ok peel

@@ -1,21 +1,9 @@
 -- An order along which numbers never fall is cut into the radios below a level, at it and above it; the level's entries are
 -- one stretch, and `stretch-start` and `stretch-length` say where it stands.
-use mathlib.Core.Path.{_≡_, refl, sym, ap, _∙_}
-use mathlib.Core.Logic.{_⊎_, inl, inr}
-use mathlib.Core.List.{List, [], _∷_, _++_, append-assoc}
-use Prim.Native.Nat.{ℕ, _+_, _≤_, _<_}
-use native.Mathlib.Omega.{arith}
-use lib.Dec.{ltb, eqb}
-use lib.ListN.{length, length-append, take, drop}
-use lib.Seq.{take-at, drop-at}
-use borrow.Author.Tests.{lt-ltb, le-ltb, eq-eqb, ne-eqb}
-use Rattle.lists.specs.Lists.{filter}
-use Rattle.lists.specs.Facts.{Each-once, Rising}
-use Rattle.mesh.specs.Graph.{Graph, radios}
-use Rattle.mesh.specs.Cores.{number}
-use Rattle.mesh.specs.Levels.{stretch-start, stretch-length}
-use Rattle.lists.proofs.Tests.{trichotomy}
-use Rattle.lists.proofs.Filter.{filter-none, length-filter}
+use Rattle.lists.{specs.Kit.{_≡_, refl, sym, ap, _∙_, _⊎_, inl, inr, List, [], _∷_, _++_, append-assoc, ℕ, _+_, _≤_, _<_, arith, ltb, eqb, length}}
+use Rattle.lists.{specs.Kit.{length-append, take, drop, take-at, drop-at, lt-ltb, le-ltb, eq-eqb, ne-eqb}, specs.Lists.{filter}, specs.Facts.{Each-once}}
+use Rattle.lists.{specs.Facts.{Rising}, proofs.Tests.{trichotomy}, proofs.Filter.{filter-none, length-filter}}
+use Rattle.mesh.specs.{Graph.{Graph, radios}, Cores.{number}, Levels.{stretch-start, stretch-length}}
 
 abbrev pub lows : (num : ℕ → ℕ) → (k : ℕ) → List ℕ → List ℕ
 lows num k xs = filter (λ v. ltb (num v) k) xs

@@ -1,22 +1,8 @@
 -- What one link more or less changes: at most one neighbour a radio, none below the lower end's level or above it.
-use mathlib.Core.Path.{_≡_, refl, sym, ap, _∙_}
-use mathlib.Core.Logic.{_⊎_, inl, inr}
-use mathlib.Core.Bool.{Bool, true, false, cond}
-use mathlib.Core.List.{List}
-use Prim.Native.Nat.{ℕ, suc, _-_, _≤_, _<_, min}
-use native.Mathlib.Omega.{arith}
-use lib.Dec.{eqb}
-use borrow.Author.Tests.{eq-eqb, ne-eqb}
-use Rattle.lists.specs.Lists.{count}
-use Rattle.lists.specs.Facts.{Distinct}
-use Rattle.mesh.specs.Graph.{Graph, linked, relinked}
-use Rattle.lists.proofs.Tests.{iff-eq}
-use Rattle.lists.proofs.Distinct.{count-one-more}
-use Rattle.lists.proofs.Count.{count-mono}
-use Rattle.mesh.specs.Valid.{smaller, larger}
-use Rattle.mesh.specs.Peel.{bound}
-use Rattle.mesh.proofs.GraphLaws.{Ends, Adds, adds-keeps, adds-cases}
-use Rattle.mesh.proofs.Links.PeelSound.{Moves}
+use Rattle.lists.{specs.Kit.{_≡_, refl, sym, ap, _∙_, _⊎_, inl, inr, Bool, true, false, cond, List, ℕ, suc, _≤_, _<_, min, arith, eqb, eq-eqb, ne-eqb}}
+use Rattle.lists.{specs.Lists.{count}, specs.Facts.{Distinct}, proofs.Tests.{iff-eq}, proofs.Distinct.{count-one-more}, proofs.Count.{count-mono}}
+use Rattle.mesh.specs.{Graph.{Graph, linked, relinked}, Valid.{smaller, larger}, Peel.{bound}}
+use Rattle.mesh.proofs.{GraphLaws.{Ends, Adds, adds-keeps, adds-cases}, Links.PeelSound.{Moves}}
 
 module _ {p q : Graph} {a b : ℕ} (apart : Adds p q a b) where
   pub adds-elsewhere : (v w : ℕ) → (Ends a b v w → ⊥) → linked p v w ≡ linked q v w

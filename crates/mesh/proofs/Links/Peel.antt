@@ -1,24 +1,12 @@
--- Laws of the peel: what is taken and what is left, in which order, and when it ends. A loop grows `Takes` at its end (takes-more) and ends with `Peels`; document 01's rule is the same peel (laid-out-is).
-use mathlib.Core.Path.{_≡_, refl, sym, ap, _∙_}
-use mathlib.Core.Logic.{_⊎_, inl, inr}
-use mathlib.Core.Bool.{Bool, true, false, not}
-use mathlib.Core.List.{List, [], _∷_, _++_, append-assoc}
-use Prim.Native.Nat.{ℕ, zero, suc, _+_, _≤_, _<_}
-use native.Mathlib.Omega.{arith}
-use lib.Dec.{leb}
-use lib.ListN.{length, length-append}
-use borrow.Author.Tests.{leb-true, leb-false, le-leb, lt-leb, eq-eqb, ne-eqb}
-use Rattle.lists.specs.Lists.{count, filter, member, In}
-use Rattle.lists.specs.Facts.{Distinct, Permutation}
-use Rattle.mesh.specs.Graph.{neighbours-among}
-use Rattle.mesh.specs.Levels.{first-fitting, without, laid-out}
-use Rattle.lists.proofs.Tests.{bool-cases, bit-false}
-use Rattle.lists.proofs.Member.{in-left, in-right, in-member, not-member}
-use Rattle.lists.proofs.Count.{count-append, count-mid, count-not, count-all}
-use Rattle.lists.proofs.Distinct.{permutation-in, distinct-mid}
-use Rattle.lists.proofs.Filter.{in-filter, filter-all, filter-append, filter-keep-mid, filter-drop-mid, length-filter, count-parts}
+-- Laws of the peel: what is taken and what is left, in which order, and when it ends. A loop grows `Takes` at its end (takes-more) and ends with `Peels`;
+-- document 01's rule is the same peel (laid-out-is).
+use Rattle.lists.{specs.Kit.{_≡_, refl, sym, ap, _∙_, _⊎_, inl, inr, Bool, true, false, not, List, [], _∷_, _++_, append-assoc, ℕ, zero, suc, _+_, _≤_, _<_}}
+use Rattle.lists.{specs.Kit.{arith, leb, length, length-append, leb-true, leb-false, le-leb, lt-leb, eq-eqb, ne-eqb}, specs.Lists.{count, filter, member, In}}
+use Rattle.lists.{specs.Facts.{Distinct, Permutation}, proofs.Tests.{bool-cases, bit-false}, proofs.Member.{in-left, in-right, in-member, not-member}}
+use Rattle.lists.{proofs.Count.{count-append, count-mid, count-not, count-all}, proofs.Distinct.{permutation-in, distinct-mid}, proofs.Filter.{in-filter}}
+use Rattle.lists.{proofs.Filter.{filter-all, filter-append, filter-keep-mid, filter-drop-mid, length-filter, count-parts}}
+use Rattle.mesh.specs.{Graph.{neighbours-among}, Levels.{first-fitting, without, laid-out}, Peel.{Takes, none, first, Peels}}
 use Rattle.mesh.proofs.Cores.Orders.{Few-later, few-later-drop}
-use Rattle.mesh.specs.Peel.{Takes, none, first, Peels}
 
 module _ (f : ℕ → ℕ → Bool) (most : ℕ) (others : List ℕ) where
   -- one more is taken at the end
@@ -101,7 +89,15 @@ module _ (f : ℕ → ℕ → Bool) (most : ℕ) (others : List ℕ) where
       go : Fits left rest ⊎ ((v : ℕ) → In v rest → most < count (f v) left + count (f v) others)
           → (leb (count (f y) left + count (f y) others) most ≡ true) ⊎ (leb (count (f y) left + count (f y) others) most ≡ false)
           → Fits left (y ∷ rest) ⊎ ((v : ℕ) → In v (y ∷ rest) → most < count (f v) left + count (f v) others)
-      go r (inl e) = inl (record { x = y; ps = []; qs = rest; cut = refl; fit = leb-true (count (f y) left + count (f y) others) most e; before = λ w m. absurd m })
+      go r (inl e) = inl (record {
+        x = y;
+        ps = [];
+        qs = rest;
+        cut = refl;
+        fit = leb-true (count (f y) left + count (f y) others) most e;
+        before = λ w m. absurd
+            m;
+      })
       go (inl r) (inr e) =
           inl (record { x = r .x; ps = y ∷ r .ps; qs = r .qs; cut = ap {B = List ℕ} (λ z. y ∷ z) (r .cut); fit = r .fit; before = both (r .ps) e (r .before) })
       go (inr r) (inr e) = inr (both rest e r)
@@ -174,7 +170,8 @@ module _ (f : ℕ → ℕ → Bool) (most : ℕ) (others : List ℕ) where
       omega (arith, counts x, fit, ap (count (f x)) c, count-mid (f x) x ps qs, bit-false (f x x) (irr x)) in
       let one : first-fitting f most (filter p left) (stuck ++ others) (filter p left) ≡ x =
       ap (first-fitting f most (filter p left) (stuck ++ others)) cut
-      ∙ first-fitting-is (filter p left) (stuck ++ others) (filter p ps) x (filter p qs) (λ w m. omega (arith, counts w, before w (in-filter p ps w m .0))) fits in
+      ∙ first-fitting-is (filter p left) (stuck ++ others) (filter p ps) x (filter p qs) (λ w m. omega (arith, counts w, before w (in-filter p ps w m .0)))
+      fits in
       laid-out-step (length taken) (filter p left) (stuck ++ others) x one
       ∙ ap {B = List ℕ} (λ z. x ∷ z)
       (ap (λ (z : List ℕ). laid-out (length taken) f most z (stuck ++ others))

@@ -1,29 +1,15 @@
 -- One level peeled anew, after a link went up or down, gives a certificate of the new numbers: one proof for both directions.
 -- K is the level, `most` the bound of the peel: K going up, K - 1 going down. Taken radios get `most`, stuck ones one more.
-use mathlib.Core.Path.{_≡_, refl, sym, ap, _∙_}
-use mathlib.Core.Logic.{_⊎_, inl, inr}
-use mathlib.Core.Bool.{Bool, true, false, _&&_, cond}
-use mathlib.Core.List.{List, _++_}
-use Prim.Native.Nat.{ℕ, suc, _+_, _≤_, _<_}
-use native.Mathlib.Omega.{arith}
-use native.Mathlib.Nat.{le-trans, le-of-eq}
-use lib.Dec.{leb}
-use borrow.Author.Tests.{leb-true, le-leb}
-use Rattle.lists.specs.Lists.{range, count, filter, member, In}
-use Rattle.lists.specs.Facts.{Distinct, Permutation, Each-once, Rising}
-use Rattle.mesh.specs.Graph.{Graph, radios, linked, neighbours-in}
-use Rattle.lists.proofs.Tests.{bool-cases, and-both}
-use Rattle.lists.proofs.Member.{in-left, in-cases, member-in, in-member, not-member}
-use Rattle.lists.proofs.Count.{count-append, count-mono}
-use Rattle.lists.proofs.Distinct.{distinct-right, distinct-apart}
-use Rattle.lists.proofs.Range.{distinct-range, once-in, once-distinct}
-use Rattle.lists.proofs.Filter.{distinct-filter}
-use Rattle.mesh.proofs.GraphLaws.{neighbours-in-list, neighbours-in-mono, neighbours-in-filter}
-use Rattle.lists.proofs.Ascending.{rising-append, rising-left, rising-right, rising-level, rising-cong}
-use Rattle.mesh.proofs.Cores.Orders.{Few-later, few-later-right, few-later-front, few-later-cong, Enough}
-use Rattle.mesh.proofs.Cores.Certificate.{Certificate}
-use Rattle.mesh.specs.Peel.{Peels}
-use Rattle.mesh.proofs.Links.Peel.{takes-permutation, takes-now-in, takes-taken-in, takes-now-few, takes-taken-few}
+use Rattle.lists.specs.Kit.{_≡_, refl, sym, ap, _∙_, _⊎_, inl, inr, Bool, true, false, _&&_, cond, List, _++_, ℕ, suc, _+_, _≤_, _<_, arith, le-trans, ⊎-elim}
+use Rattle.lists.{specs.Kit.{le-of-eq, leb, leb-true, le-leb}, specs.Lists.{range, count, filter, member, In}, specs.Facts.{Distinct, Permutation, Each-once}}
+use Rattle.lists.{specs.Facts.{Rising}, proofs.Tests.{bool-cases, and-both}, proofs.Member.{in-left, in-cases, member-in, in-member, not-member}}
+use Rattle.lists.{proofs.Count.{count-append, count-mono}, proofs.Distinct.{distinct-right, distinct-apart}, proofs.Range.{distinct-range, once-in}}
+use Rattle.lists.{proofs.Range.{once-distinct}, proofs.Filter.{distinct-filter}, proofs.Ascending.{rising-append, rising-left, rising-right, rising-level}}
+use Rattle.lists.proofs.Ascending.{rising-cong}
+use Rattle.mesh.specs.{Graph.{Graph, radios, linked, neighbours-in}, Peel.{Peels}}
+use Rattle.mesh.proofs.{GraphLaws.{neighbours-in-list, neighbours-in-mono, neighbours-in-filter}, Cores.Orders.{Few-later, few-later-right}}
+use Rattle.mesh.proofs.{Cores.Orders.{few-later-front, few-later-cong, Enough}, Cores.Certificate.{Certificate}, Links.Peel.{takes-permutation}}
+use Rattle.mesh.proofs.Links.Peel.{takes-now-in, takes-taken-in, takes-now-few, takes-taken-few}
 
 -- s before and t after a link call: nothing differs at radios below the level and between radios above it; a radio gains at
 -- most as many neighbours as the bound allows, and loses at most as many
@@ -155,18 +141,11 @@ module _ (p : Peeled-level) where
   -- ---- the conditions
 
   end-least : (y : ℕ) → In y (p .stuck ++ p .above) → suc (p .most) ≤ new-number y
-  end-least y m = go (in-cases y (p .stuck) (p .above) m)
-    where
-      go : In y (p .stuck) ⊎ In y (p .above) → suc (p .most) ≤ new-number y
-      go (inl q) = omega (arith, new-stuck y q)
-      go (inr q) = omega (arith, new-above y q, p .higher y q, p .moves .most-low)
+  end-least y m =
+      ⊎-elim (λ q. omega (arith, new-stuck y q)) (λ q. omega (arith, new-above y q, p .higher y q, p .moves .most-low)) (in-cases y (p .stuck) (p .above) m)
 
   behind-least : (y : ℕ) → In y (p .taken ++ (p .stuck ++ p .above)) → p .most ≤ new-number y
-  behind-least y m = go (in-cases y (p .taken) (p .stuck ++ p .above) m)
-    where
-      go : In y (p .taken) ⊎ In y (p .stuck ++ p .above) → p .most ≤ new-number y
-      go (inl q) = omega (arith, new-taken y q)
-      go (inr q) = omega (arith, end-least y q)
+  behind-least y m = ⊎-elim (λ q. omega (arith, new-taken y q)) (λ q. omega (arith, end-least y q)) (in-cases y (p .taken) (p .stuck ++ p .above) m)
 
   new-rising : Rising new-number new-list
   new-rising =
@@ -183,7 +162,8 @@ module _ (p : Peeled-level) where
   new-few : Few-later (linked (p .t)) new-number new-list
   new-few =
       let old-behind = few-later-right (linked (p .s)) (p .num) (p .below) (p .level ++ p .above) (p .certified .few) in
-      few-later-front (linked (p .s)) (linked (p .t)) (p .num) new-number (p .below) (p .level ++ p .above) (p .taken ++ (p .stuck ++ p .above)) behind distinct-new
+      few-later-front (linked (p .s)) (linked (p .t)) (p .num) new-number (p .below) (p .level ++ p .above) (p .taken ++ (p .stuck ++ p .above)) behind
+      distinct-new
       (λ v ws m d q. omega (
         arith,
         q,

@@ -2,36 +2,17 @@
 --   graph-in-same       tables with the same marks above the diagonal mark the same graph
 --   graph-in-put-link   sound tables, both bits of a link put: the graph with the link changed
 --   rows-put-link       and its rows are proper again
-use mathlib.Core.Path.{_≡_, sym, ap, _∙_}
-use mathlib.Core.Logic.{_⊎_, inl, inr}
-use mathlib.Core.Bool.{Bool, true, false, _&&_, cond}
-use mathlib.Core.List.{List}
-use Prim.Native.Nat.{ℕ, _*_, _≤_, _<_}
-use native.Mathlib.Omega.{arith}
-use native.Mathlib.Nat.{le-trans, le-of-eq}
-use lib.Dec.{ltb}
-use lib.ListN.{length}
-use borrow.Author.Tests.{ltb-true, ltb-false}
-use Rattle.mesh.specs.Limits.{max-radios, max-neighbours, row-bytes}
-use Rattle.lists.specs.Lists.{range}
-use Rattle.mesh.specs.Graph.{Link, Graph, graph, linked, relinked, Allowed}
-use Rattle.mesh.specs.Levels.{new-order}
-use Rattle.mesh.specs.Tables.{Tables, marked, put-link, links-table, graph-in}
-use Rattle.mesh.specs.Sound.{symmetric, irreflexive, within, row-degree, few, rows-proper, sound}
-use Rattle.lists.proofs.Tests.{bool-cases, and-left, and-right}
-use Rattle.lists.proofs.Count.{count-ext}
-use Rattle.lists.proofs.Range.{range-in}
-use Rattle.mesh.proofs.GraphLaws.{ends}
-use Rattle.mesh.proofs.Tables.Laws.{marked-put-link, marked-links-table}
-use Rattle.mesh.proofs.Tables.Rows.{symmetric-of, of-symmetric, irreflexive-of, of-irreflexive, within-of, of-within, few-of, of-few, linked-within}
-use Rattle.mesh.proofs.Tables.Rows.{rows-proper-links-table}
-use Rattle.mesh.proofs.Tables.AscendingLinks.{sorted-eq}
-use Rattle.mesh.proofs.Tables.Relinked.{linked-relinked}
-use Rattle.mesh.proofs.Tables.ReadBack.{Marks, in-graph-in, graph-in-in, sorted-graph-in, linked-graph-in, graph-in-links-table}
-use Rattle.mesh.proofs.Tables.Soundness.{sound-certificate}
-use Rattle.mesh.proofs.Images.Tables.{valid-graph-in}
-use Rattle.mesh.proofs.Links.Laws.{link-valid}
-use Rattle.mesh.specs.Valid.{Valid}
+use Rattle.lists.{specs.Kit.{_≡_, sym, ap, _∙_, _⊎_, inl, inr, Bool, true, false, _&&_, cond, List, ℕ, _*_, _≤_, _<_, arith, le-trans, le-of-eq, ltb, length}}
+use Rattle.lists.{specs.Kit.{ltb-true, ltb-false}, specs.Lists.{range}, proofs.Tests.{bool-cases, and-left, and-right}, proofs.Count.{count-ext}}
+use Rattle.lists.{proofs.Range.{range-in}}
+use Rattle.mesh.specs.{Limits.{max-radios, max-neighbours, row-bytes}, Graph.{Link, Graph, graph, linked, relinked, Allowed}, Levels.{new-order}}
+use Rattle.mesh.specs.{Tables.{Tables, marked, put-link, links-table, graph-in}, Sound.{symmetric, irreflexive, within, row-degree, few, rows-proper}}
+use Rattle.mesh.specs.{Sound.{sound}, Valid.{Valid}}
+use Rattle.mesh.proofs.{GraphLaws.{ends}, Tables.Laws.{marked-put-link, marked-links-table}, Tables.Rows.{symmetric-of, of-symmetric, irreflexive-of}}
+use Rattle.mesh.proofs.{Tables.Rows.{of-irreflexive, within-of, of-within, few-of, of-few, linked-within, rows-proper-links-table}}
+use Rattle.mesh.proofs.{Tables.AscendingLinks.{sorted-eq}, Tables.Relinked.{linked-relinked}, Tables.ReadBack.{Marks, in-graph-in, graph-in-in}}
+use Rattle.mesh.proofs.{Tables.ReadBack.{sorted-graph-in, linked-graph-in, graph-in-links-table}, Tables.Soundness.{sound-certificate}}
+use Rattle.mesh.proofs.{Images.Tables.{valid-graph-in}, Links.Laws.{link-valid}}
 
 marks-same : (n : ℕ) (ts us : List ℕ) (m : Link) → ((a b : ℕ) → a < b → b < n → marked ts a b ≡ marked us a b) → Marks n ts m → Marks n us m
 marks-same n ts us m e k = record {

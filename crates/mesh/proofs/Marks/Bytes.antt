@@ -2,17 +2,11 @@
 --   replaced    a place written over place r
 --   inserted    the places from r on moved one place up, and a place written over place r
 --   taken-out   the places after r moved one place down, and the last used place zeroed
-use mathlib.Core.Path.{_≡_, refl, sym, ap, ap₂, _∙_}
-use mathlib.Core.List.{List, [], _∷_, _++_, flatMap, append-assoc}
-use Prim.Native.Nat.{ℕ, zero, suc, _+_, _*_, _-_, _≤_, _<_}
-use native.Mathlib.Omega.{arith}
-use lib.ListN.{length, take, drop, replicate, length-append, length-take, length-drop, length-replicate, take-append-drop, replicate-append-replicate}
-use lib.Seq.{take-at, drop-at, drop-drop, take-take, length-take-le, take-append-le}
-use Rattle.lists.proofs.Parts.{drop-replicate}
-use Rattle.mesh.specs.Marks.{place-bytes, places, store-bytes, name-in, store-of}
-use Rattle.mesh.specs.MarkPlaces.{moved-up, moved-down}
-use Rattle.mesh.proofs.Marks.Lists.{Rising-marks}
-use Rattle.mesh.proofs.Marks.Laws.{joined, Sized, rising-sized}
+use Rattle.lists.{specs.Kit.{_≡_, refl, sym, ap, ap₂, _∙_, List, [], _∷_, _++_, flatMap, append-assoc, ℕ, zero, suc, _+_, _*_, _-_, _≤_, _<_, arith, length}}
+use Rattle.lists.{specs.Kit.{take, drop, replicate, length-append, length-drop, length-replicate, take-append-drop, replicate-append-replicate, take-at}}
+use Rattle.lists.{specs.Kit.{drop-at, drop-drop, take-take, length-take-le, take-append-le}, proofs.Parts.{drop-replicate}}
+use Rattle.mesh.specs.{Marks.{place-bytes, places, store-bytes, store-of}, MarkPlaces.{moved-up, moved-down}}
+use Rattle.mesh.proofs.Marks.Laws.{joined, Sized}
 
 -- ---- places one behind the other
 
@@ -35,13 +29,6 @@ sized-drop : (r : ℕ) (ps : List (List ℕ)) → Sized ps → Sized (drop r ps)
 sized-drop zero ps s = s
 sized-drop (suc r) [] s = tt
 sized-drop (suc r) (p ∷ ps) s = sized-drop r ps (s .1)
-
--- the places after r, where r is one of them
-drop-next : (r : ℕ) (ps : List (List ℕ)) → r < length ps → Sized ps →
-    (p : List ℕ) × (length p ≡ place-bytes) × (drop r ps ≡ p ∷ drop (suc r) ps)
-drop-next r [] l s = absurd (omega arith)
-drop-next zero (p ∷ ps) l s = (p, s .0, refl)
-drop-next (suc r) (p ∷ ps) l s = drop-next r ps (omega arith) (s .1)
 
 module _ (ps : List (List ℕ)) (s : Sized ps) (few : length ps ≤ places) where
   abbrev zeros : ℕ → List ℕ
@@ -122,7 +109,8 @@ module _ (ps : List (List ℕ)) (s : Sized ps) (few : length ps ≤ places) wher
       let rest = take (place-bytes * length ps - place-bytes * r) (drop (place-bytes * r) bs) ++ drop (place-bytes * length ps + place-bytes) bs in
       let long : length front ≡ place-bytes * r + place-bytes = length-take-le (place-bytes * r + place-bytes) bs (omega (arith, store-long)) in
       ap₂ {C = List ℕ} (λ xs ys. xs ++ (p ++ ys))
-      (take-append-le (place-bytes * r) front rest (omega arith) ∙ take-take (place-bytes * r) (place-bytes * r + place-bytes) bs (omega arith) ∙ first-part r l)
+      (take-append-le (place-bytes * r) front rest (omega arith) ∙ take-take (place-bytes * r) (place-bytes * r + place-bytes) bs (omega arith) ∙ first-part r
+      l)
       (drop-at front rest (place-bytes * r + place-bytes) long ∙ ap₂ {C = List ℕ} (λ xs ys. xs ++ ys) (used-part r l) (less-zeros m))
       ∙ store-with r (places - suc (length ps)) p (drop r ps) l (omega (arith, length-drop r ps))
 
@@ -154,7 +142,8 @@ module _ (ps : List (List ℕ)) (s : Sized ps) (few : length ps ≤ places) wher
       let X = drop (place-bytes * length ps - place-bytes) bs in
       let i : place-bytes * suc r - place-bytes ≡ place-bytes * r = omega arith in
       let j : place-bytes * length ps - place-bytes + place-bytes ≡ place-bytes * length ps = omega arith in
-      let ds : take (place-bytes * suc r - place-bytes) bs ++ (take (place-bytes * length ps - place-bytes * suc r) (drop (place-bytes * suc r) bs) ++ X) ≡ (A ++ C) ++ X =
+      let ds : take (place-bytes * suc r - place-bytes) bs ++ (take (place-bytes * length ps - place-bytes * suc r) (drop (place-bytes * suc r) bs) ++ X) ≡
+      (A ++ C) ++ X =
       ap₂ {C = List ℕ} (λ xs ys. xs ++ (ys ++ X)) (ap (λ (m : ℕ). take m bs) i ∙ first-part r (omega arith)) (used-part (suc r) (omega arith))
       ∙ sym (append-assoc A C X) in
       let long : length (A ++ C) ≡ place-bytes * k = omega (arith, length-append A C, first-long r (omega arith), later-long (suc r)) in

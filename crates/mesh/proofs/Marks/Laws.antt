@@ -5,29 +5,15 @@
 --   place-mark       a name and an image make a mark, and are what it holds
 --   mark-place       a mark is the place of its name and its image
 -- In order: zeros, places, the store, one place.
-use mathlib.Core.Path.{_≡_, refl, sym, ap, ap₂, _∙_}
-use mathlib.Core.Logic.{_⊎_, inl, inr}
-use mathlib.Core.Bool.{Bool, true, false, _&&_, _||_, cond}
-use mathlib.Core.List.{List, [], _∷_, _++_, flatMap, append-assoc}
-use Prim.Native.Nat.{ℕ, zero, suc, _+_, _*_, _-_, _≤_, _<_}
-use native.Mathlib.Omega.{arith}
-use native.Mathlib.Nat.{zero-add, suc-add, mul-suc}
-use lib.Dec.{leb, eqb}
-use lib.ListN.{length, getD, take, drop, replicate, length-append, length-take, length-drop, length-replicate, take-append-drop, List·getD-append}
-use lib.Seq.{take-at, drop-at, drop-drop, length-take-le, take-append-seam, drop-append-seam, take-add}
-use borrow.Author.Tests.{eqb-true, eq-eqb, ne-eqb, leb-true, leb-false}
-use Rattle.mesh.specs.Limits.{max-radios, max-neighbours}
-use Rattle.lists.specs.Lists.{all, same}
-use Rattle.mesh.specs.Graph.{Graph}
-use Rattle.mesh.specs.Image.{block-bytes, block-count, word-at, image-of, image-links, image-graph, image-order, is-image}
-use Rattle.mesh.specs.Marks.{name-bytes, place-bytes, places, store-bytes, is-alphanumeric, is-name, before, is-zeros, name-in, image-size, image-in, is-mark, place-of, places-of, used, marks-in, are-marks, is-store, store-of}
-use Rattle.lists.proofs.Tests.{bool-cases, never, and-left, and-right, and-both, or-cases}
-use Rattle.mesh.proofs.Tables.DegreeSum.{block-count-most}
-use Rattle.mesh.proofs.Tables.Sites.{image-valid}
-use Rattle.mesh.proofs.Images.Of.{length-image-of}
-use Rattle.mesh.proofs.Images.Sites.{written-read}
-use Rattle.mesh.proofs.Images.Canonical.{length-image-links}
-use Rattle.mesh.proofs.Marks.Lists.{Rising-marks}
+use Rattle.lists.specs.Kit.{_≡_, refl, sym, ap, ap₂, _∙_, Bool, true, false, _&&_, cond, List, [], _∷_, _++_, flatMap, append-assoc, ℕ, zero}
+use Rattle.lists.specs.Kit.{suc, _+_, _*_, _-_, _≤_, _<_, arith, zero-add, suc-add, mul-suc, leb, eqb, length, take, drop, replicate, length-append, ⊎-elim}
+use Rattle.lists.specs.Kit.{length-drop, length-replicate, take-append-drop, List·getD-append, take-at, drop-at, drop-drop, length-take-le, eqb-true, ne-eqb}
+use Rattle.lists.{specs.Kit.{leb-true}, specs.Lists.{all}, proofs.Tests.{never, and-left, and-right, and-both, or-cases}}
+use Rattle.mesh.specs.{Limits.{max-radios}, Image.{block-bytes, block-count, word-at, image-graph, image-order, is-image}, Marks.{name-bytes}}
+use Rattle.mesh.specs.Marks.{place-bytes, places, store-bytes, is-alphanumeric, is-name, before, is-zeros, name-in, image-size, image-in, is-mark}
+use Rattle.mesh.specs.Marks.{place-of, places-of, used, marks-in, are-marks, is-store, store-of}
+use Rattle.mesh.proofs.{Tables.DegreeSum.{block-count-most}, Tables.Sites.{image-valid}, Images.Of.{length-image-of}, Images.Sites.{written-read}}
+use Rattle.mesh.proofs.{Images.Canonical.{length-image-links}, Marks.Lists.{Rising-marks}}
 
 abbrev pub joined : List (List ℕ) → List ℕ
 joined ps = flatMap (λ p. p) ps
@@ -54,11 +40,9 @@ zeros-take (suc k) (b ∷ bs) h =
 
 alphanumeric-more : (c : ℕ) → is-alphanumeric c ≡ true → 0 < c
 unfolding is-alphanumeric
-alphanumeric-more c h = go (or-cases (leb 65 c && leb c 90) (leb 48 c && leb c 57) h)
-  where
-    go : ((leb 65 c && leb c 90) ≡ true) ⊎ ((leb 48 c && leb c 57) ≡ true) → 0 < c
-    go (inl e) = omega (arith, leb-true 65 c (and-left (leb 65 c) (leb c 90) e))
-    go (inr e) = omega (arith, leb-true 48 c (and-left (leb 48 c) (leb c 57) e))
+alphanumeric-more c h =
+    ⊎-elim (λ e. omega (arith, leb-true 65 c (and-left (leb 65 c) (leb c 90) e))) (λ e. omega (arith, leb-true 48 c (and-left (leb 48 c) (leb c 57) e)))
+    (or-cases (leb 65 c && leb c 90) (leb 48 c && leb c 57) h)
 
 mark-name : (n : ℕ) (p : List ℕ) → is-mark n p ≡ true → is-name (name-in p) ≡ true
 unfolding is-mark
@@ -80,12 +64,14 @@ unfolding flatMap
 length-joined n x [] r = omega arith
 length-joined n x (p ∷ ps) r = omega (arith, length-append p (joined ps), r .0, length-joined n (name-in p) ps (r .3))
 
-places-joined : (n : ℕ) (x : List ℕ) (ps : List (List ℕ)) (zs : List ℕ) (j : ℕ) → Rising-marks n x ps → places-of (length ps + j) (joined ps ++ zs) ≡ ps ++ places-of j zs
+places-joined : (n : ℕ) (x : List ℕ) (ps : List (List ℕ)) (zs : List ℕ) (j : ℕ) → Rising-marks n x ps → places-of (length ps + j) (joined ps ++ zs) ≡ ps ++
+    places-of j zs
 unfolding flatMap places-of
 places-joined n x [] zs j r = ap (λ (k : ℕ). places-of k zs) (zero-add j)
 places-joined n x (p ∷ ps) zs j r =
     ap₂ places-of (suc-add (length ps) j) (append-assoc p (joined ps) zs)
-    ∙ ap₂ {C = List (List ℕ)} (λ q qs. q ∷ places-of (length ps + j) qs) (take-at p (joined ps ++ zs) place-bytes (r .0)) (drop-at p (joined ps ++ zs) place-bytes (r .0))
+    ∙ ap₂ {C = List (List ℕ)} (λ q qs. q ∷ places-of (length ps + j) qs) (take-at p (joined ps ++ zs) place-bytes (r .0))
+    (drop-at p (joined ps ++ zs) place-bytes (r .0))
     ∙ ap {B = List (List ℕ)} (λ qs. p ∷ qs) (places-joined n (name-in p) ps zs j (r .3))
 
 used-append : (n : ℕ) (x : List ℕ) (ps qs : List (List ℕ)) → Rising-marks n x ps → used (ps ++ qs) ≡ ps ++ used qs
@@ -291,5 +277,6 @@ mark-place n p l h =
     let e : length zs ≡ place-bytes - (name-bytes + length bs) = omega (arith, length-drop name-bytes p, length-append bs zs, ap length parts) in (
       and-left (is-name (take name-bytes p)) (i && is-zeros zs) h,
       and-left i (is-zeros zs) k,
-      sym (take-append-drop name-bytes p) ∙ ap (λ (xs : List ℕ). take name-bytes p ++ xs) (parts ∙ ap (λ (xs : List ℕ). bs ++ xs) (z ∙ ap (λ (j : ℕ). replicate j 0) e)),
+      sym (take-append-drop name-bytes p) ∙ ap (λ (xs : List ℕ). take name-bytes p ++ xs)
+          (parts ∙ ap (λ (xs : List ℕ). bs ++ xs) (z ∙ ap (λ (j : ℕ). replicate j 0) e)),
     )

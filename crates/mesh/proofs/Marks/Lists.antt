@@ -1,17 +1,9 @@
 -- Laws of places in rising order of name: a mark more, a mark less, and a mark found.
 --   Rising-marks n x ps    the places ps are marks of full length in rising order of name, the first after the name x
 -- In order: names that stand before, with a mark, without one.
-use mathlib.Core.Path.{_≡_, refl, sym, ap, subst, _∙_}
-use mathlib.Core.Logic.{_⊎_, inl, inr}
-use mathlib.Core.Bool.{Bool, true, false, _||_, cond}
-use mathlib.Core.List.{List, [], _∷_}
-use Prim.Native.Nat.{ℕ, zero, suc, _+_, _≤_}
-use native.Mathlib.Omega.{arith}
-use lib.ListN.{length}
-use Rattle.lists.specs.Lists.{same}
+use Rattle.lists.{specs.Kit.{_≡_, refl, sym, ap, subst, _∙_, _⊎_, inl, inr, Bool, true, false, _||_, cond, List, [], _∷_, ℕ, suc, _+_, arith, length}}
+use Rattle.lists.{specs.Lists.{same}, proofs.Tests.{bool-cases, never}, proofs.All.{same-refl, same-eq}}
 use Rattle.mesh.specs.Marks.{place-bytes, before, name-in, is-mark, has-mark, found, with-mark, without-mark}
-use Rattle.lists.proofs.Tests.{bool-cases, never}
-use Rattle.lists.proofs.All.{same-refl, same-eq}
 use Rattle.mesh.proofs.Marks.NameOrder.{before-trans, before-differ, before-total}
 
 abbrev pub Rising-marks : (n : ℕ) → (last : List ℕ) → List (List ℕ) → Type 0
@@ -52,7 +44,8 @@ unfolding has-mark found
 found-mark n x last [] r h = never false h refl
 found-mark n x last (p ∷ ps) r h = go (found-mark n x (name-in p) ps (r .3)) (same (name-in p) x) refl h
   where
-    go : (has-mark x ps ≡ true → (length (found x ps) ≡ place-bytes) × (is-mark n (found x ps) ≡ true) × (name-in (found x ps) ≡ x)) → (t : Bool) → same (name-in p) x ≡ t → (t || has-mark x ps) ≡ true →
+    go : (has-mark x ps ≡ true → (length (found x ps) ≡ place-bytes) × (is-mark n (found x ps) ≡ true) × (name-in (found x ps) ≡ x)) → (t : Bool) → same
+        (name-in p) x ≡ t → (t || has-mark x ps) ≡ true →
         (length (cond t p (found x ps)) ≡ place-bytes) × (is-mark n (cond t p (found x ps)) ≡ true) × (name-in (cond t p (found x ps)) ≡ x)
     go rec true e k = (r .0, r .1, same-eq (name-in p) x e)
     go rec false e k = rec k
@@ -63,9 +56,11 @@ module _ (n : ℕ) (p : List ℕ) (long : length p ≡ place-bytes) (good : is-m
   pub rising-with : (x : List ℕ) (ps : List (List ℕ)) → before x (name-in p) ≡ true → Rising-marks n x ps → Rising-marks n x (with-mark p ps)
   unfolding with-mark
   rising-with x [] h r = (long, good, h, tt)
-  rising-with x (q ∷ qs) h r = go (λ k. rising-with (name-in q) qs k (r .3)) (bool-cases (before (name-in p) (name-in q))) (bool-cases (same (name-in q) (name-in p)))
+  rising-with x (q ∷ qs) h r = go (λ k. rising-with (name-in q) qs k (r .3)) (bool-cases (before (name-in p) (name-in q)))
+      (bool-cases (same (name-in q) (name-in p)))
     where
-      go : (before (name-in q) (name-in p) ≡ true → Rising-marks n (name-in q) (with-mark p qs)) → (before (name-in p) (name-in q) ≡ true) ⊎ (before (name-in p) (name-in q) ≡ false)
+      go : (before (name-in q) (name-in p) ≡ true → Rising-marks n (name-in q) (with-mark p qs)) → (before (name-in p) (name-in q) ≡ true) ⊎
+          (before (name-in p) (name-in q) ≡ false)
           → (same (name-in q) (name-in p) ≡ true) ⊎ (same (name-in q) (name-in p) ≡ false) → Rising-marks n x (with-mark p (q ∷ qs))
       go rec (inl e) d = rw e (long, good, h, (r .0, r .1, e, r .3))
       go rec (inr e) (inl d) = rw (e, d) (long, good, h, subst (λ (y : List ℕ). Rising-marks n y qs) (same-eq (name-in q) (name-in p) d) (r .3))
@@ -119,12 +114,14 @@ has-mark-with-other x p (q ∷ qs) h = go (has-mark-with-other x p qs h) (before
     go rec false false e = ap (λ (y : Bool). same (name-in q) x || y) rec
 
 -- one place more, or as many where the name was there
-pub length-with : (n : ℕ) (x p : List ℕ) (ps : List (List ℕ)) → Rising-marks n x ps → length (with-mark p ps) + cond (has-mark (name-in p) ps) 1 0 ≡ suc (length ps)
+pub length-with : (n : ℕ) (x p : List ℕ) (ps : List (List ℕ)) → Rising-marks n x ps → length (with-mark p ps) + cond (has-mark (name-in p) ps) 1 0 ≡ suc
+    (length ps)
 unfolding with-mark has-mark
 length-with n x p [] r = omega arith
 length-with n x p (q ∷ qs) r = go (length-with n (name-in q) p qs (r .3)) (before (name-in p) (name-in q)) (same (name-in q) (name-in p)) refl refl
   where
-    go : length (with-mark p qs) + cond (has-mark (name-in p) qs) 1 0 ≡ suc (length qs) → (b s : Bool) → before (name-in p) (name-in q) ≡ b → same (name-in q) (name-in p) ≡ s →
+    go : length (with-mark p qs) + cond (has-mark (name-in p) qs) 1 0 ≡ suc (length qs) → (b s : Bool) → before (name-in p) (name-in q) ≡ b → same (name-in q)
+        (name-in p) ≡ s →
         length (cond b (p ∷ q ∷ qs) (cond s (p ∷ qs) (q ∷ with-mark p qs))) + cond (s || has-mark (name-in p) qs) 1 0 ≡ suc (suc (length qs))
     go rec true s f e =
         let d : s ≡ false = sym e ∙ before-differ (name-in p) (name-in q) f in
@@ -168,7 +165,8 @@ unfolding without-mark has-mark
 has-mark-without-other x y [] h = refl
 has-mark-without-other x y (p ∷ ps) h = go (has-mark-without-other x y ps h) (same (name-in p) x) refl
   where
-    go : has-mark y (without-mark x ps) ≡ has-mark y ps → (t : Bool) → same (name-in p) x ≡ t → has-mark y (cond t ps (p ∷ without-mark x ps)) ≡ has-mark y (p ∷ ps)
+    go : has-mark y (without-mark x ps) ≡ has-mark y ps → (t : Bool) → same (name-in p) x ≡ t → has-mark y (cond t ps (p ∷ without-mark x ps)) ≡ has-mark y
+        (p ∷ ps)
     go rec true e =
         let f : same (name-in p) y ≡ false = ap (λ (z : List ℕ). same z y) (same-eq (name-in p) x e) ∙ h in rw f
     go rec false e = ap (λ (z : Bool). same (name-in p) y || z) rec
@@ -179,6 +177,7 @@ unfolding without-mark has-mark
 length-without x [] = omega arith
 length-without x (p ∷ ps) = go (length-without x ps) (same (name-in p) x)
   where
-    go : length (without-mark x ps) + cond (has-mark x ps) 1 0 ≡ length ps → (t : Bool) → length (cond t ps (p ∷ without-mark x ps)) + cond (t || has-mark x ps) 1 0 ≡ suc (length ps)
+    go : length (without-mark x ps) + cond (has-mark x ps) 1 0 ≡ length ps → (t : Bool) → length (cond t ps (p ∷ without-mark x ps)) + cond (t || has-mark x ps)
+        1 0 ≡ suc (length ps)
     go rec true = omega arith
     go rec false = omega (arith, rec)

@@ -1,16 +1,9 @@
 -- The order of names, by bytes: a strict total order of lists.
-use mathlib.Core.Path.{_≡_, refl, sym, ap}
-use mathlib.Core.Logic.{_⊎_, inl, inr}
-use mathlib.Core.Bool.{Bool, true, false, _&&_, _||_}
-use mathlib.Core.List.{List, [], _∷_}
-use Prim.Native.Nat.{ℕ, _<_}
-use native.Mathlib.Omega.{arith}
-use lib.Dec.{ltb, eqb}
-use borrow.Author.Tests.{ltb-true, eqb-true, lt-ltb, eq-eqb, ne-eqb}
-use Rattle.lists.specs.Lists.{same}
+use Rattle.lists.specs.Kit.{_≡_, refl, sym, _⊎_, inl, inr, true, false, _&&_, List, [], _∷_, ℕ, _<_, arith, ltb, eqb, ltb-true, eqb-true, lt-ltb, eq-eqb}
+use Rattle.lists.specs.Kit.{⊎-elim}
+use Rattle.lists.{specs.Lists.{same}, proofs.Tests.{never, and-left, and-right, and-both, or-left, or-right, or-cases, bool-cases, trichotomy}}
+use Rattle.lists.proofs.All.{same-eq}
 use Rattle.mesh.specs.Marks.{before}
-use Rattle.lists.proofs.Tests.{never, and-left, and-right, and-both, or-left, or-right, or-cases, bool-cases, trichotomy}
-use Rattle.lists.proofs.All.{same-refl, same-eq}
 
 -- ---- at the first byte
 
@@ -24,11 +17,9 @@ before-equal a b x y e h = or-right (ltb a b) (eqb a b && before x y) (and-both 
 
 pub before-cases : (a b : ℕ) (x y : List ℕ) → before (a ∷ x) (b ∷ y) ≡ true → (a < b) ⊎ ((a ≡ b) × (before x y ≡ true))
 unfolding before
-before-cases a b x y h = go (or-cases (ltb a b) (eqb a b && before x y) h)
-  where
-    go : (ltb a b ≡ true) ⊎ ((eqb a b && before x y) ≡ true) → (a < b) ⊎ ((a ≡ b) × (before x y ≡ true))
-    go (inl p) = inl (ltb-true a b p)
-    go (inr p) = inr (eqb-true a b (and-left (eqb a b) (before x y) p), and-right (eqb a b) (before x y) p)
+before-cases a b x y h =
+    ⊎-elim (λ p. inl (ltb-true a b p)) (λ p. inr (eqb-true a b (and-left (eqb a b) (before x y) p), and-right (eqb a b) (before x y) p))
+    (or-cases (ltb a b) (eqb a b && before x y) h)
 
 -- ---- a strict total order
 
@@ -49,18 +40,10 @@ before-trans (a ∷ x) (b ∷ y) (c ∷ z) p q = go (before-trans x y z) (before
 pub before-self : (x : List ℕ) → before x x ≡ true → ⊥
 unfolding before
 before-self [] p = never false p refl
-before-self (a ∷ x) p = go (before-self x) (before-cases a a x x p)
-  where
-    go : (before x x ≡ true → ⊥) → (a < a) ⊎ ((a ≡ a) × (before x x ≡ true)) → ⊥
-    go rec (inl h) = absurd (omega arith)
-    go rec (inr h) = rec (h .1)
+before-self (a ∷ x) p = let rec = before-self x in ⊎-elim (λ h. absurd (omega arith)) (λ h. rec (h .1)) (before-cases a a x x p)
 
 pub before-differ : (x y : List ℕ) → before x y ≡ true → same y x ≡ false
-before-differ x y p = go (bool-cases (same y x))
-  where
-    go : (same y x ≡ true) ⊎ (same y x ≡ false) → same y x ≡ false
-    go (inl e) = absurd (before-self y (rw (← same-eq y x e) at p))
-    go (inr e) = e
+before-differ x y p = ⊎-elim (λ e. absurd (before-self y (rw (← same-eq y x e) at p))) (λ e. e) (bool-cases (same y x))
 
 pub before-total : (x y : List ℕ) → before x y ≡ false → same y x ≡ false → before y x ≡ true
 unfolding before same

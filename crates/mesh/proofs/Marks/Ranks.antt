@@ -3,43 +3,22 @@
 --   found-at           then that place is the mark
 --   with-at, with-new  a mark set is put at its rank, in place of the one of its name or before the ones that follow
 --   without-at         a mark removed leaves the places before and after it
-use mathlib.Core.Path.{_≡_, refl, sym, ap, _∙_}
-use mathlib.Core.Logic.{_⊎_, inl, inr}
-use mathlib.Core.Bool.{Bool, true, false, _||_, cond}
-use mathlib.Core.List.{List, [], _∷_, _++_}
-use Prim.Native.Nat.{ℕ, zero, suc, _≤_, _<_}
-use native.Mathlib.Omega.{arith}
-use lib.ListN.{length, getD, take, drop}
-use Rattle.lists.specs.Lists.{same}
-use Rattle.lists.proofs.Tests.{bool-cases, never}
-use Rattle.lists.proofs.All.{same-refl, same-eq}
-use Rattle.mesh.specs.Marks.{before, name-in, has-mark, found, with-mark, without-mark}
-use Rattle.mesh.specs.MarkPlaces.{rank, heads}
-use Rattle.mesh.proofs.Marks.NameOrder.{before-trans, before-self, before-total}
-use Rattle.mesh.proofs.Marks.Lists.{Rising-marks, absent}
+use Rattle.lists.specs.Kit.{_≡_, refl, ap, _∙_, _⊎_, inl, inr, Bool, true, false, cond, List, [], _∷_, _++_, ℕ, suc, _≤_, arith, length, getD, take, drop}
+use Rattle.lists.specs.Kit.{⊎-elim}
+use Rattle.lists.{specs.Lists.{same}, proofs.Tests.{bool-cases, never}, proofs.All.{same-refl, same-eq}}
+use Rattle.mesh.specs.{Marks.{before, name-in, has-mark, found, with-mark, without-mark}, MarkPlaces.{rank, heads}}
+use Rattle.mesh.proofs.Marks.{NameOrder.{before-trans, before-self, before-total}, Lists.{Rising-marks, absent}}
 
 -- ---- two names
 
 pub differ-before : (x y : List ℕ) → before x y ≡ true → same x y ≡ false
-differ-before x y p = go (bool-cases (same x y))
-  where
-    go : (same x y ≡ true) ⊎ (same x y ≡ false) → same x y ≡ false
-    go (inl e) = absurd (before-self y (rw (same-eq x y e) at p))
-    go (inr e) = e
+differ-before x y p = ⊎-elim (λ e. absurd (before-self y (rw (same-eq x y e) at p))) (λ e. e) (bool-cases (same x y))
 
 one-way : (x y : List ℕ) → before x y ≡ true → before y x ≡ false
-one-way x y p = go (bool-cases (before y x))
-  where
-    go : (before y x ≡ true) ⊎ (before y x ≡ false) → before y x ≡ false
-    go (inl e) = absurd (before-self x (before-trans x y x p e))
-    go (inr e) = e
+one-way x y p = ⊎-elim (λ e. absurd (before-self x (before-trans x y x p e))) (λ e. e) (bool-cases (before y x))
 
 not-itself : (x y : List ℕ) → same x y ≡ true → before y x ≡ false
-not-itself x y p = go (bool-cases (before y x))
-  where
-    go : (before y x ≡ true) ⊎ (before y x ≡ false) → before y x ≡ false
-    go (inl e) = absurd (before-self y (rw (same-eq x y p) at e))
-    go (inr e) = e
+not-itself x y p = ⊎-elim (λ e. absurd (before-self y (rw (same-eq x y p) at e))) (λ e. e) (bool-cases (before y x))
 
 after-both : (x y : List ℕ) → before x y ≡ false → same x y ≡ false → before y x ≡ true
 after-both x y p q = before-total x y p (go (bool-cases (same y x)))
@@ -101,7 +80,8 @@ module _ (n : ℕ) (x : List ℕ) where
       go (equal a b d) e k = rw (a, b)
       go (higher a b d) e k = never (has-mark x (q ∷ qs)) e (rw b (none-after q qs (r .3) d))
 
-  pub without-at : (last : List ℕ) (ps : List (List ℕ)) → Rising-marks n last ps → has-mark x ps ≡ true → without-mark x ps ≡ take (rank x ps) ps ++ drop (suc (rank x ps)) ps
+  pub without-at : (last : List ℕ) (ps : List (List ℕ)) → Rising-marks n last ps → has-mark x ps ≡ true → without-mark x ps ≡ take (rank x ps) ps ++ drop
+      (suc (rank x ps)) ps
   unfolding rank has-mark without-mark
   without-at last [] r h = never false h refl
   without-at last (q ∷ qs) r h = go (compared x (name-in q)) h (without-at (name-in q) qs (r .3))
@@ -117,18 +97,21 @@ module _ (n : ℕ) (p : List ℕ) where
   abbrev x : List ℕ
   x = name-in p
 
-  pub with-at : (last : List ℕ) (ps : List (List ℕ)) → Rising-marks n last ps → has-mark x ps ≡ true → with-mark p ps ≡ take (rank x ps) ps ++ (p ∷ drop (suc (rank x ps)) ps)
+  pub with-at : (last : List ℕ) (ps : List (List ℕ)) → Rising-marks n last ps → has-mark x ps ≡ true → with-mark p ps ≡ take (rank x ps) ps ++
+      (p ∷ drop (suc (rank x ps)) ps)
   unfolding rank has-mark with-mark
   with-at last [] r h = never false h refl
   with-at last (q ∷ qs) r h = go (compared x (name-in q)) h (with-at (name-in q) qs (r .3))
     where
-      go : Compared x (name-in q) → has-mark x (q ∷ qs) ≡ true → (has-mark x qs ≡ true → with-mark p qs ≡ take (rank x qs) qs ++ (p ∷ drop (suc (rank x qs)) qs)) →
+      go : Compared x (name-in q) → has-mark x (q ∷ qs) ≡ true →
+          (has-mark x qs ≡ true → with-mark p qs ≡ take (rank x qs) qs ++ (p ∷ drop (suc (rank x qs)) qs)) →
           with-mark p (q ∷ qs) ≡ take (rank x (q ∷ qs)) (q ∷ qs) ++ (p ∷ drop (suc (rank x (q ∷ qs))) (q ∷ qs))
       go (lower a b d) e k = rw (a, b, d) (ap {B = List (List ℕ)} (λ zs. q ∷ zs) (k (rw b at e)))
       go (equal a b d) e k = rw (a, b, d)
       go (higher a b d) e k = never (has-mark x (q ∷ qs)) e (rw b (none-after n x q qs (r .3) d))
 
-  pub with-new : (last : List ℕ) (ps : List (List ℕ)) → Rising-marks n last ps → has-mark x ps ≡ false → with-mark p ps ≡ take (rank x ps) ps ++ (p ∷ drop (rank x ps) ps)
+  pub with-new : (last : List ℕ) (ps : List (List ℕ)) → Rising-marks n last ps → has-mark x ps ≡ false → with-mark p ps ≡ take (rank x ps) ps ++
+      (p ∷ drop (rank x ps) ps)
   unfolding rank has-mark with-mark
   with-new last [] r h = refl
   with-new last (q ∷ qs) r h = go (compared x (name-in q)) h (with-new (name-in q) qs (r .3))

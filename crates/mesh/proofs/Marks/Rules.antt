@@ -1,22 +1,13 @@
 -- `is-store` decides W-211's rules place by place.
 --   mark-at           mark i is place i
 --   store-good-iff    a store of full length is good exactly if it keeps the rules
-use mathlib.Core.Path.{_≡_, refl, sym, ap, ap₂, _∙_}
-use mathlib.Core.Bool.{Bool, true, false, _&&_, cond}
-use mathlib.Core.List.{List, [], _∷_, _++_}
-use Prim.Native.Nat.{ℕ, zero, suc, _+_, _*_, _-_, _≤_, _<_}
-use native.Mathlib.Omega.{arith}
-use lib.Dec.{eqb}
-use lib.ListN.{length, getD, take, drop, drop-of-length-le, take-append-drop}
-use lib.Seq.{drop-drop, take-take}
-use Rattle.mesh.specs.Limits.{max-radios}
-use Rattle.lists.specs.Lists.{all, same}
-use Rattle.lists.proofs.Tests.{and-left, and-right, and-both, never}
-use Rattle.mesh.specs.Marks.{name-bytes, place-bytes, places, store-bytes, before, is-name, is-zeros, name-in, image-in, is-mark, place-of, places-of, used, marks-in, are-marks, is-store, place-at, name-at, Mark-rules, Store-rules}
-use Rattle.mesh.proofs.Marks.NameOrder.{before-trans}
-use Rattle.mesh.proofs.Marks.Lists.{Rising-marks}
-use Rattle.mesh.proofs.Marks.Ranks.{differ-before}
-use Rattle.mesh.proofs.Marks.Laws.{zeros-take, mark-nonzero, Store-marks, store-marks, Place-mark, place-mark, mark-place}
+use Rattle.lists.{specs.Kit.{_≡_, refl, sym, ap, ap₂, _∙_, Bool, true, false, cond, List, [], _∷_, _++_, ℕ, zero, suc, _+_, _*_, _-_, _≤_, _<_, arith, eqb}}
+use Rattle.lists.{specs.Kit.{length, getD, take, drop, drop-of-length-le, take-append-drop, drop-drop, take-take}, specs.Lists.{all}, proofs.Tests.{and-left}}
+use Rattle.lists.{proofs.Tests.{and-right, and-both, never}}
+use Rattle.mesh.specs.{Limits.{max-radios}, Marks.{name-bytes, place-bytes, places, store-bytes, before, is-name, is-zeros, name-in, image-in, is-mark}}
+use Rattle.mesh.specs.{Marks.{places-of, used, marks-in, are-marks, is-store, place-at, name-at, Store-rules}}
+use Rattle.mesh.proofs.Marks.{NameOrder.{before-trans}, Lists.{Rising-marks}, Ranks.{differ-before}, Laws.{zeros-take, mark-nonzero, store-marks}}
+use Rattle.mesh.proofs.Marks.{Laws.{place-mark, mark-place}}
 
 -- ---- place i
 
@@ -74,7 +65,8 @@ rising-mark n x (p ∷ ps) r zero l = (r .0, r .1)
 rising-mark n x (p ∷ ps) r (suc i) l = rising-mark n (name-in p) ps (r .3) i (omega arith)
 
 marks-one-by-one : (n : ℕ) (x : List ℕ) (ps : List (List ℕ)) → ((i : ℕ) → i < length ps → is-mark n (getD ps i []) ≡ true) →
-    (0 < length ps → before x (name-in (getD ps 0 [])) ≡ true) → ((i : ℕ) → suc i < length ps → before (name-in (getD ps i [])) (name-in (getD ps (suc i) [])) ≡ true) →
+    (0 < length ps → before x (name-in (getD ps 0 [])) ≡ true) →
+    ((i : ℕ) → suc i < length ps → before (name-in (getD ps i [])) (name-in (getD ps (suc i) [])) ≡ true) →
     are-marks n x ps ≡ true
 unfolding are-marks
 marks-one-by-one n x [] m f r = refl
@@ -105,7 +97,8 @@ zeros-from bs len (suc d) i e z =
     let f : place-bytes * i + place-bytes ≡ place-bytes * suc i = omega arith in
     ap is-zeros (sym (take-append-drop place-bytes (drop (place-bytes * i) bs)))
     ∙ zeros-append (take place-bytes (drop (place-bytes * i) bs)) (drop place-bytes (drop (place-bytes * i) bs)) (place z)
-    (ap is-zeros (drop-drop place-bytes (place-bytes * i) bs ∙ ap (λ (k : ℕ). drop k bs) f) ∙ zeros-from bs len d (suc i) (omega arith) (λ j l m. z j (omega arith) m))
+    (ap is-zeros (drop-drop place-bytes (place-bytes * i) bs ∙ ap (λ (k : ℕ). drop k bs) f) ∙ zeros-from bs len d (suc i) (omega arith)
+    (λ j l m. z j (omega arith) m))
   where
     place : ((j : ℕ) → i ≤ j → j < places → is-zeros (place-at bs j) ≡ true) → is-zeros (take place-bytes (drop (place-bytes * i) bs)) ≡ true
     place h = h i (omega arith) (omega arith)
@@ -173,7 +166,8 @@ rules-good n bs small len s =
     and-both (are-marks n [] ps) (is-zeros (drop (place-bytes * length ps) bs))
     (marks-one-by-one n [] ps (λ i l. ap (is-mark n) (m i l) ∙ good i (omega arith))
     (λ l. ap (λ (q : List ℕ). before [] (name-in q)) (m 0 l) ∙ named n (place-at bs 0) (good 0 (omega arith)))
-    (λ i l. ap₂ before (ap name-in (m i (omega arith)) ∙ name-of-place bs i) (ap name-in (m (suc i) l) ∙ name-of-place bs (suc i)) ∙ s .rising i (suc i) (omega arith) (omega arith)))
+    (λ i l. ap₂ before (ap name-in (m i (omega arith)) ∙ name-of-place bs i) (ap name-in (m (suc i) l) ∙ name-of-place bs (suc i)) ∙ s .rising i (suc i)
+    (omega arith) (omega arith)))
     (rw c (zeros-from bs len (places - u) u (omega arith) (λ j l k. s .unused j l k)))
   where
     good : (i : ℕ) → i < s .many → is-mark n (place-at bs i) ≡ true

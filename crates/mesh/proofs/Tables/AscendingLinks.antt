@@ -1,16 +1,9 @@
 -- Links in their order.
 -- In order: membership of links, a link before another, sorted lists of links, members and neighbours.
-use mathlib.Core.Path.{_≡_, refl, sym, ap, ap₂, subst, _∙_}
-use mathlib.Core.Logic.{_⊎_, inl, inr}
-use mathlib.Core.Bool.{true, false, _&&_, _||_}
-use mathlib.Core.List.{List, [], _∷_, _++_}
-use Prim.Native.Nat.{ℕ, _<_}
-use native.Mathlib.Omega.{arith}
-use lib.Dec.{ltb, eqb}
-use borrow.Author.Tests.{ltb-true, lt-ltb, le-ltb, eqb-true, eq-eqb}
-use Rattle.lists.specs.Lists.{member}
+use Rattle.lists.specs.Kit.{_≡_, refl, sym, ap, ap₂, subst, _∙_, _⊎_, inl, inr, true, false, _&&_, _||_, List, [], _∷_, _++_, ℕ, _<_, arith, ltb, eqb, ⊎-elim}
+use Rattle.lists.{specs.Kit.{ltb-true, lt-ltb, le-ltb, eqb-true, eq-eqb}, specs.Lists.{member}, proofs.Tests.{never, and-left, and-right, and-both, or-cases}}
+use Rattle.lists.proofs.Tests.{or-left, or-right, trichotomy}
 use Rattle.mesh.specs.Graph.{Link, In-links, other-ends, link, link-before, ascending}
-use Rattle.lists.proofs.Tests.{never, and-left, and-right, and-both, or-cases, or-left, or-right, trichotomy}
 use Rattle.mesh.proofs.GraphLaws.{Ends, ends-of, of-ends, joins, joins-link, linked-by, linked-by-cons, Proper}
 
 -- ---- membership of links
@@ -26,11 +19,7 @@ in-links-right m (l ∷ ls) ms i = inr (in-links-right m ls ms i)
 pub in-links-cases : (m : Link) (ls ms : List Link) → In-links m (ls ++ ms) → In-links m ls ⊎ In-links m ms
 in-links-cases m [] ms i = inr i
 in-links-cases m (l ∷ ls) ms (inl e) = inl (inl e)
-in-links-cases m (l ∷ ls) ms (inr i) = go (in-links-cases m ls ms i)
-  where
-    go : In-links m ls ⊎ In-links m ms → In-links m (l ∷ ls) ⊎ In-links m ms
-    go (inl a) = inl (inr a)
-    go (inr b) = inr b
+in-links-cases m (l ∷ ls) ms (inr i) = ⊎-elim (λ a. inl (inr a)) (λ b. inr b) (in-links-cases m ls ms i)
 
 pub in-links-proper : (n : ℕ) (ls : List Link) (m : Link) → Proper n ls → In-links m ls → (m .low < m .high) × (m .high < n)
 in-links-proper n (l ∷ ls) m p (inl e) =
@@ -128,11 +117,7 @@ sorted-append (l ∷ ls) ms s t h = (λ m i. go m (in-links-cases m ls ms i), so
 -- the rest of a sorted list, by the members of the whole
 sorted-tail : (x y : Link) (xs ys : List Link) → x ≡ y → Sorted (x ∷ xs) → ((m : Link) → In-links m (x ∷ xs) → In-links m (y ∷ ys))
     → (m : Link) → In-links m xs → In-links m ys
-sorted-tail x y xs ys e s f m i = go (f m (inr i))
-  where
-    go : In-links m (y ∷ ys) → In-links m ys
-    go (inl q) = absurd (before-irreflexive m (subst (λ (z : Link). Before z m) (e ∙ q) (s .0 m i)))
-    go (inr k) = k
+sorted-tail x y xs ys e s f m i = ⊎-elim (λ q. absurd (before-irreflexive m (subst (λ (z : Link). Before z m) (e ∙ q) (s .0 m i)))) (λ k. k) (f m (inr i))
 
 -- a sorted list is told by its members
 pub sorted-eq : (xs ys : List Link) → Sorted xs → Sorted ys
@@ -177,8 +162,6 @@ in-linked (l ∷ ls) v w i = linked-by-cons l ls v w ∙ go (in-linked ls v w) i
 pub linked-in : (n : ℕ) (ls : List Link) (v w : ℕ) → Proper n ls → linked-by ls v w ≡ true → In-links (link v w) ls
 unfolding other-ends member
 linked-in n [] v w p h = never false h refl
-linked-in n (l ∷ ls) v w p h = go (linked-in n ls v w (p .2)) (or-cases (joins l v w) (linked-by ls v w) (sym (linked-by-cons l ls v w) ∙ h))
-  where
-    go : (linked-by ls v w ≡ true → In-links (link v w) ls) → (joins l v w ≡ true) ⊎ (linked-by ls v w ≡ true) → In-links (link v w) (l ∷ ls)
-    go rec (inl e) = inl (link-of l v w (p .0) (ends-of (l .low) (l .high) v w e))
-    go rec (inr e) = inr (rec e)
+linked-in n (l ∷ ls) v w p h = let rec = linked-in n ls v w (p .2) in
+    ⊎-elim (λ e. inl (link-of l v w (p .0) (ends-of (l .low) (l .high) v w e))) (λ e. inr (rec e))
+    (or-cases (joins l v w) (linked-by ls v w) (sym (linked-by-cons l ls v w) ∙ h))

@@ -3,26 +3,14 @@
 --   row-degrees-total    the bits of the rows add up to twice the links that they mark
 --   length-graph-in      the links that rows mark, row by row
 --   links-few            so a limit on neighbours limits the links; `links-most`, `block-count-most` with document 01's limits
-use mathlib.Core.Path.{_≡_, refl, ap, subst, _∙_}
-use mathlib.Core.Logic.{_⊎_, inl, inr}
-use mathlib.Core.Bool.{true, false, _||_, cond}
-use mathlib.Core.List.{List, [], _∷_}
-use Prim.Native.Nat.{ℕ, _+_, _*_, _-_, _≤_, _<_}
-use native.Mathlib.Omega.{arith}
-use lib.Dec.{eqb}
-use lib.ListN.{length}
-use borrow.Author.Tests.{eqb-true, eqb-false, eq-eqb}
-use Rattle.mesh.specs.Limits.{max-radios, max-neighbours}
-use Rattle.lists.specs.Lists.{range, count, member, total}
-use Rattle.mesh.specs.Graph.{Link, In-links, Graph, radios, linked, neighbours-among, degree, other-ends, proper, ascending}
-use Rattle.mesh.specs.Image.{blocks-for, order-blocks, block-count}
-use Rattle.lists.proofs.Tests.{bool-cases, bit-true, bit-false, iff-eq}
-use Rattle.lists.proofs.Range.{range-in, length-range, count-range-one}
-use Rattle.lists.proofs.Count.{count-none, count-cong, count-or}
-use Rattle.mesh.proofs.GraphLaws.{Ends, joins, ends-of, of-ends, linked-by, linked-by-cons, linked-by-sym, Proper, proper-of}
-use Rattle.mesh.proofs.Tables.AscendingLinks.{before-irreflexive, Sorted, sorted-of, link-less, linked-in}
-use Rattle.mesh.specs.Valid.{Valid}
-use Rattle.lists.proofs.Sums.{total-le, total-cong, total-none, total-bits}
+use Rattle.lists.{specs.Kit.{_≡_, refl, ap, subst, _∙_, _⊎_, inl, inr, true, false, _||_, cond, List, [], _∷_, ℕ, _+_, _*_, _≤_, _<_, arith, eqb, length}}
+use Rattle.lists.{specs.Kit.{eqb-true, eqb-false, eq-eqb}, specs.Lists.{range, count, member, total}, proofs.Tests.{bool-cases, bit-true, bit-false, iff-eq}}
+use Rattle.lists.{proofs.Range.{range-in, length-range, count-range-one}, proofs.Count.{count-none, count-cong, count-or}, proofs.Sums.{total-le, total-cong}}
+use Rattle.lists.{proofs.Sums.{total-none, total-bits}}
+use Rattle.mesh.specs.{Limits.{max-radios, max-neighbours}, Graph.{Link, In-links, Graph, radios, linked, neighbours-among, degree, other-ends, proper}}
+use Rattle.mesh.specs.{Graph.{ascending}, Image.{blocks-for, order-blocks, block-count}, Valid.{Valid}}
+use Rattle.mesh.proofs.{GraphLaws.{Ends, joins, ends-of, of-ends, linked-by, linked-by-cons, linked-by-sym, Proper, proper-of}}
+use Rattle.mesh.proofs.{Tables.AscendingLinks.{before-irreflexive, Sorted, sorted-of, link-less, linked-in}}
 
 -- ---- one link more
 

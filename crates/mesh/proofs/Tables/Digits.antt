@@ -1,14 +1,8 @@
 -- Laws of the digits of a number, and of one digit put.
-use mathlib.Core.Path.{_≡_, refl, sym, ap, _∙_}
-use mathlib.Core.Logic.{_⊎_, inl, inr}
-use mathlib.Core.Bool.{Bool, true, false, cond}
-use Prim.Native.Nat.{ℕ, zero, suc, _+_, _*_, _-_, _/_, _%_, _^_, _≤_, _<_}
-use native.Mathlib.Omega.{arith}
-use native.Mathlib.Nat.{pow-succ', div-div-eq-div-mul, zero-div}
-use lib.Dec.{eqb, eqb·zero-suc, eqb·suc-zero, eqb·suc-suc}
-use borrow.Author.Tests.{eqb-true, eqb-false}
-use Rattle.mesh.specs.Tables.{digit, put-digit, from-digits}
+use Rattle.lists.specs.Kit.{_≡_, refl, sym, ap, _∙_, _⊎_, inl, inr, Bool, true, false, cond, ℕ, zero, suc, _+_, _*_, _-_, _/_, _%_, _^_, _≤_, _<_, arith}
+use Rattle.lists.specs.Kit.{pow-succ', div-div-eq-div-mul, zero-div, eqb, eqb·zero-suc, eqb·suc-zero, eqb·suc-suc, eqb-true, eqb-false, ⊎-elim}
 use Rattle.lists.proofs.Tests.{bool-cases, bit-one, bit-digit}
+use Rattle.mesh.specs.Tables.{digit, put-digit, from-digits}
 
 -- ---- digits of a number
 
@@ -52,11 +46,9 @@ digits-eq (suc k) x y h g e = omega (
 )
   where
     lowest : eqb (x % 2) 1 ≡ eqb (y % 2) 1 → x % 2 ≡ y % 2
-    lowest q = go (bool-cases (eqb (y % 2) 1))
-      where
-        go : (eqb (y % 2) 1 ≡ true) ⊎ (eqb (y % 2) 1 ≡ false) → x % 2 ≡ y % 2
-        go (inl p) = omega (arith, eqb-true (y % 2) 1 p, eqb-true (x % 2) 1 (q ∙ p))
-        go (inr p) = omega (arith, eqb-false (y % 2) 1 p, eqb-false (x % 2) 1 (q ∙ p))
+    lowest q =
+        ⊎-elim (λ p. omega (arith, eqb-true (y % 2) 1 p, eqb-true (x % 2) 1 (q ∙ p))) (λ p. omega (arith, eqb-false (y % 2) 1 p, eqb-false (x % 2) 1 (q ∙ p)))
+        (bool-cases (eqb (y % 2) 1))
 
 -- ---- one digit put
 

@@ -1,27 +1,13 @@
 -- Laws of the links table.
 -- In order: parts of equal length joined, bytes, marks of a table, one bit and one link put, tables of bits, the table of a graph.
-use mathlib.Core.Path.{_≡_, refl, sym, ap, ap₂, _∙_}
-use mathlib.Core.Logic.{_⊎_, inl, inr}
-use mathlib.Core.Bool.{Bool, true, false, _&&_, _||_, cond, and-comm}
-use mathlib.Core.List.{List, [], _++_, flatMap}
-use Prim.Native.Nat.{ℕ, zero, suc, _+_, _*_, _/_, _%_, _≤_, _<_}
-use native.Mathlib.Omega.{arith}
-use native.Mathlib.Nat.{mod-lt, zero-lt-suc, mul-suc}
-use lib.Dec.{eqb}
-use lib.ListN.{length, getD, set, replicate, length-set, length-append, length-replicate, getD-replicate, List·getD-append}
-use lib.Seq.{getD-append-add, getD-set-same, getD-set-other, ext-getD}
-use borrow.Author.Tests.{eqb-true, eqb-false, eq-eqb, ne-eqb}
-use Rattle.mesh.specs.Limits.{max-radios, row-bytes}
-use Rattle.lists.specs.Lists.{range, member}
-use Rattle.lists.specs.Facts.{Bytes}
-use Rattle.mesh.specs.Graph.{Graph, graph, other-ends, linked}
-use Rattle.mesh.specs.Tables.{digit, byte-at, marked, put-digit, put-bit, put-link, from-digits, bit-row, bit-table, links-table}
-use Rattle.lists.proofs.Tests.{bool-cases}
-use Rattle.lists.proofs.Range.{length-range}
-use Rattle.lists.proofs.Map.{length-map, getD-map-range}
-use Rattle.mesh.proofs.GraphLaws.{ends}
-use Rattle.mesh.proofs.Tables.Digits.{from-digits-less, digit-from-digits, digit-nothing, digits-eq, digit-put-digit, put-digit-less}
-use Rattle.lists.proofs.Parts.{bytes-replicate}
+use Rattle.lists.{specs.Kit.{_≡_, refl, sym, ap, ap₂, _∙_, _⊎_, inl, inr, Bool, true, false, _&&_, _||_, cond, and-comm, List, [], _++_, flatMap, ℕ, zero, suc}}
+use Rattle.lists.{specs.Kit.{_+_, _*_, _/_, _%_, _≤_, _<_, arith, mod-lt, zero-lt-suc, mul-suc, eqb, length, getD, set, replicate, length-set, length-append}}
+use Rattle.lists.{specs.Kit.{length-replicate, getD-replicate, List·getD-append, getD-append-add, getD-set-same, getD-set-other, ext-getD, eqb-true, eqb-false}}
+use Rattle.lists.{specs.Kit.{eq-eqb, ne-eqb}, specs.Lists.{range, member}, specs.Facts.{Bytes}, proofs.Tests.{bool-cases}, proofs.Range.{length-range}}
+use Rattle.lists.{proofs.Map.{length-map, getD-map-range}, proofs.Parts.{bytes-replicate}}
+use Rattle.mesh.specs.{Limits.{max-radios, row-bytes}, Graph.{Graph, graph, other-ends, linked}, Tables.{digit, byte-at, marked, put-digit, put-bit}}
+use Rattle.mesh.specs.{Tables.{put-link, from-digits, bit-row, bit-table, links-table}}
+use Rattle.mesh.proofs.{GraphLaws.{ends}, Tables.Digits.{from-digits-less, digit-from-digits, digit-nothing, digits-eq, digit-put-digit, put-digit-less}}
 
 -- ---- laws of lists: parts of equal length, joined
 

@@ -2,22 +2,11 @@
 --   few-more, sound-within-more   rows and tables within a bound are within a greater one
 --   is-image-within-more          and so are images
 --   older-image                   an image of tables that were sound is one of tables that are
-use mathlib.Core.Path.{_≡_}
-use mathlib.Core.Bool.{true, _&&_}
-use mathlib.Core.List.{List}
-use Prim.Native.Nat.{ℕ, _≤_}
-use native.Mathlib.Omega.{arith}
-use lib.Dec.{leb}
-use borrow.Author.Tests.{le-leb}
-use Rattle.mesh.specs.Limits.{max-neighbours, former-neighbours}
-use Rattle.lists.specs.Lists.{same}
-use Rattle.mesh.specs.Graph.{proper, ascending}
-use Rattle.mesh.specs.Orders.{each-once, rising, few-later}
-use Rattle.mesh.specs.Tables.{Tables, marked, tables-of}
-use Rattle.mesh.specs.Sound.{symmetric, irreflexive, within, row-degree, few, rows-proper, enough, number-in, sound-within}
-use Rattle.mesh.specs.Image.{image-graph, image-order, image-of, is-image-within, is-image}
-use Rattle.lists.proofs.Tests.{and-left, and-right, and-both}
-use Rattle.lists.proofs.All.{below-all}
+use Rattle.lists.{specs.Kit.{_≡_, true, _&&_, List, ℕ, _≤_, arith, leb, le-leb}, specs.Lists.{same}, proofs.Tests.{and-left, and-right, and-both}}
+use Rattle.lists.{proofs.All.{below-all}}
+use Rattle.mesh.specs.{Limits.{max-neighbours, former-neighbours}, Graph.{proper, ascending}, Orders.{each-once, rising, few-later}, Tables.{Tables}}
+use Rattle.mesh.specs.{Tables.{marked, tables-of}, Sound.{symmetric, irreflexive, within, row-degree, few, rows-proper, enough, number-in, sound-within}}
+use Rattle.mesh.specs.{Image.{image-graph, image-order, image-of, is-image-within, is-image}}
 use Rattle.mesh.proofs.Tables.Rows.{few-of}
 
 -- ---- tables

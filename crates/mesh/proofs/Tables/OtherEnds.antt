@@ -1,25 +1,12 @@
 -- The other ends of a radio's links are its neighbours, each once: so links can be counted as they are listed.
 --   distinct-other-ends   no neighbour comes twice
 --   ends-neighbours-in    the other ends that pass are the neighbours that pass
-use mathlib.Core.Path.{_≡_, ap, _∙_}
-use mathlib.Core.Logic.{_⊎_, inl, inr}
-use mathlib.Core.Bool.{Bool, true, false, _&&_, cond}
-use mathlib.Core.List.{List, [], _∷_}
-use Prim.Native.Nat.{ℕ}
-use native.Mathlib.Omega.{arith}
-use native.Mathlib.Nat.{le-antisymm}
-use lib.Dec.{eqb}
-use borrow.Author.Tests.{eqb-true}
-use Rattle.lists.specs.Lists.{range, count, In}
-use Rattle.lists.specs.Facts.{Distinct}
+use Rattle.lists.{specs.Kit.{_≡_, ap, _∙_, _⊎_, inl, inr, Bool, true, false, _&&_, cond, List, [], _∷_, ℕ, arith, le-antisymm, eqb, eqb-true}}
+use Rattle.lists.{specs.Lists.{range, count, In}, specs.Facts.{Distinct}, proofs.Tests.{bool-cases, and-left, and-right, and-both}, proofs.Member.{member-in}}
+use Rattle.lists.{proofs.Member.{in-member}, proofs.Range.{in-range, distinct-range}, proofs.Distinct.{count-sub}}
 use Rattle.mesh.specs.Graph.{Link, Graph, radios, linked, neighbours-in, other-ends, proper, ascending}
-use Rattle.lists.proofs.Tests.{bool-cases, and-left, and-right, and-both}
-use Rattle.lists.proofs.Member.{member-in, in-member}
-use Rattle.lists.proofs.Range.{in-range, distinct-range}
-use Rattle.lists.proofs.Distinct.{count-sub}
-use Rattle.mesh.proofs.GraphLaws.{linked-by, linked-by-sym, linked-by-proper, Proper, proper-of}
-use Rattle.mesh.proofs.Tables.AscendingLinks.{Sorted, sorted-of}
-use Rattle.mesh.proofs.Tables.DegreeSum.{fresh}
+use Rattle.mesh.proofs.{GraphLaws.{linked-by, linked-by-sym, linked-by-proper, Proper, proper-of}, Tables.AscendingLinks.{Sorted, sorted-of}}
+use Rattle.mesh.proofs.{Tables.DegreeSum.{fresh}}
 
 pub distinct-other-ends : (n v : ℕ) (ls : List Link) → Proper n ls → Sorted ls → Distinct (other-ends v ls)
 unfolding other-ends

@@ -1,29 +1,16 @@
 -- The links table read back as a graph.
 -- In order: members of joined lists of links, the links that a table marks, their order, the round trips, neighbours and
 -- degrees.
-use mathlib.Core.Path.{_≡_, refl, sym, ap, subst, _∙_}
-use mathlib.Core.Logic.{_⊎_, inl, inr}
-use mathlib.Core.Bool.{Bool, true, false, cond}
-use mathlib.Core.List.{List, [], _∷_, map, flatMap}
-use Prim.Native.Nat.{ℕ, zero, suc, _*_, _-_, _≤_, _<_}
-use native.Mathlib.Omega.{arith}
-use lib.Dec.{ltb}
-use lib.ListN.{length}
-use borrow.Author.Tests.{ltb-true, ltb-false}
-use Rattle.mesh.specs.Limits.{max-radios, row-bytes}
-use Rattle.lists.specs.Lists.{range, filter, In}
-use Rattle.lists.specs.Facts.{Bytes}
-use Rattle.mesh.specs.Graph.{Link, In-links, Graph, graph, radios, linked, degree, neighbours-among, proper, ascending}
-use Rattle.mesh.specs.Tables.{marked, links-table, row-links, graph-in}
-use Rattle.mesh.specs.Sound.{symmetric, irreflexive, within, row-degree}
-use Rattle.lists.proofs.Tests.{bool-cases, iff-eq, trichotomy}
-use Rattle.lists.proofs.Range.{in-range, range-in}
-use Rattle.lists.proofs.Filter.{in-filter, filter-in}
-use Rattle.mesh.proofs.GraphLaws.{linked-sym, linked-self, Proper, proper-of, of-proper}
-use Rattle.mesh.proofs.Tables.Laws.{table-eq, length-links-table, bytes-links-table, marked-links-table}
-use Rattle.mesh.proofs.Tables.Rows.{symmetric-of, irreflexive-of, within-of, row-degree-count, linked-within}
-use Rattle.mesh.proofs.Tables.AscendingLinks.{in-links-left, in-links-right, in-links-cases, in-links-proper, proper-in-links, Before}
-use Rattle.mesh.proofs.Tables.AscendingLinks.{link-less, Sorted, sorted-of, of-sorted, sorted-append, sorted-eq, in-linked, linked-in}
+use Rattle.lists.specs.Kit.{_≡_, refl, sym, ap, subst, _∙_, _⊎_, inl, inr, Bool, true, false, cond, List, [], _∷_, map, flatMap, ℕ, zero, suc, _*_, _-_, _≤_}
+use Rattle.lists.{specs.Kit.{_<_, arith, ltb, length, ltb-true, ltb-false}, specs.Lists.{range, filter, In}, specs.Facts.{Bytes}, proofs.Tests.{bool-cases}}
+use Rattle.lists.specs.Kit.{⊎-elim}
+use Rattle.lists.{proofs.Tests.{iff-eq, trichotomy}, proofs.Range.{in-range, range-in}, proofs.Filter.{in-filter, filter-in}}
+use Rattle.mesh.specs.{Limits.{max-radios, row-bytes}, Graph.{Link, In-links, Graph, graph, radios, linked, degree, neighbours-among, proper, ascending}}
+use Rattle.mesh.specs.{Tables.{marked, links-table, row-links, graph-in}, Sound.{symmetric, irreflexive, within, row-degree}}
+use Rattle.mesh.proofs.{GraphLaws.{linked-sym, linked-self, Proper, proper-of, of-proper}, Tables.Laws.{table-eq, length-links-table, bytes-links-table}}
+use Rattle.mesh.proofs.{Tables.Laws.{marked-links-table}, Tables.Rows.{symmetric-of, irreflexive-of, within-of, row-degree-count, linked-within}}
+use Rattle.mesh.proofs.Tables.AscendingLinks.{in-links-left, in-links-right, in-links-cases, in-links-proper, proper-in-links, Before, link-less}
+use Rattle.mesh.proofs.Tables.AscendingLinks.{Sorted, sorted-of, of-sorted, sorted-append, sorted-eq, in-linked, linked-in}
 
 -- ---- members of joined lists of links
 
@@ -35,12 +22,8 @@ flatMap-in f (x ∷ xs) a m (inr i) k = in-links-right m (f x) (flatMap f xs) (f
 in-flatMap : (f : ℕ → List Link) (xs : List ℕ) (m : Link) → In-links m (flatMap f xs) → (a : ℕ) × In a xs × In-links m (f a)
 unfolding flatMap
 in-flatMap f [] m i = absurd i
-in-flatMap f (x ∷ xs) m i = go (in-flatMap f xs m) (in-links-cases m (f x) (flatMap f xs) i)
-  where
-    go : (In-links m (flatMap f xs) → (a : ℕ) × In a xs × In-links m (f a)) → In-links m (f x) ⊎ In-links m (flatMap f xs)
-        → (a : ℕ) × In a (x ∷ xs) × In-links m (f a)
-    go rec (inl k) = (x, inl refl, k)
-    go rec (inr k) = let r = rec k in (r .0, inr (r .1), r .2)
+in-flatMap f (x ∷ xs) m i = let rec = in-flatMap f xs m in
+    ⊎-elim (λ k. (x, inl refl, k)) (λ k. let r = rec k in (r .0, inr (r .1), r .2)) (in-links-cases m (f x) (flatMap f xs) i)
 
 -- the links from a to the radios of a list
 abbrev links-to : (a : ℕ) → List ℕ → List Link

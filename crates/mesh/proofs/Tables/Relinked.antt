@@ -1,22 +1,14 @@
 -- One link more or less.
 -- In order: the links stay in their order, the neighbours that change, the links table that changes.
-use mathlib.Core.Path.{_≡_, refl, sym, ap, subst, _∙_}
-use mathlib.Core.Logic.{_⊎_, inl, inr}
-use mathlib.Core.Bool.{Bool, true, false, _||_, not, cond}
-use mathlib.Core.List.{List, [], _∷_}
-use Prim.Native.Nat.{ℕ, _≤_, _<_}
-use lib.Dec.{eqb}
-use borrow.Author.Tests.{eq-eqb}
-use Rattle.mesh.specs.Limits.{max-radios}
-use Rattle.mesh.specs.Graph.{Link, In-links, Graph, linked, link, link-before, same-link, with-link, without-link, new-links, relinked, proper, ascending}
-use Rattle.mesh.specs.Tables.{put-link, links-table}
-use Rattle.lists.proofs.Tests.{bool-cases, never, and-both}
-use Rattle.mesh.proofs.GraphLaws.{ends, Ends, ends-of, joins-link, linked-by, linked-by-sym, linked-by-with, linked-by-without, same-link-eq, Proper}
-use Rattle.mesh.proofs.GraphLaws.{proper-of, proper-new-links}
-use Rattle.mesh.proofs.Tables.Laws.{table-eq, length-put-link, bytes-put-link, marked-put-link, length-links-table, bytes-links-table}
-use Rattle.mesh.proofs.Tables.Laws.{marked-links-table}
-use Rattle.mesh.proofs.Tables.AscendingLinks.{Before, first-before, before-irreflexive, before-of, of-before, before-cases, link-eq, Sorted}
-use Rattle.mesh.proofs.Tables.AscendingLinks.{sorted-of, of-sorted, in-linked, linked-in}
+use Rattle.lists.{specs.Kit.{_≡_, refl, sym, ap, subst, _∙_, _⊎_, inl, inr, Bool, true, false, _||_, not, cond, List, [], _∷_, ℕ, _≤_, _<_, eqb, eq-eqb}}
+use Rattle.lists.{proofs.Tests.{bool-cases, never, and-both}}
+use Rattle.mesh.specs.{Limits.{max-radios}, Graph.{Link, In-links, Graph, linked, link, link-before, same-link, with-link, without-link, new-links}}
+use Rattle.mesh.specs.{Graph.{relinked, proper, ascending}, Tables.{put-link, links-table}}
+use Rattle.mesh.proofs.{GraphLaws.{ends, Ends, ends-of, joins-link, linked-by, linked-by-sym, linked-by-with, linked-by-without, same-link-eq, Proper}}
+use Rattle.mesh.proofs.{GraphLaws.{proper-of, proper-new-links}, Tables.Laws.{table-eq, length-put-link, bytes-put-link, marked-put-link}}
+use Rattle.mesh.proofs.{Tables.Laws.{length-links-table, bytes-links-table, marked-links-table}, Tables.AscendingLinks.{Before, first-before}}
+use Rattle.mesh.proofs.{Tables.AscendingLinks.{before-irreflexive, before-of, of-before, before-cases, link-eq, Sorted, sorted-of, of-sorted, in-linked}}
+use Rattle.mesh.proofs.{Tables.AscendingLinks.{linked-in}}
 
 -- ---- the links stay in their order
 
@@ -132,7 +124,8 @@ module _ (u : Bool) (a b : ℕ) (g : Graph) (links-proper : proper (g .n) (g .li
   unfolding linked relinked new-links
   linked-relinked v w = go u (proper-new-links u a b (g .n) (g .links) a-radio b-radio differ (proper-of (g .n) (g .links) links-proper))
     where
-      go : (t : Bool) → Proper (g .n) (new-links t a b (g .links)) → linked-by (new-links t a b (g .links)) v w ≡ cond (ends a b v w) t (linked-by (g .links) v w)
+      go : (t : Bool) → Proper (g .n) (new-links t a b (g .links)) → linked-by (new-links t a b (g .links)) v w ≡ cond (ends a b v w) t
+          (linked-by (g .links) v w)
       go true p = linked-by-with-link a b (g .links) v w
       go false p = linked-by-without-link (g .n) a b (g .links) v w p (sorted-of (g .links) links-ascending)
 

@@ -1,25 +1,12 @@
 -- The conditions on rows of the links table, as facts about marks, and the rows of a graph's table.
 -- In order: each condition from its test and back, the bits of a row counted, the table of a graph.
-use mathlib.Core.Path.{_≡_, sym, _∙_}
-use mathlib.Core.Logic.{_⊎_, inl, inr}
-use mathlib.Core.Bool.{Bool, true, false, not, Bool·beq}
-use mathlib.Core.List.{List}
-use Prim.Native.Nat.{ℕ, _-_, _≤_, _<_}
-use native.Mathlib.Omega.{arith}
-use native.Mathlib.Nat.{le-antisymm}
-use lib.Dec.{ltb, leb}
-use borrow.Author.Tests.{leb-true, le-leb, not-true, ltb-true, ltb-false}
-use Rattle.mesh.specs.Limits.{max-radios}
-use Rattle.lists.specs.Lists.{range, count, all, In}
-use Rattle.mesh.specs.Graph.{Graph, radios, linked, neighbours-among, degree, proper}
-use Rattle.mesh.specs.Tables.{marked, links-table}
+use Rattle.lists.specs.Kit.{_≡_, sym, _∙_, _⊎_, inl, inr, Bool, true, false, not, Bool·beq, List, ℕ, _-_, _≤_, _<_, arith, le-antisymm, ltb, leb, leb-true}
+use Rattle.lists.{specs.Kit.{le-leb, not-true, ltb-true, ltb-false}, specs.Lists.{range, count, all, In}, proofs.Tests.{bool-cases, never, beq-eq, eq-beq}}
+use Rattle.lists.specs.Kit.{⊎-elim}
+use Rattle.lists.{proofs.Range.{in-range, range-in, distinct-range}, proofs.All.{all-in, in-all, all-below, below-all}, proofs.Distinct.{count-sub}}
+use Rattle.mesh.specs.{Limits.{max-radios}, Graph.{Graph, radios, linked, neighbours-among, degree, proper}, Tables.{marked, links-table}}
 use Rattle.mesh.specs.Sound.{symmetric, irreflexive, within, row-degree, few, rows-proper}
-use Rattle.lists.proofs.Tests.{bool-cases, never, beq-eq, eq-beq}
-use Rattle.lists.proofs.Range.{in-range, range-in, distinct-range}
-use Rattle.lists.proofs.All.{all-in, in-all, all-below, below-all}
-use Rattle.lists.proofs.Distinct.{count-sub}
-use Rattle.mesh.proofs.GraphLaws.{linked-by-proper, linked-sym, linked-self, proper-of}
-use Rattle.mesh.proofs.Tables.Laws.{marked-links-table}
+use Rattle.mesh.proofs.{GraphLaws.{linked-by-proper, linked-sym, linked-self, proper-of}, Tables.Laws.{marked-links-table}}
 
 -- ---- each condition, from its test and back
 
@@ -84,11 +71,8 @@ row-degree-count n ts a f big same none = le-antisymm
 -- proper links join no radio at n or above
 pub linked-within : (g : Graph) → proper (g .n) (g .links) ≡ true → (a b : ℕ) → g .n ≤ b → linked g a b ≡ false
 unfolding linked
-linked-within g p a b h = go (bool-cases (linked g a b))
-  where
-    go : (linked g a b ≡ true) ⊎ (linked g a b ≡ false) → linked g a b ≡ false
-    go (inl e) = absurd (omega (arith, linked-by-proper (g .n) (g .links) (proper-of (g .n) (g .links) p) a b e .1))
-    go (inr e) = e
+linked-within g p a b h =
+    ⊎-elim (λ e. absurd (omega (arith, linked-by-proper (g .n) (g .links) (proper-of (g .n) (g .links) p) a b e .1))) (λ e. e) (bool-cases (linked g a b))
 
 pub row-degree-links-table : (g : Graph) → g .n ≤ max-radios → proper (g .n) (g .links) ≡ true
     → (a : ℕ) → a < g .n → row-degree (links-table g) a ≡ degree g a

@@ -1,28 +1,12 @@
 -- Valid sites to start from: a cleared one, and one read from an image.
-use mathlib.Core.Path.{_≡_, refl}
-use mathlib.Core.Logic.{inl, inr}
-use mathlib.Core.Bool.{true, false, _&&_}
-use mathlib.Core.List.{List, [], _∷_, map}
-use Prim.Native.Nat.{ℕ, zero, suc, _≤_}
-use native.Mathlib.Omega.{arith}
-use native.Mathlib.Nat.{le-of-eq}
-use lib.ListN.{replicate}
-use Rattle.mesh.specs.Limits.{max-radios, max-neighbours}
-use Rattle.lists.specs.Lists.{range, count, member, same, In}
-use Rattle.lists.specs.Facts.{Rising}
-use Rattle.mesh.specs.Graph.{graph, radios, other-ends, linked, neighbours-among, degree, proper, ascending}
-use Rattle.mesh.specs.Cores.{number, numbers}
-use Rattle.mesh.specs.Tables.{tables-of}
-use Rattle.mesh.specs.Sound.{sound}
-use Rattle.mesh.specs.Image.{image-graph, image-order, image-of, is-image-within, is-image}
-use Rattle.lists.proofs.Tests.{and-left, and-right}
-use Rattle.lists.proofs.Count.{count-none}
-use Rattle.lists.proofs.Range.{range-in}
-use Rattle.mesh.proofs.Cores.Orders.{Few-later}
-use Rattle.mesh.proofs.Cores.Certificate.{Certificate}
-use Rattle.mesh.proofs.Cores.KOrders.{certificate-number, certificate-k-order}
-use Rattle.mesh.proofs.Tables.Soundness.{sound-valid}
-use Rattle.mesh.specs.Valid.{Valid}
+use Rattle.lists.{specs.Kit.{_≡_, refl, inl, inr, true, false, _&&_, List, [], _∷_, map, ℕ, zero, suc, _≤_, arith, le-of-eq, replicate}, specs.Lists.{range}}
+use Rattle.lists.{specs.Lists.{count, member, same, In}, specs.Facts.{Rising}, proofs.Tests.{and-left, and-right}, proofs.Count.{count-none}}
+use Rattle.lists.{proofs.Range.{range-in}}
+use Rattle.mesh.specs.{Limits.{max-radios, max-neighbours}, Graph.{graph, radios, other-ends, linked, neighbours-among, degree, proper, ascending}}
+use Rattle.mesh.specs.{Cores.{number, numbers}, Tables.{tables-of}, Sound.{sound}, Image.{image-graph, image-order, image-of, is-image-within, is-image}}
+use Rattle.mesh.specs.{Valid.{Valid}}
+use Rattle.mesh.proofs.{Cores.Orders.{Few-later}, Cores.Certificate.{Certificate}, Cores.KOrders.{certificate-number, certificate-k-order}}
+use Rattle.mesh.proofs.{Tables.Soundness.{sound-valid}}
 
 -- ---- cleared
 

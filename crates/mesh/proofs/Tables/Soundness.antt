@@ -3,38 +3,17 @@
 --   valid-sound   the tables of a valid site are sound
 --   sound-valid   sound tables of proper ascending links are a valid site's
 -- Each takes the bound on a row's bits as a parameter.
-use mathlib.Core.Path.{_≡_, refl, sym, ap, _∙_}
-use mathlib.Core.Logic.{_↔_}
-use mathlib.Core.Bool.{Bool, true, false, _&&_}
-use mathlib.Core.List.{List}
-use Prim.Native.Nat.{ℕ, _≤_, _<_}
-use native.Mathlib.Omega.{arith}
-use native.Mathlib.Nat.{le-trans, le-of-eq}
-use lib.Dec.{leb}
-use lib.ListN.{length, getD}
-use lib.Seq.{ext-getD}
-use borrow.Author.Tests.{leb-true, le-leb}
-use Rattle.mesh.specs.Limits.{max-radios}
-use Rattle.lists.specs.Lists.{range, count, In}
-use Rattle.lists.specs.Facts.{Each-once}
-use Rattle.mesh.specs.Graph.{Graph, radios, linked, neighbours-in, proper, ascending}
-use Rattle.mesh.specs.Cores.{number, numbers}
-use Rattle.mesh.specs.Orders.{each-once, rising, few-later, is-k-order}
-use Rattle.mesh.specs.Tables.{Tables, marked, links-table, graph-in, tables-of}
-use Rattle.mesh.specs.Sound.{symmetric, irreflexive, within, few, rows-proper, enough, number-in, sound-within}
-use Rattle.lists.proofs.Tests.{and-left, and-right, and-both}
-use Rattle.lists.proofs.Count.{count-ext}
-use Rattle.lists.proofs.Range.{once-below, range-in}
-use Rattle.lists.proofs.All.{all-below, below-all}
-use Rattle.mesh.proofs.GraphLaws.{linked-self, neighbours-in-subset}
-use Rattle.mesh.proofs.Cores.Orders.{each-once-of, of-each-once, rising-of, of-rising, Few-later, few-later-of, of-few-later, few-later-cong, Enough}
-use Rattle.lists.proofs.Ascending.{rising-cong}
-use Rattle.mesh.proofs.Cores.Certificate.{Certificate}
-use Rattle.mesh.proofs.Cores.Peeling.{length-numbers, getD-numbers}
-use Rattle.mesh.proofs.Cores.KOrders.{k-order-certificate, certificate-number, certificate-k-order}
-use Rattle.mesh.proofs.Tables.Rows.{few-of, row-degree-links-table, rows-proper-links-table}
-use Rattle.mesh.proofs.Tables.ReadBack.{proper-graph-in, linked-graph-in, graph-in-links-table}
-use Rattle.mesh.specs.Valid.{Valid}
+use Rattle.lists.{specs.Kit.{_≡_, refl, sym, ap, _∙_, _↔_, Bool, true, false, _&&_, List, ℕ, _≤_, _<_, arith, le-trans, le-of-eq, leb, length, getD, ext-getD}}
+use Rattle.lists.{specs.Kit.{leb-true, le-leb}, specs.Lists.{range, count, In}, specs.Facts.{Each-once}, proofs.Tests.{and-left, and-right, and-both}}
+use Rattle.lists.{proofs.Count.{count-ext}, proofs.Range.{once-below, range-in}, proofs.All.{all-below, below-all}, proofs.Ascending.{rising-cong}}
+use Rattle.mesh.specs.{Limits.{max-radios}, Graph.{Graph, radios, linked, neighbours-in, proper, ascending}, Cores.{number, numbers}, Orders.{each-once}}
+use Rattle.mesh.specs.{Orders.{rising, few-later, is-k-order}, Tables.{Tables, marked, links-table, graph-in, tables-of}, Sound.{symmetric, irreflexive}}
+use Rattle.mesh.specs.{Sound.{within, few, rows-proper, enough, number-in, sound-within}, Valid.{Valid}}
+use Rattle.mesh.proofs.{GraphLaws.{linked-self, neighbours-in-subset}, Cores.Orders.{each-once-of, of-each-once, rising-of, of-rising, Few-later}}
+use Rattle.mesh.proofs.{Cores.Orders.{few-later-of, of-few-later, few-later-cong, Enough}, Cores.Certificate.{Certificate}}
+use Rattle.mesh.proofs.{Cores.Peeling.{length-numbers, getD-numbers}, Cores.KOrders.{k-order-certificate, certificate-number, certificate-k-order}}
+use Rattle.mesh.proofs.{Tables.Rows.{few-of, row-degree-links-table, rows-proper-links-table}, Tables.ReadBack.{proper-graph-in, linked-graph-in}}
+use Rattle.mesh.proofs.{Tables.ReadBack.{graph-in-links-table}}
 
 -- numbers that agree on the radios are certified alike
 certificate-cong : (g : Graph) (num new : ℕ → ℕ) (xs : List ℕ) → ((v : ℕ) → v < g .n → num v ≡ new v) → Certificate g num xs → Certificate g new xs
@@ -191,6 +170,7 @@ sound-valid most g xs small p asc h =
       links-proper = p;
       links-ascending = asc;
       degrees = λ v l. le-trans (le-of-eq (sym (row-degree-links-table g small p v l)))
-          (few-of most (g .n) (links-table g) (and-right (within (g .n) (links-table g)) (few most (g .n) (links-table g)) (and-right first second (r .rows))) v l);
+          (few-of most (g .n) (links-table g) (and-right (within (g .n) (links-table g)) (few most (g .n) (links-table g)) (and-right first second (r .rows))) v
+          l);
       k-order = rw back at (r .k-order);
     }

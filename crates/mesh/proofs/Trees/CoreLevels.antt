@@ -1,15 +1,7 @@
 -- Connected cores at one level and at two.
-use mathlib.Core.Path.{_≡_, sym, _∙_}
-use mathlib.Core.Bool.{true}
-use Prim.Native.Nat.{ℕ, _≤_, _<_}
-use native.Mathlib.Omega.{arith}
-use borrow.Author.Tests.{leb-true, le-leb}
-use Rattle.lists.specs.Lists.{range, member}
-use Rattle.mesh.specs.Graph.{Graph, radios}
-use Rattle.mesh.specs.Cores.{number}
-use Rattle.mesh.specs.Connected.{here, at-least, In-core, core-of}
-use Rattle.lists.proofs.Tests.{iff-eq}
-use Rattle.lists.proofs.Filter.{filter-ext}
+use Rattle.lists.{specs.Kit.{_≡_, sym, _∙_, true, ℕ, _≤_, _<_, arith, leb-true, le-leb}, specs.Lists.{range, member}, proofs.Tests.{iff-eq}}
+use Rattle.lists.{proofs.Filter.{filter-ext}}
+use Rattle.mesh.specs.{Graph.{Graph, radios}, Cores.{number}, Connected.{here, at-least, In-core, core-of}}
 use Rattle.mesh.proofs.Trees.Reach.{reachable-below, reachable-passes, reachable-trans, reachable-sym, reachable-mono, core-of-iff, core-of-ascending}
 
 module _ (g : Graph) where

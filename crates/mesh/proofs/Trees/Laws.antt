@@ -1,27 +1,14 @@
 -- The shell tree that is worked out is document 01's: `tree-right`. That the names by radio are right is `node-name-right` in
 -- ShellNames.antt.
 -- In order: entries of maps and of joined lists, core numbers are at most n, the nodes of a level, their order, the tree.
-use mathlib.Core.Path.{_≡_, refl, ap}
-use mathlib.Core.Logic.{_⊎_, inl, inr}
-use mathlib.Core.Bool.{Bool, _&&_}
-use mathlib.Core.List.{List, [], _∷_, _++_, map, flatMap, List·Memᴰ, List·Memᴰ·head, List·Memᴰ·tail, List·Memᴰ·append-cases}
-use Prim.Native.Nat.{ℕ, zero, suc, _≤_, _<_}
-use native.Mathlib.Omega.{arith}
-use lib.Dec.{eqb}
-use lib.ListN.{length}
-use borrow.Author.Tests.{eqb-true, eq-eqb}
-use Rattle.lists.specs.Lists.{range, filter, member, Ascending}
-use Rattle.mesh.specs.Graph.{Graph, radios}
-use Rattle.mesh.specs.Cores.{number, cores, cores-from, depth, peeled}
-use Rattle.mesh.specs.declared.Node.{Node}
-use Rattle.mesh.specs.Tree.{node, Is-node, Node-before, Nodes-ascending, Is-tree, node-name, parent-name, nodes-at, tree}
-use Rattle.lists.proofs.Tests.{bit-one, and-left, and-right, and-both}
-use Rattle.lists.proofs.Range.{in-range, range-in}
-use Rattle.lists.proofs.Filter.{in-filter, filter-in}
-use Rattle.mesh.proofs.Trees.NodeSets.{core-has, core-has-self, node-set-of-radio, named-unique, parent-unique}
-use Rattle.lists.proofs.Ascending.{ascending-range, ascending-filter}
-use Rattle.mesh.proofs.Trees.ShellNames.{node-name-named, parent-name-right}
-use Rattle.lists.proofs.Map.{mem-map, map-mem, mem-flatMap, flatMap-mem}
+use Rattle.lists.{specs.Kit.{_≡_, refl, ap, _⊎_, inl, inr, Bool, _&&_, List, [], _∷_, _++_, map, flatMap, List·Memᴰ, List·Memᴰ·head, List·Memᴰ·tail}}
+use Rattle.lists.{specs.Kit.{List·Memᴰ·append-cases, ℕ, zero, suc, _≤_, _<_, arith, eqb, length, eqb-true, eq-eqb}, specs.Lists.{range, filter, member}}
+use Rattle.lists.{specs.Lists.{Ascending}, proofs.Tests.{bit-one, and-left, and-right, and-both}, proofs.Range.{in-range, range-in}, proofs.Filter.{in-filter}}
+use Rattle.lists.{proofs.Filter.{filter-in}, proofs.Ascending.{ascending-range, ascending-filter}, proofs.Map.{mem-map, map-mem, mem-flatMap, flatMap-mem}}
+use Rattle.mesh.specs.{Graph.{Graph, radios}, Cores.{number, cores, cores-from, depth, peeled}, declared.Node.{Node}, Tree.{node, Is-node, Node-before}}
+use Rattle.mesh.specs.{Tree.{Nodes-ascending, Is-tree, node-name, parent-name, nodes-at, tree}}
+use Rattle.mesh.proofs.Trees.{NodeSets.{core-has, core-has-self, node-set-of-radio, named-unique, parent-unique}, ShellNames.{node-name-named}}
+use Rattle.mesh.proofs.Trees.{ShellNames.{parent-name-right}}
 
 -- ---- core numbers are at most n
 

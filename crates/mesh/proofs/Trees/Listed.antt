@@ -1,27 +1,13 @@
 -- The lists of radios that calls answer: they are ascending, and which radios the backbone has; of a site in one part it is
 -- document 01's.
-use mathlib.Core.Path.{_≡_, refl, ap}
-use mathlib.Core.Logic.{_↔_, inl, inr}
-use mathlib.Core.Bool.{Bool, true, _&&_}
-use mathlib.Core.List.{List, [], _∷_, map}
-use Prim.Native.Nat.{ℕ, zero, suc, _≤_, _<_}
-use native.Mathlib.Omega.{arith}
-use lib.Dec.{ltb, eqb}
-use lib.ListN.{length, getD}
-use borrow.Author.Tests.{ltb-true, eqb-true, lt-ltb, eq-eqb}
-use Rattle.lists.specs.Lists.{range, filter, member, In, Ascending}
-use Rattle.mesh.specs.Graph.{Graph, radios}
-use Rattle.mesh.specs.Cores.{number, numbers}
-use Rattle.mesh.specs.Levels.{changed}
-use Rattle.mesh.specs.Connected.{In-core, core-of, greatest, In-backbone, backbone, site-backbone}
-use Rattle.lists.proofs.Tests.{and-left, and-right, and-both, iff-eq}
-use Rattle.lists.proofs.Member.{member-in, in-member}
-use Rattle.lists.proofs.Range.{in-range, range-in}
-use Rattle.lists.proofs.Filter.{in-filter, filter-in, filter-ext}
-use Rattle.mesh.proofs.Cores.Peeling.{length-numbers, getD-numbers}
-use Rattle.mesh.proofs.Trees.Reach.{core-of-iff, core-of-ascending}
-use Rattle.mesh.proofs.Trees.CoreLevels.{in-core-here, in-core-below}
-use Rattle.lists.proofs.Ascending.{ascending-range, ascending-filter}
+use Rattle.lists.{specs.Kit.{_≡_, refl, ap, _↔_, inl, inr, Bool, true, _&&_, List, [], _∷_, map, ℕ, zero, suc, _≤_, _<_, arith, ltb, eqb, length, getD}}
+use Rattle.lists.{specs.Kit.{ltb-true, eqb-true, lt-ltb, eq-eqb}, specs.Lists.{range, filter, member, In, Ascending}, proofs.Tests.{and-left, and-right}}
+use Rattle.lists.{proofs.Tests.{and-both, iff-eq}, proofs.Member.{member-in, in-member}, proofs.Range.{in-range, range-in}, proofs.Filter.{in-filter}}
+use Rattle.lists.{proofs.Filter.{filter-in, filter-ext}, proofs.Ascending.{ascending-range, ascending-filter}}
+use Rattle.mesh.specs.{Graph.{Graph, radios}, Cores.{number, numbers}, Levels.{changed}, Connected.{In-core, core-of, greatest, In-backbone, backbone}}
+use Rattle.mesh.specs.{Connected.{site-backbone}}
+use Rattle.mesh.proofs.{Cores.Peeling.{length-numbers, getD-numbers}, Trees.Reach.{core-of-iff, core-of-ascending}, Trees.CoreLevels.{in-core-here}}
+use Rattle.mesh.proofs.{Trees.CoreLevels.{in-core-below}}
 
 -- ---- ascending
 

@@ -1,25 +1,12 @@
 -- Laws of the shell tree's sets.
 -- In order: shells, connected cores as sets, node sets (they are the connected cores with a radio of their own level), names,
 -- parents (there is one at most).
-use mathlib.Core.Path.{_≡_, refl, sym, _∙_}
-use mathlib.Core.Logic.{_⊎_, inl, inr, _↔_}
-use mathlib.Core.Bool.{Bool, true, false}
-use mathlib.Core.List.{List, [], _∷_}
-use Prim.Native.Nat.{ℕ, suc, _≤_, _<_}
-use native.Mathlib.Omega.{arith}
-use native.Mathlib.Nat.{le-antisymm}
-use lib.Dec.{eqb}
-use borrow.Author.Tests.{eqb-true, eqb-false, eq-eqb}
-use Rattle.lists.specs.Lists.{member, In}
-use Rattle.mesh.specs.Graph.{Graph}
-use Rattle.mesh.specs.Cores.{number}
-use Rattle.mesh.specs.Connected.{In-core, core-of}
-use Rattle.mesh.specs.Tree.{Core-set, Node-set, Named, Contains, Parent, shell}
-use Rattle.lists.proofs.Tests.{bool-cases}
-use Rattle.lists.proofs.Member.{member-in, in-member}
+use Rattle.lists.specs.Kit.{_≡_, refl, sym, _∙_, inl, inr, _↔_, Bool, true, List, [], _∷_, ℕ, suc, _≤_, _<_, arith, le-antisymm, eqb, eqb-true}
+use Rattle.lists.{specs.Kit.{eqb-false, eq-eqb, ⊎-elim}, specs.Lists.{member, In}, proofs.Tests.{bool-cases}, proofs.Member.{member-in, in-member}}
 use Rattle.lists.proofs.Filter.{in-filter, filter-in}
-use Rattle.mesh.proofs.Trees.Reach.{core-of-iff}
-use Rattle.mesh.proofs.Trees.CoreLevels.{in-core-here, in-core-below, in-core-level, in-core-sym, in-core-trans, in-core-mono, in-core-lower}
+use Rattle.mesh.specs.{Graph.{Graph}, Cores.{number}, Connected.{In-core, core-of}, Tree.{Core-set, Node-set, Named, Contains, Parent, shell}}
+use Rattle.mesh.proofs.Trees.{Reach.{core-of-iff}, CoreLevels.{in-core-here, in-core-below, in-core-level, in-core-sym, in-core-trans, in-core-mono}}
+use Rattle.mesh.proofs.Trees.CoreLevels.{in-core-lower}
 
 -- the connected core of v at level k, as a set
 abbrev pub core-has : Graph → (v k w : ℕ) → Bool
@@ -95,11 +82,9 @@ module _ (g : Graph) where
   }
     where
       above : (x : ℕ) → In-core g (c .radio) k x → suc k ≤ number g x
-      above x r = let l = in-core-below g (c .radio) k x (c .is-radio) r in go (bool-cases (eqb (number g x) k)) l
-        where
-          go : (eqb (number g x) k ≡ true) ⊎ (eqb (number g x) k ≡ false) → x < g .n → suc k ≤ number g x
-          go (inl e) l = absurd (none x l (c .reaches x l .1 r) (eqb-true (number g x) k e))
-          go (inr e) l = omega (arith, eqb-false (number g x) k e, in-core-level g (c .radio) k x (c .level) r)
+      above x r = let l = in-core-below g (c .radio) k x (c .is-radio) r in
+          ⊎-elim (λ e. absurd (none x l (c .reaches x l .1 r) (eqb-true (number g x) k e)))
+          (λ e. omega (arith, eqb-false (number g x) k e, in-core-level g (c .radio) k x (c .level) r)) (bool-cases (eqb (number g x) k))
 
   -- a node set has a shell
   pub node-set-shell : {k : ℕ} {s : ℕ → Bool} → Node-set g k s → (x : ℕ) × (x < g .n) × (s x ≡ true) × (number g x ≡ k)
@@ -122,7 +107,13 @@ module _ (g : Graph) where
       (p .lowest b (q .in-set) (q .level) (q .is-radio)) (q .lowest a (p .in-set) (p .level) (p .is-radio))
 
   pub named-same : {k : ℕ} {s t : ℕ → Bool} {a : ℕ} → Contains g t s → Contains g s t → Named g k s a → Named g k t a
-  named-same into out p = record { is-radio = p .is-radio; in-set = into _ (p .is-radio) (p .in-set); level = p .level; lowest = λ w q e l. p .lowest w (out w l q) e l }
+  named-same into out p = record {
+    is-radio = p .is-radio;
+    in-set = into _ (p .is-radio) (p .in-set);
+    level = p .level;
+    lowest = λ w q e l. p .lowest w
+        (out w l q) e l;
+  }
 
   -- ---- parents
 

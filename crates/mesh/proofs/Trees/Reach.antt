@@ -1,26 +1,14 @@
 -- Reachable radios: laws of reachability, the rounds of `reached` take in exactly the reachable radios, and so connected cores
 -- as lists. More on connected cores is in CoreLevels.antt.
-use mathlib.Core.Path.{_≡_, refl, sym, ap, _∙_}
-use mathlib.Core.Logic.{_⊎_, inl, inr, _↔_}
-use mathlib.Core.Bool.{Bool, true, false, _&&_, _||_, not}
-use mathlib.Core.List.{List, [], _∷_}
-use Prim.Native.Nat.{ℕ, zero, suc, _+_, _≤_, _<_}
-use native.Mathlib.Omega.{arith}
-use lib.Dec.{ltb}
-use lib.ListN.{length}
-use borrow.Author.Tests.{ltb-true, lt-ltb, not-true}
-use Rattle.lists.specs.Lists.{range, count, filter, member, In}
-use Rattle.lists.specs.Facts.{Ascending-below}
-use Rattle.mesh.specs.Graph.{Graph, radios, linked, neighbours-among}
-use Rattle.mesh.specs.Connected.{Reachable, here, onward, at-least, In-core, reached, core-of}
-use Rattle.lists.proofs.Tests.{bool-cases, never, and-left, and-right, and-both, or-cases, or-left, or-right, iff-eq}
-use Rattle.lists.proofs.Member.{member-in, in-member}
-use Rattle.lists.proofs.Count.{count-le-length, count-pos, count-some}
-use Rattle.lists.proofs.Distinct.{length-sub}
-use Rattle.lists.proofs.Range.{in-range, range-in, length-range}
-use Rattle.lists.proofs.Filter.{in-filter, filter-in, length-filter, filter-ext}
+use Rattle.lists.specs.Kit.{_≡_, refl, sym, ap, _∙_, _⊎_, inl, inr, _↔_, Bool, true, false, _&&_, _||_, not, List, [], _∷_, ℕ, zero, suc, _+_, _≤_, _<_}
+use Rattle.lists.{specs.Kit.{arith, ltb, length, ltb-true, lt-ltb, not-true}, specs.Lists.{range, count, filter, member, In}, specs.Facts.{Ascending-below}}
+use Rattle.lists.specs.Kit.{⊎-elim}
+use Rattle.lists.{proofs.Tests.{bool-cases, never, and-left, and-right, and-both, or-cases, or-left, or-right, iff-eq}, proofs.Member.{member-in, in-member}}
+use Rattle.lists.{proofs.Count.{count-le-length, count-pos, count-some}, proofs.Distinct.{length-sub}, proofs.Range.{in-range, range-in, length-range}}
+use Rattle.lists.{proofs.Filter.{in-filter, filter-in, length-filter, filter-ext}, proofs.Ascending.{ascending-below-filter, ascending-below-one}}
+use Rattle.lists.proofs.Ascending.{ascending-below-distinct, ascending-below-lt}
+use Rattle.mesh.specs.{Graph.{Graph, radios, linked, neighbours-among}, Connected.{Reachable, here, onward, at-least, In-core, reached, core-of}}
 use Rattle.mesh.proofs.GraphLaws.{linked-sym}
-use Rattle.lists.proofs.Ascending.{ascending-below-filter, ascending-below-one, ascending-below-distinct, ascending-below-lt}
 
 -- ---- reachability
 
@@ -98,8 +86,11 @@ module _ (g : Graph) (over : ℕ → Bool) where
       new w = near g over xs w && not (member w xs)
 
       bigger : (x : ℕ) → In x (range 0 (g .n)) → new x ≡ true → length xs < length (round g over xs)
-      bigger x m p = length-sub (x ∷ xs) (round g over xs)
-          (λ i. never (member x xs) (in-member x xs i) (not-true (member x xs) (and-right (near g over xs x) (not (member x xs)) p)), ascending-below-distinct (g .n) xs a) sub
+      bigger x m p = length-sub (x ∷ xs) (round g over xs) (
+        λ i. never (member x xs) (in-member x xs i) (not-true (member x xs) (and-right (near g over xs x) (not (member x xs)) p)),
+        ascending-below-distinct
+            (g .n) xs a,
+      ) sub
         where
           sub : (w : ℕ) → In w (x ∷ xs) → In w (round g over xs)
           sub w (inl q) = rw (← q) (filter-in (near g over xs) (range 0 (g .n)) x m (and-left (near g over xs x) (not (member x xs)) p))
@@ -140,12 +131,8 @@ module _ (g : Graph) (over : ℕ → Bool) where
         count-le-length (near g over xs) (range 0 (g .n)),
         length-range 0 (g .n),
       ))
-  reached-closed (suc r) xs a h = go (reached-closed r (round g over xs) (ascending-below-filter (g .n) (near g over xs))) (round-grows xs a)
-    where
-      go : (g .n ≤ r + length (round g over xs) → Closed g over (reached r g over (round g over xs)))
-          → Closed g over xs ⊎ (length xs < length (round g over xs)) → Closed g over (reached r g over (round g over xs))
-      go rec (inl c) = rw (closed-reached (suc r) xs a c) c
-      go rec (inr l) = rec (omega arith)
+  reached-closed (suc r) xs a h = let rec = reached-closed r (round g over xs) (ascending-below-filter (g .n) (near g over xs)) in
+      ⊎-elim (λ c. rw (closed-reached (suc r) xs a c) c) (λ l. rec (omega arith)) (round-grows xs a)
 
   reached-keeps : (r : ℕ) (xs : List ℕ) → Ascending-below (g .n) xs → (w : ℕ) → In w xs → In w (reached r g over xs)
   unfolding reached radios

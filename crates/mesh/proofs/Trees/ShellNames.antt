@@ -1,25 +1,13 @@
 -- The names that the shell tree works out: of a radio's node, and of a node's parent.
 -- In order: increasing lists and their first entry, the name of a shell, the node of a radio, the parent of a node.
-use mathlib.Core.Path.{_≡_, refl, _∙_}
-use mathlib.Core.Logic.{_⊎_, inl, inr}
-use mathlib.Core.Bool.{Bool, true, false}
-use mathlib.Core.List.{List, [], _∷_}
-use Prim.Native.Nat.{ℕ, zero, suc, _≤_, _<_}
-use native.Mathlib.Omega.{arith}
-use lib.Dec.{eqb}
-use borrow.Author.Tests.{ne-eqb}
-use Rattle.lists.specs.Lists.{range, member, head-or, In, Ascending}
-use Rattle.mesh.specs.Graph.{Graph, radios}
-use Rattle.mesh.specs.Cores.{number}
-use Rattle.mesh.specs.Connected.{In-core, core-of}
-use Rattle.mesh.specs.Tree.{root-name, Core-set, Node-set, Named, Strictly-contains, Parent, Node-name, shell, node-name, parent-name}
-use Rattle.lists.proofs.Tests.{bool-cases, never, trichotomy}
-use Rattle.mesh.proofs.Trees.Reach.{core-of-iff, core-of-ascending}
-use Rattle.mesh.proofs.Trees.CoreLevels.{core-of-same, in-core-here, in-core-below, in-core-lower}
-use Rattle.mesh.proofs.Trees.NodeSets.{core-has, core-has-self, shell-in, in-shell, core-set-of, core-set-level, core-set-reaches, core-set-contains}
-use Rattle.mesh.proofs.Trees.NodeSets.{node-set-of, node-set-shell}
-use Rattle.lists.proofs.Ascending.{ascending-range, ascending-filter, head-or-lowest}
-use Rattle.lists.proofs.Member.{head-or-in, head-or-any}
+use Rattle.lists.{specs.Kit.{_≡_, refl, _∙_, _⊎_, inl, inr, Bool, true, false, List, [], _∷_, ℕ, zero, suc, _≤_, _<_, arith, eqb, ne-eqb}, specs.Lists.{range}}
+use Rattle.lists.{specs.Lists.{member, head-or, In, Ascending}, proofs.Tests.{bool-cases, never, trichotomy}, proofs.Ascending.{ascending-range}}
+use Rattle.lists.{proofs.Ascending.{ascending-filter, head-or-lowest}, proofs.Member.{head-or-in, head-or-any}}
+use Rattle.mesh.specs.{Graph.{Graph, radios}, Cores.{number}, Connected.{core-of}, Tree.{root-name, Core-set, Node-set, Named}}
+use Rattle.mesh.specs.{Tree.{Strictly-contains, Parent, Node-name, shell, node-name, parent-name}}
+use Rattle.mesh.proofs.Trees.{Reach.{core-of-iff, core-of-ascending}, CoreLevels.{in-core-here, in-core-below}}
+use Rattle.mesh.proofs.Trees.{NodeSets.{core-has, core-has-self, shell-in, in-shell, core-set-of, core-set-level, core-set-reaches, core-set-contains}}
+use Rattle.mesh.proofs.Trees.{NodeSets.{node-set-of, node-set-shell}}
 
 -- ---- laws of lists: increasing, and the first entry
 
@@ -124,17 +112,11 @@ module _ (g : Graph) where
         where
           go : (i < K) ⊎ ((i ≡ K) ⊎ (K < i)) → i < K
           go (inl a) = a
-          go (inr (inl a)) = never (s (st .extra)) (core-set-contains g (omega arith) c (nd .core) v l (st .contains v l p) p (st .extra) (st .is-radio) (st .in-outer)) (st .not-inner)
+          go (inr (inl a)) = never (s (st .extra)) (core-set-contains g (omega arith) c (nd .core) v l (st .contains v l p) p (st .extra) (st .is-radio)
+              (st .in-outer)) (st .not-inner)
           go (inr (inr a)) = absurd (omega (arith, core-set-level g (nd .core) v l (st .contains v l p)))
 
   -- ---- names alike
-
-  -- the radios of a connected core at level k have the same names above it
-  pub parent-name-same : (v k w : ℕ) → v < g .n → k ≤ number g v → In-core g v k w → parent-name g w (suc k) ≡ parent-name g v (suc k)
-  unfolding parent-name shell
-  parent-name-same v zero w l h r = refl
-  parent-name-same v (suc k) w l h r =
-      rw (core-of-same g v (suc k) w l h r, parent-name-same v k w l (omega arith) (in-core-lower g v k (suc k) w (omega arith) r))
 
   node-name-parent-at : (v k : ℕ) → v < g .n → number g v ≡ k → node-name g v ≡ parent-name g v (suc k)
   unfolding parent-name

@@ -1,16 +1,9 @@
 -- Document 01 decides the shell tree: `tree-iff` and `node-name-iff` say that the answer worked out is the only one.
-use mathlib.Core.Path.{_≡_, refl, sym, ap, ap₂, _∙_}
-use mathlib.Core.Logic.{_⊎_, inl, inr, _↔_}
-use mathlib.Core.List.{List, [], _∷_, List·Memᴰ, List·Memᴰ·head, List·Memᴰ·tail, List·Memᴰ·cases-cons, List·Memᴰ·not-nil}
-use Prim.Native.Nat.{ℕ, zero, suc, _<_}
-use native.Mathlib.Omega.{arith}
-use Rattle.mesh.specs.Graph.{Graph}
-use Rattle.mesh.specs.Cores.{number}
-use Rattle.mesh.specs.declared.Node.{Node}
-use Rattle.mesh.specs.Tree.{root, Node-before, Nodes-ascending, Is-tree, Node-name, tree, node-name}
-use Rattle.mesh.proofs.Trees.NodeSets.{core-has, core-has-self, node-set-of-radio, named-unique}
-use Rattle.mesh.proofs.Trees.ShellNames.{node-name-right}
-use Rattle.mesh.proofs.Trees.Laws.{tree-right}
+use Rattle.lists.specs.Kit.{_≡_, refl, sym, ap, ap₂, _∙_, _⊎_, inl, inr, _↔_, List, [], _∷_, List·Memᴰ, List·Memᴰ·head, List·Memᴰ·tail, List·Memᴰ·cases-cons}
+use Rattle.lists.specs.Kit.{List·Memᴰ·not-nil, ℕ, zero, suc, _<_, arith}
+use Rattle.mesh.specs.{Graph.{Graph}, Cores.{number}, declared.Node.{Node}, Tree.{root, Node-before, Nodes-ascending, Is-tree, Node-name, tree}}
+use Rattle.mesh.specs.{Tree.{node-name}}
+use Rattle.mesh.proofs.Trees.{NodeSets.{core-has, core-has-self, node-set-of-radio, named-unique}, ShellNames.{node-name-right}, Laws.{tree-right}}
 
 -- ---- ascending lists of nodes with the same entries are equal
 

@@ -1,6 +1,5 @@
 -- `rows::put_link` meets its contract: two calls of `put_bit`, with the ends exchanged.
-use mathlib.Core.Path.{ap, _∙_}
-use borrow.Author.Needs.{needs}
+use Rattle.lists.specs.Kit.{ap, _∙_, needs}
 use Rattle.mesh.specs.Tables.{put-bit, put-link}
 use Rattle.rows.proofs.put_link.Statement.{statement}
 use Rattle.rows.proofs.put_link.Tie as tie

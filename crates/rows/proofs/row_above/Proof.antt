@@ -1,26 +1,20 @@
 -- `rows::row_above` meets its contract: the part of the list that is lent stops the byte, and what is written into it stands in
 -- front of the list.
-use mathlib.Core.Path.{sym, ap, _∙_}
-use mathlib.Core.List.{List}
-use Prim.Native.Nat.{ℕ}
-use native.Mathlib.Omega.{arith}
-use lib.ListN.{take, length-take}
-use lib.Seq.{length-take-le}
-use borrow.Author.Needs.{needs}
-use Rattle.lists.specs.Lists.{overwrite}
+use Rattle.lists.specs.{Kit.{sym, ap, _∙_, ℕ, arith, take, length-take, length-take-le, needs}, Lists.{overwrite}}
 use Rattle.rows.specs.Rows.{neighbours-above}
-use Rattle.rows.proofs.Listing.{put-front}
-use Rattle.rows.proofs.row_above.Statement.{statement}
-use Rattle.rows.proofs.row_above.Tie as tie
+use Rattle.rows.proofs.{Listing.{put-front}, row_above.{Statement.{statement}, Tie.{close, spec}}}
 
-slice-aggregate-list-above : tie.Need-slice-aggregate-list-above
-slice-aggregate-list-above c = sym (length-take-le _ _ (omega (arith, c .before .row-room .ensures)))
-
-list-above-requires : tie.Need-list-above-requires
-list-above-requires c κs = omega (arith, c .before .row-room .ensures, length-take (c .before .row-room .result) (c .before .before .before .before .args .list .now))
-
-returns : tie.Need-returns
-returns c =
+pub row-above-spec : {M : Type 1} → statement M
+row-above-spec = close (spec (λ c κs. search needs) (λ c. search needs) (λ c. sym (length-take-le _ _ (omega (arith, c .before .row-room .ensures))))
+    (λ c κs.
+    omega (
+      arith,
+      c .before .row-room .ensures,
+      length-take (c .before .row-room .result)
+          (c .before .before .before .before .args .list .now),
+    ))
+    (λ c. search needs)
+    (λ c.
     let listed = c .before .before in
     let room = listed .before .before in
     let call = room .before .before .before .args in
@@ -29,9 +23,4 @@ returns c =
       omega (arith, listed .list-above .ensures .0, fits, length-take (room .row-room .result) (call .list .now)),
       put-front (call .list .now) _ xs (room .row-room .result) (omega (arith, fits)) (listed .list-above .ensures .1)
           ∙ ap (λ (k : ℕ). overwrite (take k xs) (call .list .now)) fits,
-    )
-
-pub row-above-spec : {M : Type 1} → statement M
-row-above-spec =
-    tie.close (
-    tie.spec (λ c κs. search needs) (λ c. search needs) slice-aggregate-list-above list-above-requires (λ c. search needs) returns)
+    )))

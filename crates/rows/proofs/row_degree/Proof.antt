@@ -1,13 +1,9 @@
 -- `rows::row_degree` meets its contract: the radios counted so far and the ones from word k on are all that the row marks, and
 -- the byte has not passed the limit on neighbours. The measure is the words that are left.
-use mathlib.Core.Path.{sym, ap}
-use Prim.Native.Nat.{_-_}
-use native.Mathlib.Omega.{arith}
-use lib.ListN.{length}
-use borrow.Author.Needs.{needs}
+use Rattle.lists.specs.Kit.{ap, _-_, arith, length, needs}
 use Rattle.rows.specs.Rows.{row-count}
-use Rattle.rows.proofs.RowWords.{Row-counting, row-counting-turn, row-counting-stop, row-counting-end, length-row-from, row-from-zero, row-listed-short}
-use Rattle.rows.proofs.row_degree.Statement.{statement}
+use Rattle.rows.proofs.{RowWords.{Row-counting, row-counting-turn, row-counting-stop, row-counting-end, length-row-from, row-from-zero}}
+use Rattle.rows.proofs.{RowWords.{row-listed-short}, row_degree.Statement.{statement}}
 use Rattle.rows.proofs.row_degree.Tie as tie
 
 abbrev Inv-loop : tie.InvT-loop
@@ -20,42 +16,29 @@ returns : tie.Need-returns Inv-loop μ-loop
 unfolding row-count
 returns c = omega (arith, ap length (row-listed-short (c .before .before .args .links .now) (c .before .before .args .a) (c .if1 .taken)))
 
-loop-holds : tie.Need-loop-holds Inv-loop μ-loop
-loop-holds c = (omega arith, omega arith, omega (arith, ap length (row-from-zero (c .before .before .args .links .now) (c .before .before .args .a))))
-
-cast-n : tie.Need-cast-n Inv-loop μ-loop
-cast-n c =
+pub row-degree-spec : {M : Type 1} → statement M
+row-degree-spec = tie.close (tie.spec Inv-loop μ-loop (λ c. search needs) (λ c. search needs) returns
+    (λ c. (omega arith, omega arith, omega (arith, ap length (row-from-zero (c .before .before .args .links .now) (c .before .before .args .a)))))
+    (λ c. search needs) (λ c. search needs) (λ c. search needs) (λ c κs. search needs)
+    (λ c.
     let at-loop = c .before .before in
     let few = length-row-from _ (λ j. at-loop .before .before .shared-slice-known .given j .fits) _ (at-loop .loop .k) (c .word-at .result)
     (c .before .loop-test .taken) (c .word-at .ensures) .0 in
-    omega (arith, few, at-loop .loop .inv .1)
-
-add-n : tie.Need-add-n Inv-loop μ-loop
-add-n c =
+    omega (arith, few, at-loop .loop .inv .1))
+    (λ c.
     let at-loop = c .before .before in
     let few = length-row-from _ (λ j. at-loop .before .before .shared-slice-known .given j .fits) _ (at-loop .loop .k) (c .word-at .result)
     (c .before .loop-test .taken) (c .word-at .ensures) .0 in
-    omega (arith, few, at-loop .loop .inv .1)
-
-returns-2 : tie.Need-returns-2 Inv-loop μ-loop
-returns-2 c =
+    omega (arith, few, at-loop .loop .inv .1))
+    (λ c.
     let read = c .before in
     let at-loop = read .before .before in
     row-counting-stop _ (λ j. at-loop .before .before .shared-slice-known .given j .fits) _ (at-loop .loop .n) (at-loop .loop .k) (read .word-at .result)
-    (read .before .loop-test .taken) (read .word-at .ensures) (at-loop .before .if1 .left) (c .if2 .taken) (at-loop .loop .inv)
-
-loop-again : tie.Need-loop-again Inv-loop μ-loop
-loop-again c =
+    (read .before .loop-test .taken) (read .word-at .ensures) (at-loop .before .if1 .left) (c .if2 .taken) (at-loop .loop .inv))
+    (λ c. search needs) (λ c. search needs)
+    (λ c.
     let read = c .before in
     let at-loop = read .before .before in
     row-counting-turn _ (λ j. at-loop .before .before .shared-slice-known .given j .fits) _ (at-loop .loop .n) (at-loop .loop .k) (read .word-at .result)
-    (read .before .loop-test .taken) (read .word-at .ensures) (omega (arith, c .if2 .left)) (at-loop .loop .inv)
-
-returns-3 : tie.Need-returns-3 Inv-loop μ-loop
-returns-3 c = row-counting-end _ _ _ _ (c .loop-test .left) (c .before .before .if1 .left) (c .before .loop .inv)
-
-pub row-degree-spec : {M : Type 1} → statement M
-row-degree-spec =
-    tie.close (
-    tie.spec Inv-loop μ-loop (λ c. search needs) (λ c. search needs) returns loop-holds (λ c. search needs) (λ c. search needs) (λ c. search needs)
-    (λ c κs. search needs) cast-n add-n returns-2 (λ c. search needs) (λ c. search needs) loop-again returns-3)
+    (read .before .loop-test .taken) (read .word-at .ensures) (omega (arith, c .if2 .left)) (at-loop .loop .inv))
+    (λ c. row-counting-end _ _ _ _ (c .loop-test .left) (c .before .before .if1 .left) (c .before .loop .inv)))

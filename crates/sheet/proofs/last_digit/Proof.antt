@@ -1,6 +1,5 @@
 -- `last_digit` meets its contract by the definition.
-use mathlib.Core.Path.{refl}
-use borrow.Author.Needs.{needs}
+use Rattle.lists.specs.Kit.{refl, needs}
 use Rattle.text.specs.Text.{digit-byte}
 use Rattle.sheet.proofs.last_digit.Statement.{statement}
 use Rattle.sheet.proofs.last_digit.Tie as tie

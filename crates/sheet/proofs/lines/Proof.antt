@@ -1,5 +1,5 @@
 -- `lines` meets its contract by the definition.
-use borrow.Author.Needs.{needs}
+use Rattle.lists.specs.Kit.{needs}
 use Rattle.calls.specs.Sheet.{sheet-lines}
 use Rattle.sheet.proofs.lines.Statement.{statement}
 use Rattle.sheet.proofs.lines.Tie as tie

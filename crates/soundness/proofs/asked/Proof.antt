@@ -1,11 +1,9 @@
 -- `soundness::asked` meets its contract: questions 1 and 2 are put to the lengths, and then the tables have the sizes that the
 -- conditions are tested at.
-use borrow.Author.Tests.{not-true, not-false}
-use borrow.Author.Needs.{needs}
+use Rattle.lists.specs.Kit.{not-true, not-false, needs}
 use Rattle.mesh.specs.Tables.{tables}
 use Rattle.calls.specs.Questions.{lengths-of}
-use Rattle.soundness.proofs.ExamineLaws.{asked-lengths, asked-sizes, asked-no, asked-yes}
-use Rattle.soundness.proofs.asked.Statement.{statement}
+use Rattle.soundness.proofs.{CheckLaws.{asked-lengths, asked-sizes, asked-no, asked-yes}, asked.Statement.{statement}}
 use Rattle.soundness.proofs.asked.Tie as tie
 
 returns : tie.Need-returns
@@ -47,7 +45,5 @@ returns-3 c =
     asked-yes (call .n) t (call .others) _ (sized .with-others .ensures) (passed .if1 .left) _ _ _ (tested .is-sound .ensures) (not-false _ (c .if2 .left))
 
 pub asked-spec : {M : Type 1} → statement M
-asked-spec =
-    tie.close (
-    tie.spec (λ c κs. search needs) returns is-sound-requires (λ c. search needs) (λ c. search needs) returns-2 (λ c. search needs)
+asked-spec = tie.close (tie.spec (λ c κs. search needs) returns is-sound-requires (λ c. search needs) (λ c. search needs) returns-2 (λ c. search needs)
     (λ c. search needs) returns-3)

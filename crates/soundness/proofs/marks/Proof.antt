@@ -1,10 +1,8 @@
 -- `soundness::marks` meets its contract: the shifted and masked byte is the digit that `marked` names.
-use borrow.Author.Needs.{needs}
+use Rattle.lists.specs.Kit.{needs}
 use Rattle.rows.proofs.MaskLaws.{marked-shift}
-use Rattle.soundness.proofs.marks.Statement.{statement}
-use Rattle.soundness.proofs.marks.Tie as tie
+use Rattle.soundness.proofs.marks.{Statement.{statement}, Tie.{close, spec}}
 
 pub marks-spec : {M : Type 1} → statement M
-marks-spec =
-    tie.close (
-    tie.spec (λ c. search needs) (λ c. search needs) (λ c. search needs) (λ c. search needs) (λ c. search needs) (λ c. search needs) (λ c. marked-shift _ _ _))
+marks-spec = close (spec (λ c. search needs) (λ c. search needs) (λ c. search needs) (λ c. search needs) (λ c. search needs) (λ c. search needs)
+    (λ c. marked-shift _ _ _))

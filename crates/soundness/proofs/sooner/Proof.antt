@@ -1,21 +1,12 @@
 -- `soundness::sooner` meets its contract: an earlier place leaves the key, of a later one the smaller key counts.
-use native.Mathlib.Omega.{arith}
-use borrow.Author.Needs.{needs}
-use Rattle.soundness.proofs.Tallies.{sooner-early, sooner-late}
-use Rattle.soundness.proofs.sooner.Statement.{statement}
-use Rattle.soundness.proofs.sooner.Tie as tie
-
-returns-2 : tie.Need-returns-2
-returns-2 c =
-    let call = c .before .before .args in
-    omega (arith, c .if2 .taken, sooner-late (call .place) (call .p) (call .b) (call .key) (c .before .if1 .left))
-
-returns-3 : tie.Need-returns-3
-returns-3 c =
-    let call = c .before .before .args in
-    omega (arith, c .if2 .left, sooner-late (call .place) (call .p) (call .b) (call .key) (c .before .if1 .left))
+use Rattle.lists.specs.Kit.{arith, needs}
+use Rattle.soundness.proofs.{Tallies.{sooner-early, sooner-late}, sooner.{Statement.{statement}, Tie.{close, spec}}}
 
 pub sooner-spec : {M : Type 1} → statement M
-sooner-spec =
-    tie.close (
-    tie.spec (λ c. sooner-early _ _ _ _ (c .if1 .taken)) (λ c. search needs) (λ c. search needs) returns-2 returns-3)
+sooner-spec = close (spec (λ c. sooner-early _ _ _ _ (c .if1 .taken)) (λ c. search needs) (λ c. search needs)
+    (λ c.
+    let call = c .before .before .args in
+    omega (arith, c .if2 .taken, sooner-late (call .place) (call .p) (call .b) (call .key) (c .before .if1 .left)))
+    (λ c.
+    let call = c .before .before .args in
+    omega (arith, c .if2 .left, sooner-late (call .place) (call .p) (call .b) (call .key) (c .before .if1 .left))))

@@ -1,35 +1,26 @@
 -- `staircase` meets its contract: refused, the table is untouched; else the tables are sound, and what grows is the staircase tree.
-use mathlib.Core.Path.{sym}
-use lib.ListN.{length}
-use lib.Seq.{length-take-le}
-use borrow.Author.Needs.{needs}
+use Rattle.lists.specs.Kit.{sym, length, length-take-le, needs}
 use Rattle.mesh.specs.Tables.{tables}
 use Rattle.staircase.proofs.AnswerLaws.{staircase-refused, staircase-small, staircase-mutual, staircase-rows, staircase-low, staircase-answered}
-use Rattle.staircase.proofs.staircase.Statement.{statement}
-use Rattle.staircase.proofs.staircase.Tie as tie
+use Rattle.staircase.proofs.staircase.{Statement.{statement}, Tie.{close, spec}}
 
-returns : tie.Need-returns
-returns c =
+pub staircase-spec : {M : Type 1} → statement M
+staircase-spec = close (spec (λ c. search needs) (λ c κs. search needs)
+    (λ c.
     let call = c .before .before .before .before .before .before .args in
     let t = tables (call .links .now) (call .numbers .now) (call .order .now) in
-    staircase-refused (call .n) t (call .table .now) _ (c .before .refusal .ensures) (c .if1 .taken)
-
-prefix : tie.Need-array-borrow-prefix-parents
-prefix c =
+    staircase-refused (call .n) t (call .table .now) _ (c .before .refusal .ensures) (c .if1 .taken))
+    (λ c.
     let call = c .before .before .before .before .before .before .args in
     let t = tables (call .links .now) (call .numbers .now) (call .order .now) in
-    staircase-small (call .n) t (call .table .now) _ (c .before .refusal .ensures) (c .if1 .left)
-
-aggregate : tie.Need-slice-aggregate-take-levels
-aggregate c =
+    staircase-small (call .n) t (call .table .now) _ (c .before .refusal .ensures) (c .if1 .left))
+    (λ c.
     let asked = c .before in
     let call = asked .before .before .before .before .before .before .args in
     let t = tables (call .links .now) (call .numbers .now) (call .order .now) in
     let small = staircase-small (call .n) t (call .table .now) _ (asked .before .refusal .ensures) (asked .if1 .left) in
-    sym (length-take-le (length (call .numbers .now)) _ small)
-
-take-levels-requires : tie.Need-take-levels-requires
-take-levels-requires c κs =
+    sym (length-take-le (length (call .numbers .now)) _ small))
+    (λ c κs.
     let asked = c .before .before in
     let call = asked .before .before .before .before .before .before .args in
     let t = tables (call .links .now) (call .numbers .now) (call .order .now) in
@@ -38,17 +29,11 @@ take-levels-requires c κs =
       staircase-mutual (call .n) t (call .table .now) _ (asked .before .refusal .ensures) (asked .if1 .left),
       staircase-rows (call .n) t (call .table .now) _ (asked .before .refusal .ensures) (asked .if1 .left),
       staircase-low (call .n) t (call .table .now) _ (asked .before .refusal .ensures) (asked .if1 .left),
-    )
-
-returns-2 : tie.Need-returns-2
-returns-2 c =
+    ))
+    (λ c. search needs)
+    (λ c.
     let taken = c .before .before .before in
     let asked = taken .before .before .before in
     let call = asked .before .before .before .before .before .before .args in
     let t = tables (call .links .now) (call .numbers .now) (call .order .now) in
-    staircase-answered (call .n) t (call .table .now) _ (asked .before .refusal .ensures) (asked .if1 .left) _ _ _ (taken .take-levels .ensures)
-
-pub staircase-spec : {M : Type 1} → statement M
-staircase-spec =
-    tie.close (
-    tie.spec (λ c. search needs) (λ c κs. search needs) returns prefix aggregate take-levels-requires (λ c. search needs) returns-2)
+    staircase-answered (call .n) t (call .table .now) _ (asked .before .refusal .ensures) (asked .if1 .left) _ _ _ (taken .take-levels .ensures)))

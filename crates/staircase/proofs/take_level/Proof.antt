@@ -1,24 +1,14 @@
 -- `take_level` meets its contract: the links of the listed rows are the links of the level's weight.
-use mathlib.Core.Path.{sym}
-use lib.Seq.{length-take-le}
-use borrow.Author.Needs.{needs}
-use Rattle.staircase.proofs.LevelRows.{level-links, level-whole}
-use Rattle.staircase.proofs.take_level.Statement.{statement}
-use Rattle.staircase.proofs.take_level.Tie as tie
+use Rattle.lists.specs.Kit.{sym, length-take-le, needs}
+use Rattle.staircase.proofs.{LevelRows.{level-links, level-whole}, take_level.{Statement.{statement}, Tie.{close, spec}}}
 
-list-rows-requires : tie.Need-list-rows-requires
-list-rows-requires c κs =
+pub take-level-spec : {M : Type 1} → statement M
+take-level-spec = close (spec
+    (λ c κs.
     let start = c .before .before .before .before .before .before .before .before in
-    (start .pre .2 .own-long, start .pre .2 .reach-long, start .pre .3)
-
-slice-reshare-prefix-take-rows : tie.Need-slice-reshare-prefix-take-rows
-slice-reshare-prefix-take-rows c = c .before .before .list-rows .ensures .fits
-
-slice-aggregate-take-rows : tie.Need-slice-aggregate-take-rows
-slice-aggregate-take-rows c = sym (length-take-le _ _ (c .before .before .before .list-rows .ensures .fits))
-
-take-rows-requires : tie.Need-take-rows-requires
-take-rows-requires c κs =
+    (start .pre .2 .own-long, start .pre .2 .reach-long, start .pre .3))
+    (λ c. c .before .before .list-rows .ensures .fits) (λ c. sym (length-take-le _ _ (c .before .before .before .list-rows .ensures .fits)))
+    (λ c κs.
     let list-rows-at = c .before .before .before .before .before in
     let start = list-rows-at .before .before .before .before .before .before .before .before .before in
     let call = start .args in
@@ -29,20 +19,13 @@ take-rows-requires c κs =
       pre .2 .reach-long,
       pre .4,
       rw (level-links (call .links .now) (call .numbers .now) (call .level) (pre .1) (pre .0) _ _ (pre .2) _ _ found) (pre .5),
-    )
-
-returns : tie.Need-returns
-returns c =
+    ))
+    (λ c. search needs) (λ c. search needs) (λ c. search needs)
+    (λ c.
     let take-rows-at = c .before .before .before .before in
     let list-rows-at = take-rows-at .before .before .before .before .before .before in
     let start = list-rows-at .before .before .before .before .before .before .before .before .before in
     let call = start .args in
     let pre = start .pre in
     rw (level-links (call .links .now) (call .numbers .now) (call .level) (pre .1) (pre .0) _ _ (pre .2) _ _ (list-rows-at .list-rows .ensures))
-    at (take-rows-at .take-rows .ensures)
-
-pub take-level-spec : {M : Type 1} → statement M
-take-level-spec =
-    tie.close (
-    tie.spec list-rows-requires slice-reshare-prefix-take-rows slice-aggregate-take-rows take-rows-requires (λ c. search needs) (λ c. search needs)
-    (λ c. search needs) returns)
+    at (take-rows-at .take-rows .ensures)))

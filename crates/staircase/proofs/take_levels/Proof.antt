@@ -1,37 +1,22 @@
 -- `take_levels` meets its contract: the levels from this one down give what all of them give (`Taking`), and the radios of the levels
 -- above are in a set; the next level is the greatest number below. The measure is the level.
-use mathlib.Core.Path.{_≡_, refl, _∙_}
-use Prim.Native.Nat.{_≤_}
-use native.Mathlib.Omega.{arith}
-use lib.ListN.{length}
-use borrow.Author.Needs.{needs}
-use Rattle.mesh.specs.Limits.{max-radios, max-neighbours}
-use Rattle.mesh.specs.Staircase.{of-weight}
+use Rattle.lists.specs.Kit.{_≡_, refl, _∙_, _≤_, arith, length, needs}
+use Rattle.mesh.specs.{Limits.{max-radios, max-neighbours}, Staircase.{of-weight}}
 use Rattle.rows.specs.Links.{links-from}
 use Rattle.forests.specs.Growing.{table-weight, levels-falling}
 use Rattle.staircase.specs.Taking.{greatest-below}
-use Rattle.staircase.proofs.SkipLaws.{greatest-below-lt}
-use Rattle.staircase.proofs.LevelRows.{Above-set, above-none, above-next, level-sets}
-use Rattle.staircase.proofs.TakingLaws.{Taking, taking-none, taking-front, taking-part, taking-end}
-use Rattle.staircase.proofs.LevelsTaken.{levels-next, levels-none, levels-takeable, first-parents, levels-all}
-use Rattle.staircase.proofs.take_levels.Statement.{statement}
-use Rattle.staircase.proofs.take_levels.Tie as tie
+use Rattle.staircase.proofs.{SkipLaws.{greatest-below-lt}, LevelRows.{Above-set, above-none, above-next, level-sets}, TakingLaws.{Taking, taking-none}}
+use Rattle.staircase.proofs.{TakingLaws.{taking-front, taking-part, taking-end}, LevelsTaken.{levels-next, levels-none, levels-takeable, first-parents}}
+use Rattle.staircase.proofs.{LevelsTaken.{levels-all}, take_levels.{Statement.{statement}, Tie.{close, spec}}}
 
-abbrev Inv-loop : tie.InvT-loop
-Inv-loop links numbers parents₀ table₀ level₀ list₀ higher₀ count₀ parents table level list higher count =
-    (level ≤ max-neighbours)
-    × (count₀ ≡ 0)
-    × (length higher ≡ 8)
-    × Above-set numbers level higher
-    × (length list ≡ max-radios)
-    × Taking (levels-falling (table-weight numbers) level₀ (links-from (length numbers) links 0 0)) parents₀ table₀ count₀
-    (levels-falling (table-weight numbers) level (links-from (length numbers) links 0 0)) parents table count
-
-abbrev μ-loop : tie.MeasureT-loop
-μ-loop links numbers parents₀ table₀ level₀ list₀ higher₀ count₀ parents table level list higher count = level
-
-loop-holds : tie.Need-loop-holds Inv-loop μ-loop
-loop-holds c =
+pub take-levels-spec : {M : Type 1} → statement M
+take-levels-spec = close (spec
+    (λ links numbers parents₀ table₀ level₀ _ _ count₀ parents table level list higher count. (level ≤ max-neighbours) × (count₀ ≡ 0) × (length higher ≡ 8) ×
+    Above-set numbers level higher × (length list ≡ max-radios) × Taking (levels-falling (table-weight numbers) level₀
+    (links-from (length numbers) links 0 0)) parents₀ table₀ count₀ (levels-falling (table-weight numbers) level (links-from (length numbers) links 0 0))
+    parents table count)
+    (λ _ _ _ _ _ _ _ _ _ _ level _ _ _. level) (λ c κs. search needs) (λ c κs. search needs)
+    (λ c.
     let parents-at = c .before .before in
     let index16-at = parents-at .before in
     let start = index16-at .before .before .before .before .before .before in
@@ -44,10 +29,10 @@ loop-holds c =
       refl,
       taking-none _ _ _ _ _ refl (first-parents (call .numbers .now) _ _ (index16-at .index16 .ensures) (start .pre .0) (start .pre .1 .most))
           (levels-takeable (call .numbers .now) (call .links .now) _ _ (parents-at .parents .given ∙ start .pre .0) (start .pre .2) low),
-    )
-
-take-level-requires : tie.Need-take-level-requires Inv-loop μ-loop
-take-level-requires c κs =
+    ))
+    (λ c. search needs) (λ c κs. search needs) (λ c. search needs) (λ c. search needs) (λ c κs. search needs) (λ c. search needs) (λ c. search needs)
+    (λ c. search needs)
+    (λ c κs.
     let own2-at = c .before .before .before .before .before in
     let take-set-at = own2-at .before in
     let reach2-at = take-set-at .before .before .before in
@@ -65,19 +50,18 @@ take-level-requires c κs =
           (at-least-at .at-least .ensures) (take-set-at .take-set .ensures),
       at-loop .loop .inv .4,
       at-loop .loop .inv .5 .parents,
-      taking-front _ _ _ _ (of-weight (table-weight (call .numbers .now)) k ls) (levels-falling (table-weight (call .numbers .now)) (greatest-below k (call .numbers .now)) ls) _ _ _
+      taking-front _ _ _ _ (of-weight (table-weight (call .numbers .now)) k ls)
+          (levels-falling (table-weight (call .numbers .now)) (greatest-below k (call .numbers .now)) ls) _ _ _
           (rw (levels-next (call .numbers .now) ls k some) at (at-loop .loop .inv .5)),
-    )
-
-loop-less : tie.Need-loop-less Inv-loop μ-loop
-loop-less c =
-    let turn = c .before .before .before .before .before .before .before .before .before .before .before .before .before .before .before .before .before .before .before in
+    ))
+    (λ c κs. search needs)
+    (λ c.
+    let turn = c .before .before .before .before .before .before .before .before .before .before .before .before .before .before .before .before .before
+    .before .before in
     let at-loop = turn .before in
     let start = at-loop .before .before .before .before .before .before .before .before .before .before in
-    omega (arith, c .level-below .ensures, greatest-below-lt (at-loop .loop .level) (start .args .numbers .now) (turn .loop-test .taken))
-
-loop-again : tie.Need-loop-again Inv-loop μ-loop
-loop-again c =
+    omega (arith, c .level-below .ensures, greatest-below-lt (at-loop .loop .level) (start .args .numbers .now) (turn .loop-test .taken)))
+    (λ c.
     let table-at = c .before .before in
     let parents2-at = table-at .before .before in
     let list2-at = parents2-at .before in
@@ -98,22 +82,18 @@ loop-again c =
           (at-least-at .at-least .ensures),
       list2-at .list2 .given,
       rw (c .level-below .ensures)
-          (taking-part _ _ _ _ (of-weight (table-weight (call .numbers .now)) k ls) (levels-falling (table-weight (call .numbers .now)) (greatest-below k (call .numbers .now)) ls)
-          _ _ _ _ _ _ (rw (levels-next (call .numbers .now) ls k some) at (at-loop .loop .inv .5)) (take-level-at .take-level .ensures) (parents2-at .parents2 .given)
+          (taking-part _ _ _ _ (of-weight (table-weight (call .numbers .now)) k ls)
+          (levels-falling (table-weight (call .numbers .now)) (greatest-below k (call .numbers .now)) ls)
+          _ _ _ _ _ _ (rw (levels-next (call .numbers .now) ls k some) at (at-loop .loop .inv .5)) (take-level-at .take-level .ensures)
+          (parents2-at .parents2 .given)
           (table-at .table .given)),
-    )
-
-same-length : tie.Need-same-length Inv-loop μ-loop
-same-length c =
+    ))
+    (λ c.
     let at-loop = c .before in
     let parents-at = at-loop .before .before .before in
-    at-loop .loop .inv .5 .long ∙ parents-at .parents .given
-
-same-length-2 : tie.Need-same-length-2 Inv-loop μ-loop
-same-length-2 c = c .before .loop .inv .5 .table
-
-returns : tie.Need-returns Inv-loop μ-loop
-returns c =
+    at-loop .loop .inv .5 .long ∙ parents-at .parents .given)
+    (λ c. c .before .loop .inv .5 .table)
+    (λ c.
     let at-loop = c .before in
     let greatest-at = at-loop .before in
     let index16-at = greatest-at .before .before .before in
@@ -122,11 +102,5 @@ returns c =
     let ls = links-from (length (call .numbers .now)) (call .links .now) 0 0 in
     levels-all (call .numbers .now) _ _ (index16-at .index16 .ensures) (start .pre .0) (start .pre .1 .most) ls (call .table .now) _ _
     (greatest-at .greatest .ensures)
-    (taking-end _ _ _ _ _ _ _ _ (levels-none (table-weight (call .numbers .now)) ls (at-loop .loop .level) (omega (arith, c .loop-test .left))) (at-loop .loop .inv .5) .is)
-
-pub take-levels-spec : {M : Type 1} → statement M
-take-levels-spec =
-    tie.close (
-    tie.spec Inv-loop μ-loop (λ c κs. search needs) (λ c κs. search needs) loop-holds (λ c. search needs) (λ c κs. search needs) (λ c. search needs)
-    (λ c. search needs) (λ c κs. search needs) (λ c. search needs) (λ c. search needs) (λ c. search needs) take-level-requires (λ c κs. search needs)
-    loop-less loop-again same-length same-length-2 returns)
+    (taking-end _ _ _ _ _ _ _ _ (levels-none (table-weight (call .numbers .now)) ls (at-loop .loop .level) (omega (arith, c .loop-test .left)))
+    (at-loop .loop .inv .5) .is)))

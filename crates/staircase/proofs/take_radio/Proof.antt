@@ -1,50 +1,38 @@
 -- `take_radio` meets its contract: whether the radio is of the level says which set counts.
-use mathlib.Core.Path.{sym, _∙_}
-use borrow.Author.Needs.{needs}
-use Rattle.staircase.proofs.RowLaws.{level-row-own, level-row-other}
-use Rattle.staircase.proofs.take_radio.Statement.{statement}
-use Rattle.staircase.proofs.take_radio.Tie as tie
+use Rattle.lists.specs.Kit.{sym, _∙_, needs}
+use Rattle.staircase.proofs.{RowLaws.{level-row-own, level-row-other}, take_radio.{Statement.{statement}, Tie.{close, spec}}}
 
-take-row-requires : tie.Need-take-row-requires
-take-row-requires c κs =
+pub take-radio-spec : {M : Type 1} → statement M
+take-radio-spec = close (spec (λ c κs. search needs)
+    (λ c κs.
     let yes = c .before .before in
     let is-in-at = yes .before in
     let start = is-in-at .before .before .before .before .before .before in
     let call = start .args in
     let row = level-row-own (call .links .now) (call .own .now) (call .reach .now) (call .a) (sym (is-in-at .is-in .ensures) ∙ yes .if1 .taken) in
-    (start .pre .0, start .pre .1, start .pre .3, start .pre .4, rw row at (start .pre .5))
-
-returns : tie.Need-returns
-returns c =
+    (start .pre .0, start .pre .1, start .pre .3, start .pre .4, rw row at (start .pre .5)))
+    (λ c. search needs) (λ c. search needs)
+    (λ c.
     let take-row-at = c .before .before .before .before in
     let yes = take-row-at .before .before .before in
     let is-in-at = yes .before in
     let start = is-in-at .before .before .before .before .before .before in
     let call = start .args in
     rw (level-row-own (call .links .now) (call .own .now) (call .reach .now) (call .a) (sym (is-in-at .is-in .ensures) ∙ yes .if1 .taken))
-    (take-row-at .take-row .ensures)
-
-take-row-requires-2 : tie.Need-take-row-requires-2
-take-row-requires-2 c κs =
+    (take-row-at .take-row .ensures))
+    (λ c κs.
     let no = c .before .before in
     let is-in-at = no .before in
     let start = is-in-at .before .before .before .before .before .before in
     let call = start .args in
     let row = level-row-other (call .links .now) (call .own .now) (call .reach .now) (call .a) (sym (is-in-at .is-in .ensures) ∙ no .if1 .left) in
-    (start .pre .0, start .pre .1, start .pre .2, start .pre .4, rw row at (start .pre .5))
-
-returns-2 : tie.Need-returns-2
-returns-2 c =
+    (start .pre .0, start .pre .1, start .pre .2, start .pre .4, rw row at (start .pre .5)))
+    (λ c. search needs) (λ c. search needs)
+    (λ c.
     let take-row2-at = c .before .before .before .before in
     let no = take-row2-at .before .before .before in
     let is-in-at = no .before in
     let start = is-in-at .before .before .before .before .before .before in
     let call = start .args in
     rw (level-row-other (call .links .now) (call .own .now) (call .reach .now) (call .a) (sym (is-in-at .is-in .ensures) ∙ no .if1 .left))
-    (take-row2-at .take-row2 .ensures)
-
-pub take-radio-spec : {M : Type 1} → statement M
-take-radio-spec =
-    tie.close (
-    tie.spec (λ c κs. search needs) take-row-requires (λ c. search needs) (λ c. search needs) returns take-row-requires-2 (λ c. search needs)
-    (λ c. search needs) returns-2)
+    (take-row2-at .take-row2 .ensures)))

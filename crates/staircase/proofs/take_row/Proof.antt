@@ -1,22 +1,14 @@
 -- `take_row` meets its contract: the links of what is left of the row's own word, and then of the words after it.
-use mathlib.Core.Path.{refl, sym}
-use Prim.Native.Nat.{_+_, _*_, _-_, _/_, _%_, _^_}
-use native.Mathlib.Omega.{arith}
-use lib.Bits.{bitAnd}
-use lib.ListN.{getD}
-use borrow.Author.Needs.{needs}
+use Rattle.lists.specs.{Kit.{refl, sym, _+_, _*_, _-_, _/_, _%_, _^_, arith, bitAnd, getD, needs}, Lists.{filter}}
 use Rattle.mesh.specs.Limits.{row-bytes}
-use Rattle.lists.specs.Lists.{filter}
-use Rattle.rows.specs.Rows.{row-from, set-bits}
-use Rattle.rows.specs.Sets.{in-set}
-use Rattle.rows.specs.Links.{links-to}
-use Rattle.staircase.proofs.TakingLaws.{taking-none, taking-front, taking-part, taking-last}
-use Rattle.staircase.proofs.RowLaws.{row-words}
-use Rattle.staircase.proofs.take_row.Statement.{statement}
-use Rattle.staircase.proofs.take_row.Tie as tie
+use Rattle.rows.specs.{Rows.{row-from, set-bits}, Sets.{in-set}, Links.{links-to}}
+use Rattle.staircase.proofs.{TakingLaws.{taking-none, taking-front, taking-part, taking-last}, RowLaws.{row-words}}
+use Rattle.staircase.proofs.take_row.{Statement.{statement}, Tie.{close, spec}}
 
-take-bits-requires : tie.Need-take-bits-requires
-take-bits-requires c κs =
+pub take-row-spec : {M : Type 1} → statement M
+take-row-spec = close (spec (λ c. search needs) (λ c. search needs) (λ c. search needs) (λ c. search needs) (λ c. search needs) (λ c κs. search needs)
+    (λ c. search needs) (λ c. search needs) (λ c. search needs) (λ c. search needs) (λ c. search needs) (λ c. search needs)
+    (λ c κs.
     let word-of-at = c .before .before .before in
     let given = word-of-at .before .before .before .before .before in
     let start = given .before in
@@ -30,10 +22,9 @@ take-bits-requires c κs =
       start .pre .3,
       taking-front _ _ _ _ (links-to (call .a) (set-bits 64 (call .a + 1) x)) rest _ _ _
           (taking-none _ (call .parents .now) (call .table .now) (call .count) _ (sym words) (start .pre .3) (start .pre .4)),
-    )
-
-take-words-requires : tie.Need-take-words-requires
-take-words-requires c κs =
+    ))
+    (λ c. search needs)
+    (λ c κs.
     let table-at = c .before .before .before in
     let parents-at = table-at .before .before in
     let take-bits-at = parents-at .before in
@@ -49,10 +40,9 @@ take-words-requires c κs =
     let left = taking-part _ _ _ _ (links-to (call .a) (set-bits 64 (call .a + 1) x)) rest _ _ _ _ _ _
     (taking-none _ (call .parents .now) (call .table .now) (call .count) _ (sym words) (start .pre .3) (start .pre .4))
     (take-bits-at .take-bits .ensures) (parents-at .parents .given) (table-at .table .given) in
-    (start .pre .0, omega (arith, start .pre .0), start .pre .1, start .pre .2, left .parents, left .ready)
-
-returns : tie.Need-returns
-returns c =
+    (start .pre .0, omega (arith, start .pre .0), start .pre .1, start .pre .2, left .parents, left .ready))
+    (λ c. search needs) (λ c. search needs)
+    (λ c.
     let take-words-at = c .before .before .before .before in
     let table-at = take-words-at .before .before .before .before in
     let parents-at = table-at .before .before in
@@ -69,11 +59,4 @@ returns c =
     let left = taking-part _ _ _ _ (links-to (call .a) (set-bits 64 (call .a + 1) x)) rest _ _ _ _ _ _
     (taking-none _ (call .parents .now) (call .table .now) (call .count) _ (sym words) (start .pre .3) (start .pre .4))
     (take-bits-at .take-bits .ensures) (parents-at .parents .given) (table-at .table .given) in
-    taking-last _ _ _ _ _ _ _ _ _ _ _ left (take-words-at .take-words .ensures)
-
-pub take-row-spec : {M : Type 1} → statement M
-take-row-spec =
-    tie.close (
-    tie.spec (λ c. search needs) (λ c. search needs) (λ c. search needs) (λ c. search needs) (λ c. search needs) (λ c κs. search needs)
-    (λ c. search needs) (λ c. search needs) (λ c. search needs) (λ c. search needs) (λ c. search needs) (λ c. search needs) take-bits-requires
-    (λ c. search needs) take-words-requires (λ c. search needs) (λ c. search needs) returns)
+    taking-last _ _ _ _ _ _ _ _ _ _ _ left (take-words-at .take-words .ensures)))

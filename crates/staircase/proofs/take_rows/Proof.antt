@@ -1,34 +1,19 @@
 -- `take_rows` meets its contract: the rows from place i on give what all of them give (`Taking`). The measure is what is left of the list.
-use mathlib.Core.Path.{refl}
-use mathlib.Core.List.{flatMap}
-use Prim.Native.Nat.{_+_, _-_, _≤_}
-use native.Mathlib.Omega.{arith}
-use lib.ListN.{length, getD, drop}
-use borrow.Author.Needs.{needs}
+use Rattle.lists.specs.Kit.{refl, flatMap, _+_, _-_, _≤_, arith, length, getD, drop, needs}
 use Rattle.staircase.specs.Rows.{level-row}
-use Rattle.staircase.proofs.TakingLaws.{Taking, taking-none, taking-front, taking-part, taking-end}
-use Rattle.staircase.proofs.RowLaws.{rows-next, rows-end}
-use Rattle.staircase.proofs.take_rows.Statement.{statement}
-use Rattle.staircase.proofs.take_rows.Tie as tie
+use Rattle.staircase.proofs.{TakingLaws.{Taking, taking-none, taking-front, taking-part, taking-end}, RowLaws.{rows-next, rows-end}}
+use Rattle.staircase.proofs.take_rows.{Statement.{statement}, Tie.{close, spec}}
 
-abbrev Inv-loop : tie.InvT-loop
-Inv-loop links own reach list parents₀ table₀ count c₀ i₀ parents table c i =
-    (i ≤ length list)
-    × Taking (flatMap (level-row links own reach) list) parents₀ table₀ count (flatMap (level-row links own reach) (drop i list)) parents table c
-
-abbrev μ-loop : tie.MeasureT-loop
-μ-loop links own reach list parents₀ table₀ count c₀ i₀ parents table c i = length list - i
-
-loop-holds : tie.Need-loop-holds Inv-loop μ-loop
-loop-holds c =
+pub take-rows-spec : {M : Type 1} → statement M
+take-rows-spec = close (spec
+    (λ links own reach list parents₀ table₀ count _ _ parents table c i. (i ≤ length list) × Taking (flatMap (level-row links own reach) list) parents₀ table₀
+    count (flatMap (level-row links own reach) (drop i list)) parents table c)
+    (λ _ _ _ list _ _ _ _ _ _ _ _ i. length list - i)
+    (λ c.
     let start = c .before .before .before .before .before .before in
-    (omega arith, taking-none _ _ _ _ _ refl (start .pre .3) (start .pre .4))
-
-shared-slice-read-take-radio : tie.Need-shared-slice-read-take-radio Inv-loop μ-loop
-shared-slice-read-take-radio c = c .before .loop-test .taken
-
-take-radio-requires : tie.Need-take-radio-requires Inv-loop μ-loop
-take-radio-requires c κs =
+    (omega arith, taking-none _ _ _ _ _ refl (start .pre .3) (start .pre .4)))
+    (λ c. search needs) (λ c. c .before .loop-test .taken)
+    (λ c κs.
     let turn = c .before .before .before in
     let at-loop = turn .before in
     let start = at-loop .before .before .before .before .before .before .before in
@@ -44,10 +29,9 @@ take-radio-requires c κs =
       at-loop .loop .inv .1 .parents,
       taking-front _ _ _ _ (row (getD (call .list .now) i 0)) (flatMap row (drop (i + 1) (call .list .now))) _ _ _
           (rw (rows-next row (call .list .now) i less) at (at-loop .loop .inv .1)),
-    )
-
-loop-again : tie.Need-loop-again Inv-loop μ-loop
-loop-again c =
+    ))
+    (λ c. search needs) (λ c. search needs)
+    (λ c.
     let table-at = c .before in
     let parents-at = table-at .before .before in
     let take-radio-at = parents-at .before in
@@ -60,25 +44,14 @@ loop-again c =
     let row = level-row (call .links .now) (call .own .now) (call .reach .now) in (
       omega (arith, less),
       taking-part _ _ _ _ (row (getD (call .list .now) i 0)) (flatMap row (drop (i + 1) (call .list .now))) _ _ _ _ _ _
-          (rw (rows-next row (call .list .now) i less) at (at-loop .loop .inv .1)) (take-radio-at .take-radio .ensures) (parents-at .parents .given) (table-at .table .given),
-    )
-
-same-length : tie.Need-same-length Inv-loop μ-loop
-same-length c = c .before .loop .inv .1 .long
-
-same-length-2 : tie.Need-same-length-2 Inv-loop μ-loop
-same-length-2 c = c .before .loop .inv .1 .table
-
-returns : tie.Need-returns Inv-loop μ-loop
-returns c =
+          (rw (rows-next row (call .list .now) i less) at (at-loop .loop .inv .1)) (take-radio-at .take-radio .ensures) (parents-at .parents .given)
+          (table-at .table .given),
+    ))
+    (λ c. c .before .loop .inv .1 .long) (λ c. c .before .loop .inv .1 .table)
+    (λ c.
     let at-loop = c .before in
     let start = at-loop .before .before .before .before .before .before .before in
     let call = start .args in
-    taking-end _ _ _ _ _ _ _ _ (rows-end (level-row (call .links .now) (call .own .now) (call .reach .now)) (call .list .now) (at-loop .loop .i) (c .loop-test .left))
-    (at-loop .loop .inv .1)
-
-pub take-rows-spec : {M : Type 1} → statement M
-take-rows-spec =
-    tie.close (
-    tie.spec Inv-loop μ-loop loop-holds (λ c. search needs) shared-slice-read-take-radio take-radio-requires (λ c. search needs) (λ c. search needs)
-    loop-again same-length same-length-2 returns)
+    taking-end _ _ _ _ _ _ _ _ (rows-end (level-row (call .links .now) (call .own .now) (call .reach .now)) (call .list .now) (at-loop .loop .i)
+    (c .loop-test .left))
+    (at-loop .loop .inv .1)))

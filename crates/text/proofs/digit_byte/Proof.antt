@@ -1,6 +1,5 @@
 -- `text::digit_byte` meets its contract by the definition.
-use mathlib.Core.Path.{refl}
-use borrow.Author.Needs.{needs}
+use Rattle.lists.specs.Kit.{refl, needs}
 use Rattle.text.specs.Text.{digit-byte}
 use Rattle.text.proofs.digit_byte.Statement.{statement}
 use Rattle.text.proofs.digit_byte.Tie as tie

@@ -1,11 +1,7 @@
 -- `text::put_field` meets its contract: one text after another.
-use borrow.Author.Needs.{needs}
-use Rattle.text.proofs.PrintLaws.{puts-append}
-use Rattle.text.proofs.put_field.Statement.{statement}
-use Rattle.text.proofs.put_field.Tie as tie
-
-returns : tie.Need-returns
-returns c = puts-append (c .before .before .before .before .before .before .put-byte .ensures) (c .before .before .put-decimal .ensures)
+use Rattle.lists.specs.Kit.{needs}
+use Rattle.text.proofs.{PrintLaws.{puts-append}, put_field.{Statement.{statement}, Tie.{close, spec}}}
 
 pub put-field-spec : {M : Type 1} → statement M
-put-field-spec = tie.close (tie.spec (λ c κs. search needs) (λ c κs. search needs) (λ c. search needs) returns)
+put-field-spec = close (spec (λ c κs. search needs) (λ c κs. search needs) (λ c. search needs)
+    (λ c. puts-append (c .before .before .before .before .before .before .put-byte .ensures) (c .before .before .put-decimal .ensures)))

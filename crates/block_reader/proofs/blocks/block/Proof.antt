@@ -1,10 +1,7 @@
 -- `blocks::block` meets its contract: a refusal, the end, or a block.
 use mathlib.Core.Path.{sym, _∙_}
-use borrow.Author.Tests.{lt-ltb, le-ltb}
-use borrow.Author.Needs.{needs}
-use Rattle.calls.specs.Outcomes.{no-block, block-or-end, block-outcome}
-use Rattle.calls.specs.Contracts.{Block-contract}
-use Rattle.calls.proofs.ContractLaws.{by-accepted, by-refused}
+use borrow.Author.{Tests.{lt-ltb, le-ltb}, Needs.{needs}}
+use Rattle.calls.{specs.Outcomes.{no-block, block-or-end, block-outcome}, specs.Contracts.{Block-contract}, proofs.ContractLaws.{by-accepted, by-refused}}
 use Rattle.block_reader.proofs.blocks.block.Statement.{statement}
 use Rattle.block_reader.proofs.blocks.block.Tie as tie
 

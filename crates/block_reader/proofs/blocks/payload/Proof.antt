@@ -4,31 +4,19 @@ use Prim.Native.Nat.{_+_, _*_}
 use native.Mathlib.Omega.{arith}
 use borrow.Author.Needs.{needs}
 use Rattle.block_reader.proofs.StepLaws.{part-there, part-start-none, part-start-some, part-cut}
-use Rattle.block_reader.proofs.blocks.payload.Statement.{statement}
-use Rattle.block_reader.proofs.blocks.payload.Tie as tie
+use Rattle.block_reader.proofs.blocks.payload.{Statement.{statement}, Tie.{close, spec}}
 
-returns : tie.Need-returns
-returns c =
+pub payload-spec : {M : Type 1} → statement M
+payload-spec = close (spec (λ c. search needs) (λ c. search needs) (λ c. search needs)
+    (λ c.
     let s = c .before .before .args in
-    let at = part-start-none (s .i) (s .length) (c .before .if1 .taken) in record { is = rw (← at, c .before .if1 .taken); memory = refl; place = rw (← at) }
-
-mul-result : tie.Need-mul-result
-mul-result c = let s = c .before in omega (arith, part-there (s .args .i) (s .args .length) _ (s .pre) (c .if1 .left) .1)
-
-add-result : tie.Need-add-result
-add-result c = let s = c .before in omega (arith, part-there (s .args .i) (s .args .length) _ (s .pre) (c .if1 .left) .1)
-
-mul-result-2 : tie.Need-mul-result-2
-mul-result-2 c = let s = c .before in omega (arith, part-there (s .args .i) (s .args .length) _ (s .pre) (c .if1 .left) .1)
-
-add-result-2 : tie.Need-add-result-2
-add-result-2 c = let s = c .before in omega (arith, part-there (s .args .i) (s .args .length) _ (s .pre) (c .if1 .left) .1)
-
-part-result-end-2 : tie.Need-part-result-end-2
-part-result-end-2 c = let s = c .before in omega (arith, part-there (s .args .i) (s .args .length) _ (s .pre) (c .if1 .left) .1)
-
-returns-2 : tie.Need-returns-2
-returns-2 c =
+    let at = part-start-none (s .i) (s .length) (c .before .if1 .taken) in record { is = rw (← at, c .before .if1 .taken); memory = refl; place = rw (← at) })
+    (λ c. let s = c .before in omega (arith, part-there (s .args .i) (s .args .length) _ (s .pre) (c .if1 .left) .1))
+    (λ c. let s = c .before in omega (arith, part-there (s .args .i) (s .args .length) _ (s .pre) (c .if1 .left) .1))
+    (λ c. let s = c .before in omega (arith, part-there (s .args .i) (s .args .length) _ (s .pre) (c .if1 .left) .1))
+    (λ c. let s = c .before in omega (arith, part-there (s .args .i) (s .args .length) _ (s .pre) (c .if1 .left) .1)) (λ c. search needs) (λ c. search needs)
+    (λ c. let s = c .before in omega (arith, part-there (s .args .i) (s .args .length) _ (s .pre) (c .if1 .left) .1))
+    (λ c.
     let s = c .before .before in
     let at = part-start-some (s .args .i) (s .args .length) (c .before .if1 .left) in
     record {
@@ -36,10 +24,4 @@ returns-2 c =
           (omega (arith, part-there (s .args .i) (s .args .length) _ (s .pre) (c .before .if1 .left) .0)) at;
       memory = refl;
       place = rw (← at);
-    }
-
-pub payload-spec : {M : Type 1} → statement M
-payload-spec =
-    tie.close (
-    tie.spec (λ c. search needs) (λ c. search needs) (λ c. search needs) returns mul-result add-result mul-result-2 add-result-2 (λ c. search needs)
-    (λ c. search needs) part-result-end-2 returns-2)
+    }))

@@ -1,77 +1,53 @@
 -- `flood::flood` meets its contract: what came in is what the flood spreads to over the radios done so far (`Walking`). The measure is
 -- what is left of the most radios that may come in.
-use mathlib.Core.Path.{_≡_, refl, ap, _∙_}
-use mathlib.Core.List.{List}
-use Prim.Native.Nat.{ℕ, _-_}
-use native.Mathlib.Omega.{arith}
-use lib.ListN.{length, length-set}
-use borrow.Author.Needs.{needs}
+use Rattle.lists.specs.Kit.{_≡_, refl, ap, _∙_, List, ℕ, _-_, arith, length, length-set, needs}
 use Rattle.mesh.specs.Limits.{max-radios}
 use Rattle.rows.proofs.SetLaws.{length-take-out}
 use Rattle.floods.specs.Floods.{flood-at}
-use Rattle.floods.proofs.FloodLaws.{Walking, walking-turn, walking-end, flood-starts}
-use Rattle.floods.proofs.flood.flood.Statement.{statement}
-use Rattle.floods.proofs.flood.flood.Tie as tie
+use Rattle.floods.proofs.{FloodLaws.{Walking, walking-turn, walking-end, flood-starts}, flood.flood.{Statement.{statement}, Tie.{close, spec}}}
 
-abbrev Inv-loop : tie.InvT-loop
-Inv-loop links v set₀ queue₀ count₀ i₀ set queue count i =
-    (length set ≡ length set₀) × (length queue ≡ length queue₀)
-    × ((old : List ℕ) → Walking links v old 0 (flood-at set₀ queue₀ 1) → Walking links v old i (flood-at set queue count))
-
-abbrev μ-loop : tie.MeasureT-loop
-μ-loop links v set₀ queue₀ count₀ i₀ set queue count i = max-radios - i
-
-cast-queue : tie.Need-cast-queue Inv-loop μ-loop
-cast-queue c = omega (arith, c .before .before .before .before .before .before .before .pre .radio)
-
-slice-write-queue : tie.Need-slice-write-queue Inv-loop μ-loop
-slice-write-queue c = omega (arith, c .before .before .before .before .before .before .before .pre .room)
-
-take-layer-requires : tie.Need-take-layer-requires Inv-loop μ-loop
-take-layer-requires c κs =
+pub flood-spec : {M : Type 1} → statement M
+flood-spec = close (spec
+    (λ links v set₀ queue₀ _ _ set queue count i. (length set ≡ length set₀) × (length queue ≡ length queue₀) ×
+    ((old : List ℕ) → Walking links v old 0 (flood-at set₀ queue₀ 1) → Walking links v old i (flood-at set queue count)))
+    (λ _ _ _ _ _ _ _ _ _ i. max-radios - i) (λ c κs. search needs) (λ c. omega (arith, c .before .before .before .before .before .before .before .pre .radio))
+    (λ c. omega (arith, c .before .before .before .before .before .before .before .pre .room)) (λ c. (refl, refl, λ old h. h))
+    (λ c κs.
     let at-loop = c .before .before .before in
     let out = at-loop .before .before .before in
     let start = out .before .before .before .before .before in
-    let walked = at-loop .loop .inv .2 (start .args .set .now) (flood-starts (start .args .links .now) (start .args .v) (start .args .set .now) (start .args .queue .now) _ (start .pre) (out .take-out .ensures)) in
-    (walked .reached, omega (arith, walked .few, walked .room), walked .few, walked .spreading .long)
-
-loop-less : tie.Need-loop-less Inv-loop μ-loop
-loop-less c =
+    let walked = at-loop .loop .inv .2 (start .args .set .now) (flood-starts (start .args .links .now) (start .args .v) (start .args .set .now)
+    (start .args .queue .now) _ (start .pre) (out .take-out .ensures)) in
+    (walked .reached, omega (arith, walked .few, walked .room), walked .few, walked .spreading .long))
+    (λ c.
     let test = c .before .before .before .before .before .before .before in
     let out = test .before .before .before .before in
     let start = out .before .before .before .before .before in
-    omega (arith, test .before .loop .inv .2 (start .args .set .now) (flood-starts (start .args .links .now) (start .args .v) (start .args .set .now) (start .args .queue .now) _ (start .pre) (out .take-out .ensures)) .few, test .loop-test .taken)
-
-loop-again : tie.Need-loop-again Inv-loop μ-loop
-loop-again c =
+    omega (
+      arith,
+      test .before .loop .inv .2 (start .args .set .now) (flood-starts (start .args .links .now) (start .args .v) (start .args .set .now)
+          (start .args .queue .now) _ (start .pre) (out .take-out .ensures)) .few,
+      test .loop-test .taken,
+    ))
+    (λ c.
     let taken = c .before .before .before .before in
     let at-loop = taken .before .before .before .before in
     let call = at-loop .before .before .before .before .before .before .before .before .args in (
       search needs,
       search needs,
       λ old h. walking-turn (call .links .now) (call .v) old (at-loop .loop .i) _ _ (search needs) (taken .take-layer .ensures) (at-loop .loop .inv .2 old h),
-    )
-
-same-length : tie.Need-same-length Inv-loop μ-loop
-same-length c =
+    ))
+    (λ c.
     let out = c .before .before .before .before in
     let call = out .before .before .before .before .before .args in
-    c .before .loop .inv .0 ∙ ap length (out .take-out .ensures) ∙ length-take-out (call .v) (call .set .now)
-
-same-length-2 : tie.Need-same-length-2 Inv-loop μ-loop
-same-length-2 c =
+    c .before .loop .inv .0 ∙ ap length (out .take-out .ensures) ∙ length-take-out (call .v) (call .set .now))
+    (λ c.
     let call = c .before .before .before .before .before .before .before .before .before .args in
-    c .before .loop .inv .1 ∙ length-set (call .queue .now) 0 (call .v)
-
-returns : tie.Need-returns Inv-loop μ-loop
-returns c =
+    c .before .loop .inv .1 ∙ length-set (call .queue .now) 0 (call .v))
+    (λ c.
     let at-loop = c .before in
     let out = at-loop .before .before .before in
     let start = out .before .before .before .before .before in
-    walking-end (start .args .links .now) (start .args .v) (start .args .set .now) _ _ (c .loop-test .left) (at-loop .loop .inv .2 (start .args .set .now) (flood-starts (start .args .links .now) (start .args .v) (start .args .set .now) (start .args .queue .now) _ (start .pre) (out .take-out .ensures)))
-
-pub flood-spec : {M : Type 1} → statement M
-flood-spec =
-    tie.close (
-    tie.spec Inv-loop μ-loop (λ c κs. search needs) cast-queue slice-write-queue (λ c. (refl, refl, λ old h. h)) take-layer-requires loop-less
-    loop-again same-length same-length-2 returns)
+    walking-end (start .args .links .now) (start .args .v) (start .args .set .now) _ _ (c .loop-test .left)
+    (at-loop .loop .inv .2 (start .args .set .now) (flood-starts (start .args .links .now) (start .args .v) (start .args .set .now)
+    (start .args .queue .now) _ (start .pre) (out .take-out .ensures)))))

@@ -1,46 +1,12 @@
 -- `flood::join_rows` meets its contract: before place i the rows are joined (`Rows-joined`). The measure is what is left of the places.
-use mathlib.Core.Path.{_≡_, refl, _∙_}
-use Prim.Native.Nat.{_-_, _≤_}
-use native.Mathlib.Omega.{arith}
-use lib.ListN.{length}
-use borrow.Author.Needs.{needs}
+use Rattle.lists.specs.Kit.{_≡_, refl, _-_, _≤_, arith, length, needs}
 use Rattle.floods.specs.Floods.{Rows-joined}
-use Rattle.floods.proofs.FloodSteps.{rows-joined-none, rows-joined-turn, rows-joined-end}
-use Rattle.floods.proofs.flood.join_rows.Statement.{statement}
-use Rattle.floods.proofs.flood.join_rows.Tie as tie
-
-abbrev Inv-loop : tie.InvT-loop
-Inv-loop links list from to set₀ i₀ set i = (from ≤ i) × (i ≤ to) × (length set ≡ length set₀) × Rows-joined links list from i set₀ set
-
-abbrev μ-loop : tie.MeasureT-loop
-μ-loop links list from to set₀ i₀ set i = to - i
-
-shared-slice-read-join-row : tie.Need-shared-slice-read-join-row Inv-loop μ-loop
-shared-slice-read-join-row c = omega (arith, c .before .loop-test .taken, c .before .before .before .before .before .before .pre .1)
-
-loop-again : tie.Need-loop-again Inv-loop μ-loop
-loop-again c =
-    let joined = c .before .before in
-    let test = joined .before .before .before in
-    let at-loop = test .before in
-    let start = at-loop .before .before .before .before in
-    let inv = at-loop .loop .inv in (
-      omega (arith, inv .0),
-      omega (arith, test .loop-test .taken),
-      search needs,
-      rows-joined-turn (start .args .links .now) (start .args .list .now) (start .args .from) (at-loop .loop .i) (start .args .set .now) (at-loop .loop .set) _ (inv .0)
-          (joined .join-row .ensures) (inv .3),
-    )
-
-returns : tie.Need-returns Inv-loop μ-loop
-returns c =
-    let at-loop = c .before in
-    let start = at-loop .before .before .before .before in
-    rows-joined-end (start .args .links .now) (start .args .list .now) (start .args .from) (start .args .to) (at-loop .loop .i) (start .args .set .now) (at-loop .loop .set)
-    (c .loop-test .left) (at-loop .loop .inv .1) (at-loop .loop .inv .3)
+use Rattle.floods.proofs.{FloodSteps.{rows-joined-none, rows-joined-turn, rows-joined-end}, flood.join_rows.{Statement.{statement}, Tie.{close, spec}}}
 
 pub join-rows-spec : {M : Type 1} → statement M
-join-rows-spec =
-    tie.close (
-    tie.spec Inv-loop μ-loop (λ c. (omega arith, c .before .before .before .pre .0, refl, rows-joined-none _ _ _ _)) (λ c. search needs) shared-slice-read-join-row
-    (λ c. omega (arith, c .shared-slice-known3 .given (c .before .before .loop .i))) (λ c κs. search needs) (λ c. search needs) (λ c. search needs) loop-again (λ c. c .before .loop .inv .2) returns)
+join-rows-spec = close (spec
+    (λ links list from to set₀ _ set i. (from ≤ i) × (i ≤ to) × (length set ≡ length set₀) × Rows-joined links list from i set₀ set)
+    (λ _ _ _ to _ _ _ i. to - i) (λ c. (omega arith, c .before .before .before .pre .0, refl, rows-joined-none _ _ _ _)) (λ c. search needs)
+    (λ c. omega (arith, c .before .loop-test .taken, c .before .before .before .before .before .before .pre .1))
+    (λ c. omega (arith, c .shared-slice-known3 .given (c .before .before .loop .i))) (λ c κs. search needs) (λ c. search needs) (λ c. search needs)
+    (λ c. search (needs, rows-joined-turn)) (λ c. c .before .loop .inv .2) (λ c. search (needs, rows-joined-end)))

@@ -1,29 +1,11 @@
 -- `level::at_least` meets its contract: the words before word k are the level's (`Level-setting`). The measure is the words that
 -- are left.
-use mathlib.Core.Path.{sym, _∙_}
-use Prim.Native.Nat.{_-_}
-use native.Mathlib.Omega.{arith}
-use borrow.Author.Needs.{needs}
-use Rattle.floods.proofs.LevelLaws.{Level-setting, level-setting-turn, level-setting-end}
-use Rattle.floods.proofs.level.at_least.Statement.{statement}
-use Rattle.floods.proofs.level.at_least.Tie as tie
-
-abbrev Inv-loop : tie.InvT-loop
-Inv-loop numbers level set₀ k₀ set k = Level-setting numbers level k set
-
-abbrev μ-loop : tie.MeasureT-loop
-μ-loop numbers level set₀ k₀ set k = 8 - k
-
-loop-again : tie.Need-loop-again Inv-loop μ-loop
-loop-again c =
-    let at-loop = c .before .before in
-    level-setting-turn _ _ (at-loop .loop .k) _ (at-loop .loop .set) (c .before .loop-test .taken) (c .level-word .ensures) (at-loop .loop .inv)
+use Rattle.lists.specs.Kit.{sym, _∙_, _-_, arith, needs}
+use Rattle.floods.proofs.{LevelLaws.{Level-setting, level-setting-turn, level-setting-end}, level.at_least.{Statement.{statement}, Tie.{close, spec}}}
 
 pub at-least-spec : {M : Type 1} → statement M
-at-least-spec =
-    tie.close (
-    tie.spec Inv-loop μ-loop (λ c. record { low = omega arith; long = search needs; words = λ i l. absurd (omega arith) }) (λ c. search needs)
-    (λ c κs. omega (arith, c .loop-test .taken)) (λ c. search needs)
-    (λ c. omega (arith, c .before .before .loop .inv .long, c .before .loop-test .taken)) (λ c. search needs) (λ c. search needs) loop-again
-    (λ c. c .before .loop .inv .long ∙ sym (search needs))
+at-least-spec = close (spec (λ numbers level _ _ set k. Level-setting numbers level k set) (λ _ _ _ _ _ k. 8 - k)
+    (λ c. record { low = omega arith; long = search needs; words = λ i l. absurd (omega arith) }) (λ c. search needs)
+    (λ c κs. omega (arith, c .loop-test .taken)) (λ c. search needs) (λ c. omega (arith, c .before .before .loop .inv .long, c .before .loop-test .taken))
+    (λ c. search needs) (λ c. search needs) (λ c. search (needs, level-setting-turn)) (λ c. c .before .loop .inv .long ∙ sym (search needs))
     (λ c. level-setting-end _ _ (c .before .loop .k) (c .before .loop .set) (c .loop-test .left) (c .before .loop .inv)))

@@ -1,31 +1,17 @@
 -- `mark_row` meets its contract: the words of the row are taken one by one, and what is left of the row gives with what is marked
 -- what the whole row gives (`Words-marking`). The measure is the words that are left.
-use mathlib.Core.Path.{_∙_}
-use Prim.Native.Nat.{ℕ, _+_, _*_, _-_, _<_}
-use native.Mathlib.Omega.{arith}
-use lib.ListN.{getD}
-use borrow.Author.Needs.{needs}
+use Rattle.lists.specs.Kit.{_∙_, ℕ, _+_, _*_, _-_, _<_, arith, getD, needs}
 use Rattle.mesh.specs.Limits.{row-bytes}
 use Rattle.rows.proofs.RowWords.{word-of-row}
-use Rattle.conditions.proofs.TallyLaws.{row-fits}
-use Rattle.conditions.proofs.MarkLaws.{Words-marking, words-marking-none, words-marking-turn, words-marking-end}
-use Rattle.hearing.proofs.one_sided.mark_row.Statement.{statement}
-use Rattle.hearing.proofs.one_sided.mark_row.Tie as tie
+use Rattle.conditions.proofs.{TallyLaws.{row-fits}, MarkLaws.{Words-marking, words-marking-none, words-marking-turn, words-marking-end}}
+use Rattle.hearing.proofs.one_sided.mark_row.{Statement.{statement}, Tie.{close, spec}}
 
-abbrev Inv-loop : tie.InvT-loop
-Inv-loop heard a further₀ start end row n₀ k₀ further n k = Words-marking heard a further₀ k n further
-
-abbrev μ-loop : tie.MeasureT-loop
-μ-loop heard a further₀ start end row n₀ k₀ further n k = 8 - k
-
-part-row-end : tie.Need-part-row-end Inv-loop μ-loop
-part-row-end c = omega (arith, c .before .before .pre)
-
-mark-word-requires : tie.Need-mark-word-requires Inv-loop μ-loop
-mark-word-requires c κs = omega (arith, c .before .before .loop-test .taken)
-
-add-n : tie.Need-add-n Inv-loop μ-loop
-add-n c =
+pub mark-row-spec : {M : Type 1} → statement M
+mark-row-spec = close (spec (λ heard a one-sided₀ _ _ _ _ _ one-sided n k. Words-marking heard a one-sided₀ k n one-sided)
+    (λ _ _ _ _ _ _ _ _ _ _ k. 8 - k) (λ c. search needs) (λ c. search needs) (λ c. search needs) (λ c. search needs)
+    (λ c. omega (arith, c .before .before .pre)) (λ c. words-marking-none _ _ _) (λ c. search needs) (λ c κs. search needs)
+    (λ c κs. omega (arith, c .before .before .loop-test .taken))
+    (λ c.
     let marked = c .before .before in
     let read = marked .before .before in
     let at-loop = read .before .before in
@@ -36,10 +22,9 @@ add-n c =
     row-fits _ _ (words-marking-turn bytes (at-loop .loop .inv) l
     (read .word-of .ensures
     ∙ word-of-row (x .heard .now) (x .a) (at-loop .loop .k) (row-bytes * x .a + row-bytes - row-bytes * x .a) (omega arith) (given .before .pre) l)
-    (marked .mark-word .ensures) .1 .tally)
-
-loop-again : tie.Need-loop-again Inv-loop μ-loop
-loop-again c =
+    (marked .mark-word .ensures) .1 .tally))
+    (λ c. search needs) (λ c. search needs)
+    (λ c.
     let marked = c .before .before in
     let read = marked .before .before in
     let at-loop = read .before .before in
@@ -50,11 +35,5 @@ loop-again c =
     words-marking-turn bytes (at-loop .loop .inv) l
     (read .word-of .ensures
     ∙ word-of-row (x .heard .now) (x .a) (at-loop .loop .k) (row-bytes * x .a + row-bytes - row-bytes * x .a) (omega arith) (given .before .pre) l)
-    (marked .mark-word .ensures)
-
-pub mark-row-spec : {M : Type 1} → statement M
-mark-row-spec =
-    tie.close (
-    tie.spec Inv-loop μ-loop (λ c. search needs) (λ c. search needs) (λ c. search needs) (λ c. search needs) part-row-end (λ c. words-marking-none _ _ _)
-    (λ c. search needs) (λ c κs. search needs) mark-word-requires add-n (λ c. search needs) (λ c. search needs) loop-again
+    (marked .mark-word .ensures))
     (λ c. c .before .loop .inv .1 .long) (λ c. words-marking-end (c .before .loop .inv) (c .loop-test .left)))

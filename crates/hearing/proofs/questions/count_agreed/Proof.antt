@@ -1,31 +1,16 @@
 -- `count_agreed` meets its contract: the words of the row are taken one by one, and what is left of the row comes with what is
 -- counted to what the whole row comes to (`Words-counting`). The measure is the words that are left.
-use mathlib.Core.Path.{_∙_}
-use Prim.Native.Nat.{ℕ, _+_, _*_, _-_, _<_}
-use native.Mathlib.Omega.{arith}
-use lib.ListN.{getD}
-use borrow.Author.Needs.{needs}
+use Rattle.lists.specs.Kit.{_∙_, ℕ, _+_, _*_, _-_, _<_, arith, getD, needs}
 use Rattle.mesh.specs.Limits.{row-bytes}
 use Rattle.rows.proofs.RowWords.{word-of-row}
-use Rattle.conditions.specs.Hearing.{hears}
-use Rattle.conditions.proofs.TallyLaws.{row-fits, Words-counting, words-counting-none, words-counting-turn, words-counting-end}
-use Rattle.hearing.proofs.questions.count_agreed.Statement.{statement}
-use Rattle.hearing.proofs.questions.count_agreed.Tie as tie
+use Rattle.conditions.{specs.Hearing.{hears}, proofs.TallyLaws.{row-fits, Words-counting, words-counting-none, words-counting-turn, words-counting-end}}
+use Rattle.hearing.proofs.questions.count_agreed.{Statement.{statement}, Tie.{close, spec}}
 
-abbrev Inv-loop : tie.InvT-loop
-Inv-loop heard a start end row n₀ k₀ n k = Words-counting (hears heard a) heard a k n
-
-abbrev μ-loop : tie.MeasureT-loop
-μ-loop heard a start end row n₀ k₀ n k = 8 - k
-
-part-row-end : tie.Need-part-row-end Inv-loop μ-loop
-part-row-end c = omega (arith, c .before .pre)
-
-count-word-requires : tie.Need-count-word-requires Inv-loop μ-loop
-count-word-requires c κs = omega (arith, c .before .loop-test .taken)
-
-add-n : tie.Need-add-n Inv-loop μ-loop
-add-n c =
+pub count-agreed-spec : {M : Type 1} → statement M
+count-agreed-spec = close (spec (λ heard a _ _ _ _ _ n k. Words-counting (hears heard a) heard a k n) (λ _ _ _ _ _ _ _ _ k. 8 - k) (λ c. search needs)
+    (λ c. search needs) (λ c. search needs) (λ c. search needs) (λ c. omega (arith, c .before .pre)) (λ c. words-counting-none _ _ _) (λ c. search needs)
+    (λ c κs. search needs) (λ c κs. omega (arith, c .before .loop-test .taken))
+    (λ c.
     let read = c .before in
     let at-loop = read .before .before in
     let given = at-loop .before .before in
@@ -35,10 +20,9 @@ add-n c =
     row-fits _ _ (words-counting-turn _ bytes (x .a) (at-loop .loop .k) (at-loop .loop .inv) l (read .word-of .result)
     (read .word-of .ensures
     ∙ word-of-row (x .heard .now) (x .a) (at-loop .loop .k) (row-bytes * x .a + row-bytes - row-bytes * x .a) (omega arith) (given .before .pre) l)
-    (c .count-word .ensures) .1)
-
-loop-again : tie.Need-loop-again Inv-loop μ-loop
-loop-again c =
+    (c .count-word .ensures) .1))
+    (λ c. search needs) (λ c. search needs)
+    (λ c.
     let read = c .before in
     let at-loop = read .before .before in
     let given = at-loop .before .before in
@@ -48,11 +32,5 @@ loop-again c =
     words-counting-turn _ bytes (x .a) (at-loop .loop .k) (at-loop .loop .inv) l (read .word-of .result)
     (read .word-of .ensures
     ∙ word-of-row (x .heard .now) (x .a) (at-loop .loop .k) (row-bytes * x .a + row-bytes - row-bytes * x .a) (omega arith) (given .before .pre) l)
-    (c .count-word .ensures)
-
-pub count-agreed-spec : {M : Type 1} → statement M
-count-agreed-spec =
-    tie.close (
-    tie.spec Inv-loop μ-loop (λ c. search needs) (λ c. search needs) (λ c. search needs) (λ c. search needs) part-row-end (λ c. words-counting-none _ _ _)
-    (λ c. search needs) (λ c κs. search needs) count-word-requires add-n (λ c. search needs) (λ c. search needs) loop-again
+    (c .count-word .ensures))
     (λ c. words-counting-end _ _ (c .before .loop .k) (c .before .loop .inv) (c .loop-test .left)))

@@ -1,28 +1,16 @@
 -- `is_within` meets its contract: no radio from n on is marked as far as none from b on is, and none of the word of b from b
 -- on is where what is left of the word is 0. The measure is the radios left.
-use mathlib.Core.Path.{_≡_, refl, _∙_}
-use Prim.Native.Nat.{ℕ, _+_, _*_, _-_, _/_, _<_}
-use native.Mathlib.Omega.{arith}
-use lib.ListN.{getD}
-use borrow.Author.Needs.{needs}
+use Rattle.lists.specs.Kit.{_≡_, refl, _∙_, ℕ, _+_, _*_, _-_, _/_, _<_, arith, getD, needs}
 use Rattle.mesh.specs.Limits.{max-radios, row-bytes}
 use Rattle.rows.proofs.RowWords.{word-of-row}
-use Rattle.conditions.specs.Hearing.{none-from}
-use Rattle.conditions.proofs.AskLaws.{within-end, word-turn, word-no}
-use Rattle.hearing.proofs.questions.is_within.Statement.{statement}
-use Rattle.hearing.proofs.questions.is_within.Tie as tie
+use Rattle.conditions.{specs.Hearing.{none-from}, proofs.AskLaws.{within-end, word-turn, word-no}}
+use Rattle.hearing.proofs.questions.is_within.{Statement.{statement}, Tie.{close, spec}}
 
-abbrev Inv-loop : tie.InvT-loop
-Inv-loop n heard a start end row b₀ b = none-from n heard a ≡ none-from b heard a
-
-abbrev μ-loop : tie.MeasureT-loop
-μ-loop n heard a start end row b₀ b = max-radios - b
-
-part-row-end : tie.Need-part-row-end Inv-loop μ-loop
-part-row-end c = omega (arith, c .before .pre)
-
-returns : tie.Need-returns Inv-loop μ-loop
-returns c =
+pub is-within-spec : {M : Type 1} → statement M
+is-within-spec = close (spec (λ n heard a _ _ _ _ b. none-from n heard a ≡ none-from b heard a) (λ _ _ _ _ _ _ _ b. max-radios - b)
+    (λ c. search needs) (λ c. search needs) (λ c. search needs) (λ c. search needs) (λ c. omega (arith, c .before .pre)) (λ c. refl) (λ c κs. search needs)
+    (λ c. search needs) (λ c. search needs)
+    (λ c.
     let read = c .before in
     let at-loop = read .before .before in
     let given = at-loop .before .before in
@@ -33,10 +21,9 @@ returns c =
     (read .word-of .ensures
     ∙ word-of-row (x .heard .now) (x .a) (at-loop .loop .b / 64) (row-bytes * x .a + row-bytes - row-bytes * x .a) (omega arith) (given .before .pre)
     (omega (arith, l)))
-    (x .n) (at-loop .loop .inv) (c .if1 .taken)
-
-loop-again : tie.Need-loop-again Inv-loop μ-loop
-loop-again c =
+    (x .n) (at-loop .loop .inv) (c .if1 .taken))
+    (λ c. search needs) (λ c. search needs) (λ c. search needs)
+    (λ c.
     let read = c .before in
     let at-loop = read .before .before in
     let given = at-loop .before .before in
@@ -47,13 +34,5 @@ loop-again c =
     (read .word-of .ensures
     ∙ word-of-row (x .heard .now) (x .a) (at-loop .loop .b / 64) (row-bytes * x .a + row-bytes - row-bytes * x .a) (omega arith) (given .before .pre)
     (omega (arith, l)))
-    (x .n) (at-loop .loop .inv) (c .if1 .left)
-
-returns-2 : tie.Need-returns-2 Inv-loop μ-loop
-returns-2 c = within-end _ _ _ _ (c .before .loop .inv) (c .loop-test .left)
-
-pub is-within-spec : {M : Type 1} → statement M
-is-within-spec =
-    tie.close (
-    tie.spec Inv-loop μ-loop (λ c. search needs) (λ c. search needs) (λ c. search needs) (λ c. search needs) part-row-end (λ c. refl) (λ c κs. search needs)
-    (λ c. search needs) (λ c. search needs) returns (λ c. search needs) (λ c. search needs) (λ c. search needs) loop-again returns-2)
+    (x .n) (at-loop .loop .inv) (c .if1 .left))
+    (λ c. within-end _ _ _ _ (c .before .loop .inv) (c .loop-test .left)))

@@ -1,6 +1,5 @@
 -- `bytes::word_at` meets its contract.
-use native.Mathlib.Omega.{arith}
-use borrow.Author.Needs.{needs}
+use Rattle.lists.specs.Kit.{arith, needs}
 use Rattle.mesh.specs.Image.{word-at}
 use Rattle.image.proofs.bytes.word_at.Statement.{statement}
 use Rattle.image.proofs.bytes.word_at.Tie as tie
@@ -10,7 +9,5 @@ unfolding word-at
 returns c = (omega arith, omega arith)
 
 pub word-at-spec : {M : Type 1} → statement M
-word-at-spec =
-    tie.close (
-    tie.spec (λ c. search needs) (λ c κs. search needs) (λ c. search needs) (λ c. search needs) (λ c κs. search needs) (λ c. search needs)
-    (λ c. search needs) returns)
+word-at-spec = tie.close (tie.spec (λ c. search needs) (λ c κs. search needs) (λ c. search needs) (λ c. search needs) (λ c κs. search needs)
+    (λ c. search needs) (λ c. search needs) returns)

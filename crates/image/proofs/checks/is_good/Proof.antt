@@ -1,20 +1,12 @@
 -- `checks::is_good` meets its contract: the sum of the block's first 508 bytes is compared with its last four, read as one number.
-use mathlib.Core.Path.{_≡_, sym, ap, ap₂, _∙_}
-use mathlib.Core.Bool.{Bool}
-use Prim.Native.Nat.{_+_, _*_, _-_, _≤_}
-use native.Mathlib.Omega.{arith}
-use lib.Dec.{eqb}
-use lib.ListN.{drop}
-use lib.Seq.{take-take}
-use borrow.Author.Needs.{needs}
-use Rattle.mesh.specs.Image.{block-bytes, check-sum}
-use Rattle.mesh.proofs.Images.Checks.{block-check-value}
-use Rattle.image.proofs.CheckLaws.{words-long}
-use Rattle.image.proofs.checks.is_good.Statement.{statement}
-use Rattle.image.proofs.checks.is_good.Tie as tie
+use Rattle.lists.specs.Kit.{_≡_, sym, ap, ap₂, _∙_, Bool, _+_, _*_, _-_, arith, eqb, drop, take-take, needs}
+use Rattle.mesh.{specs.Image.{block-bytes, check-sum}, proofs.Images.Checks.{block-check-value}}
+use Rattle.image.proofs.{CheckLaws.{words-long}, checks.is_good.{Statement.{statement}, Tie.{close, spec}}}
 
-returns : tie.Need-returns
-returns c =
+pub is-good-spec : {M : Type 1} → statement M
+is-good-spec = close (spec (λ c. search needs) (λ c. search needs) (λ c. search needs) (λ c. search needs) (λ c. search needs) (λ c κs. search needs)
+    (λ c. search needs) (λ c κs. search needs)
+    (λ c.
     let start = c .before .before .before in
     let image = start .before .args .image .now in
     let i = start .before .args .i in
@@ -22,10 +14,4 @@ returns c =
     ap₂ {C = Bool} eqb
     (rw e at (c .before .check-sum .ensures) ∙ ap check-sum (take-take 508 block-bytes (drop (block-bytes * i) image) (omega arith)))
     (c .long-at .ensures .0 ∙ words-long image (block-bytes * i + 508))
-    ∙ sym (block-check-value image i (omega arith) (λ j l. start .shared-slice-known .given j .fits))
-
-pub is-good-spec : {M : Type 1} → statement M
-is-good-spec =
-    tie.close (
-    tie.spec (λ c. search needs) (λ c. search needs) (λ c. search needs) (λ c. search needs) (λ c. search needs) (λ c κs. search needs) (λ c. search needs)
-    (λ c κs. search needs) returns)
+    ∙ sym (block-check-value image i (omega arith) (λ j l. start .shared-slice-known .given j .fits))))

@@ -1,6 +1,5 @@
 -- `form::is_block` meets its contract: each test is a part of the definition.
-use borrow.Author.Tests.{eq-eqb, ne-eqb}
-use borrow.Author.Needs.{needs}
+use Rattle.lists.specs.Kit.{eq-eqb, ne-eqb, needs}
 use Rattle.image.specs.Form.{block-formed}
 use Rattle.image.proofs.form.is_block.Statement.{statement}
 use Rattle.image.proofs.form.is_block.Tie as tie
@@ -24,10 +23,9 @@ unfolding block-formed
 returns-4 c =
     let third = c .before in
     let second = third .before .before in
-    rw (eq-eqb _ _ (second .before .before .if1 .left), eq-eqb _ 0 (second .if2 .left), ← third .before .word-at .ensures .0, eq-eqb _ _ (third .if3 .left)) (c .are-zeros .ensures)
+    rw (eq-eqb _ _ (second .before .before .if1 .left), eq-eqb _ 0 (second .if2 .left), ← third .before .word-at .ensures .0, eq-eqb _ _ (third .if3 .left))
+    (c .are-zeros .ensures)
 
 pub is-block-spec : {M : Type 1} → statement M
-is-block-spec =
-    tie.close (
-    tie.spec (λ c. search needs) (λ c. search needs) returns (λ c. search needs) (λ c. search needs) returns-2 (λ c. search needs) (λ c κs. search needs)
-    returns-3 (λ c. search needs) (λ c. search needs) (λ c. search needs) (λ c κs. search needs) returns-4)
+is-block-spec = tie.close (tie.spec (λ c. search needs) (λ c. search needs) returns (λ c. search needs) (λ c. search needs) returns-2 (λ c. search needs)
+    (λ c κs. search needs) returns-3 (λ c. search needs) (λ c. search needs) (λ c. search needs) (λ c κs. search needs) returns-4)

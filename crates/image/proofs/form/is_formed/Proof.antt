@@ -1,7 +1,5 @@
 -- `form::is_formed` meets its contract: the header's number of radios is the image's, and each test is a part of the definition.
-use mathlib.Core.Path.{sym}
-use borrow.Author.Tests.{eq-eqb, ne-eqb}
-use borrow.Author.Needs.{needs}
+use Rattle.lists.specs.Kit.{sym, eq-eqb, ne-eqb, needs}
 use Rattle.image.specs.Form.{is-formed}
 use Rattle.image.proofs.form.is_formed.Statement.{statement}
 use Rattle.image.proofs.form.is_formed.Tie as tie
@@ -22,6 +20,4 @@ returns-2 c =
     rw (eq-eqb _ _ (sym (header .radios-said)), ← header .links-said, ← counted .block-count .ensures, eq-eqb _ _ (else1 .if1 .left)) (c .are-formed .ensures)
 
 pub is-formed-spec : {M : Type 1} → statement M
-is-formed-spec =
-    tie.close (
-    tie.spec (λ c κs. search needs) (λ c. search needs) (λ c. search needs) returns (λ c κs. search needs) returns-2)
+is-formed-spec = tie.close (tie.spec (λ c κs. search needs) (λ c. search needs) (λ c. search needs) returns (λ c κs. search needs) returns-2)

@@ -1,23 +1,15 @@
 -- `blocks::count_below` meets its contract: each end counts by its test.
-use native.Mathlib.Omega.{arith}
-use borrow.Author.Needs.{needs}
-use Rattle.image_reader.proofs.TallyLaws.{high-fits-still, link-counted}
-use Rattle.image_reader.proofs.blocks.count_below.Statement.{statement}
-use Rattle.image_reader.proofs.blocks.count_below.Tie as tie
-
-bump-requires-2 : tie.Need-bump-requires-2
-bump-requires-2 c κs =
-    let once = c .before .before .before .before in
-    let fits = once .before .before .before .before .before .pre .0 in
-    (omega (arith, fits .there, once .bump .kept .0), high-fits-still _ _ _ _ _ fits (once .bump .ensures))
-
-returns : tie.Need-returns
-returns c =
-    let twice = c .before .before in
-    let once = twice .before .before .before .before .before in
-    link-counted _ _ _ _ _ _ _ _ _ (once .before .is-below .ensures) (twice .before .is-below2 .ensures) (once .bump .ensures) (twice .bump2 .ensures)
+use Rattle.lists.specs.Kit.{arith, needs}
+use Rattle.image_reader.proofs.{TallyLaws.{high-fits-still, link-counted}, blocks.count_below.{Statement.{statement}, Tie.{close, spec}}}
 
 pub count-below-spec : {M : Type 1} → statement M
-count-below-spec =
-    tie.close (
-    tie.spec (λ c κs. search needs) (λ c κs. search needs) (λ c κs. search needs) bump-requires-2 (λ c. search needs) returns)
+count-below-spec = close (spec (λ c κs. search needs) (λ c κs. search needs) (λ c κs. search needs)
+    (λ c κs.
+    let once = c .before .before .before .before in
+    let fits = once .before .before .before .before .before .pre .0 in
+    (omega (arith, fits .there, once .bump .kept .0), high-fits-still _ _ _ _ _ fits (once .bump .ensures)))
+    (λ c. search needs)
+    (λ c.
+    let twice = c .before .before in
+    let once = twice .before .before .before .before .before in
+    link-counted _ _ _ _ _ _ _ _ _ (once .before .is-below .ensures) (twice .before .is-below2 .ensures) (once .bump .ensures) (twice .bump2 .ensures)))

@@ -1,6 +1,5 @@
 -- `blocks::key_of` meets its contract: it is the definition's own sum.
-use mathlib.Core.Path.{refl}
-use borrow.Author.Needs.{needs}
+use Rattle.lists.specs.Kit.{refl, needs}
 use Rattle.image_reader.specs.Site.{key-of}
 use Rattle.image_reader.proofs.blocks.key_of.Statement.{statement}
 use Rattle.image_reader.proofs.blocks.key_of.Tie as tie

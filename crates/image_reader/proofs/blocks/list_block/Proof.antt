@@ -1,35 +1,24 @@
 -- `blocks::list_block` meets its contract: whether all links are listed well is what the links passed and the rest decide. The measure
 -- is the block's links left.
-use mathlib.Core.Path.{_≡_, refl}
-use Prim.Native.Nat.{_+_, _*_, _-_, _≤_}
-use native.Mathlib.Omega.{arith}
-use borrow.Author.Needs.{needs}
+use Rattle.lists.specs.Kit.{_≡_, refl, _+_, _*_, _-_, _≤_, arith, needs}
 use Rattle.mesh.specs.Image.{block-links}
 use Rattle.image_reader.specs.Site.{Listed}
-use Rattle.image_reader.proofs.BlockLaws.{link-in, link-inside, link-index, block-passed}
-use Rattle.image_reader.proofs.ListedLaws.{listed-at, listed-turn}
-use Rattle.image_reader.proofs.blocks.list_block.Statement.{statement}
-use Rattle.image_reader.proofs.blocks.list_block.Tie as tie
+use Rattle.image_reader.proofs.{BlockLaws.{link-in, link-inside, link-index, block-passed}, ListedLaws.{listed-at, listed-turn}}
+use Rattle.image_reader.proofs.blocks.list_block.{Statement.{statement}, Tie.{close, spec}}
 
-abbrev Inv-loop : tie.InvT-loop
-Inv-loop image n m q part good₀ key₀ i₀ good key i = (i ≤ part .count) × Listed n m image good key (block-links * q + i)
-
-abbrev μ-loop : tie.MeasureT-loop
-μ-loop image n m q part good₀ key₀ i₀ good key i = part .count - i
-
-loop-holds : tie.Need-loop-holds Inv-loop μ-loop
-loop-holds c =
+pub list-block-spec : {M : Type 1} → statement M
+list-block-spec = close (spec (λ image n m q part _ _ _ good key i. (i ≤ part .count) × Listed n m image good key (block-links * q + i))
+    (λ _ _ _ _ part _ _ _ _ _ i. part .count - i) (λ c κs. search needs)
+    (λ c.
     let start = c .before .before in
-    (omega arith, listed-at _ _ _ _ _ _ _ (start .pre .1) (omega (arith, start .pre .0 .1)))
-
-long-at-requires : tie.Need-long-at-requires Inv-loop μ-loop
-long-at-requires c κs =
+    (omega arith, listed-at _ _ _ _ _ _ _ (start .pre .1) (omega (arith, start .pre .0 .1))))
+    (λ c. search needs) (λ c. search needs)
+    (λ c κs.
     let at-loop = c .before .before .before in
     let start = at-loop .before .before .before in
-    link-inside _ _ _ _ _ (at-loop .before .part-of .ensures) _ _ (start .pre .0 .0 .whole) (start .pre .0 .1) (c .before .if1 .taken)
-
-loop-again : tie.Need-loop-again Inv-loop μ-loop
-loop-again c =
+    link-inside _ _ _ _ _ (at-loop .before .part-of .ensures) _ _ (start .pre .0 .0 .whole) (start .pre .0 .1) (c .before .if1 .taken))
+    (λ c κs. search needs) (λ c κs. search needs) (λ c. search needs) (λ c. search needs)
+    (λ c.
     let next = c .before in
     let read = next .before in
     let then1 = read .before .before in
@@ -42,17 +31,9 @@ loop-again c =
       omega arith,
       rw (e, ← next .is-next .ensures, ← c .key-of .ensures) at
           (listed-turn _ _ _ _ _ _ (at-loop .loop .inv .1) (link-index _ _ _ _ _ part _ (then1 .if1 .taken)) _ _ _ pair (long .0) (long .1) (long .2)),
-    )
-
-returns : tie.Need-returns Inv-loop μ-loop
-returns c =
+    ))
+    (λ c.
     let at-loop = c .before .before in
     let start = at-loop .before .before .before in
     listed-at _ _ _ _ _ _ _ (at-loop .loop .inv .1)
-    (block-passed _ _ _ _ _ (at-loop .before .part-of .ensures) (start .pre .0 .1) _ (at-loop .loop .inv .0) (c .if1 .left))
-
-pub list-block-spec : {M : Type 1} → statement M
-list-block-spec =
-    tie.close (
-    tie.spec Inv-loop μ-loop (λ c κs. search needs) loop-holds (λ c. search needs) (λ c. search needs) long-at-requires (λ c κs. search needs)
-    (λ c κs. search needs) (λ c. search needs) (λ c. search needs) loop-again returns)
+    (block-passed _ _ _ _ _ (at-loop .before .part-of .ensures) (start .pre .0 .1) _ (at-loop .loop .inv .0) (c .if1 .left))))

@@ -1,24 +1,10 @@
 -- `reader::put_numbers` meets its contract: 8-bit entries being written. The measure is the entries left.
-use mathlib.Core.Path.{refl}
-use Prim.Native.Nat.{ℕ, _-_}
-use native.Mathlib.Omega.{arith}
-use lib.ListN.{length, getD}
-use borrow.Author.Needs.{needs}
+use Rattle.lists.specs.Kit.{refl, ℕ, _-_, arith, length, getD, needs}
 use Rattle.tables.proofs.WidthLaws.{Writing, writing-none, writing-turn, writing-all}
-use Rattle.image_reader.proofs.reader.put_numbers.Statement.{statement}
-use Rattle.image_reader.proofs.reader.put_numbers.Tie as tie
-
-abbrev Inv-loop : tie.InvT-loop
-Inv-loop cores numbers₀ v₀ numbers v = Writing 8 (λ (i : ℕ). getD cores i 0) numbers₀ numbers v
-
-abbrev μ-loop : tie.MeasureT-loop
-μ-loop cores numbers₀ v₀ numbers v = length numbers₀ - v
-
-loop-again : tie.Need-loop-again Inv-loop μ-loop
-loop-again c = writing-turn 8 _ _ _ _ _ (c .before .before .loop .inv) (omega arith) refl
+use Rattle.image_reader.proofs.reader.put_numbers.{Statement.{statement}, Tie.{close, spec}}
 
 pub put-numbers-spec : {M : Type 1} → statement M
-put-numbers-spec =
-    tie.close (
-    tie.spec Inv-loop μ-loop (λ c. writing-none 8 _ _) (λ c. search needs) (λ c. search needs) (λ c. search needs) (λ c. search needs) (λ c. search needs)
-    (λ c. search needs) loop-again (λ c. c .before .loop .inv .long) (λ c. writing-all 8 _ _ _ _ (c .before .loop .inv) (omega arith)))
+put-numbers-spec = close (spec (λ cores numbers₀ _ numbers v. Writing 8 (λ (i : ℕ). getD cores i 0) numbers₀ numbers v)
+    (λ _ numbers₀ _ _ v. length numbers₀ - v) (λ c. writing-none 8 _ _) (λ c. search needs) (λ c. search needs) (λ c. search needs) (λ c. search needs)
+    (λ c. search needs) (λ c. search needs) (λ c. writing-turn 8 _ _ _ _ _ (c .before .before .loop .inv) (omega arith) refl)
+    (λ c. c .before .loop .inv .long) (λ c. writing-all 8 _ _ _ _ (c .before .loop .inv) (omega arith)))

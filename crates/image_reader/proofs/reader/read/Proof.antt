@@ -1,10 +1,9 @@
 -- `reader::read` meets its contract: lengths, then the header, then of which tables it is the image. Scratch is cut to the header's radios.
-use lib.Seq.{length-take-le}
-use borrow.Author.Needs.{needs}
+use Rattle.lists.specs.Kit.{length-take-le, needs}
 use Rattle.mesh.specs.Tables.{tables}
 use Rattle.calls.specs.Questions.{lengths-of}
-use Rattle.image_reader.proofs.ReadLaws.{header-small, header-room, read-not-lent, read-not-header, read-size, read-sized, read-asked}
-use Rattle.image_reader.proofs.reader.read.Statement.{statement}
+use Rattle.image_reader.proofs.{ReadLaws.{header-small, header-room, read-not-lent, read-not-header, read-size, read-sized, read-asked}}
+use Rattle.image_reader.proofs.{reader.read.Statement.{statement}}
 use Rattle.image_reader.proofs.reader.read.Tie as tie
 
 ruleset laws = (needs, header-small, length-take-le)
@@ -41,7 +40,5 @@ read-site-requires c κs =
     )
 
 pub read-spec : {M : Type 1} → statement M
-read-spec =
-    tie.close (
-    tie.spec (λ c κs. search needs) returns (λ c κs. search needs) returns-2 (λ c. search needs) (λ c. search laws) (λ c. search laws)
+read-spec = tie.close (tie.spec (λ c κs. search needs) returns (λ c κs. search needs) returns-2 (λ c. search needs) (λ c. search laws) (λ c. search laws)
     (λ c. search laws) (λ c. search laws) read-site-requires (λ c. search needs) (λ c. search needs) (λ c. search needs) (λ c. search needs))

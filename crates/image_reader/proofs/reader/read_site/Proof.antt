@@ -1,22 +1,16 @@
 -- `reader::read_site` meets its contract: nothing is written before questions 15 and 11 got yes.
-use mathlib.Core.Path.{refl}
-use native.Mathlib.Omega.{arith}
-use borrow.Author.Needs.{needs}
-use Rattle.lists.specs.Facts.{Bytes}
-use Rattle.mesh.specs.Tables.{tables}
-use Rattle.mesh.proofs.Sizes.{size-good-true}
-use Rattle.image_reader.proofs.SiteLaws.{site-accepted, links-room}
-use Rattle.image_reader.proofs.SourceLaws.{source-refused, source-accepted, source-site, source-says}
-use Rattle.image_reader.proofs.reader.read_site.Statement.{statement}
-use Rattle.image_reader.proofs.reader.read_site.Tie as tie
+use Rattle.lists.specs.{Kit.{refl, arith, needs}, Facts.{Bytes}}
+use Rattle.mesh.{specs.Tables.{tables}, proofs.Sizes.{size-good-true}}
+use Rattle.image_reader.proofs.{SiteLaws.{site-accepted, links-room}, SourceLaws.{source-refused, source-accepted, source-site, source-says}}
+use Rattle.image_reader.proofs.reader.read_site.{Statement.{statement}, Tie.{close, spec}}
 
-returns : tie.Need-returns
-returns c =
+pub read-site-spec : {M : Type 1} → statement M
+read-site-spec = close (spec (λ c κs. search needs) (λ c. search needs) (λ c. search needs)
+    (λ c.
     let source = c .before .before .before .before .before in
-    let start = source .before .before .before .before .before .before .before .before .before in source-refused _ _ _ (start .pre .1 .1) _ _ _ (source .refusal .ensures) (c .if1 .taken)
-
-put-links-requires : tie.Need-put-links-requires
-put-links-requires c κs =
+    let start = source .before .before .before .before .before .before .before .before .before in source-refused _ _ _ (start .pre .1 .1) _ _ _
+    (source .refusal .ensures) (c .if1 .taken))
+    (λ c κs.
     let else1 = c .before in
     let source = else1 .before .before .before .before .before in
     let known = source .before .before .before .before .before in
@@ -26,10 +20,8 @@ put-links-requires c κs =
       links-room _ _ (size-good-true _ (start .pre .0 .this-size) .1) _ _ _ (source-site _ _ _ _ _ (source .refusal .ensures) (else1 .if1 .left)) refl bytes
           (room .checked) _ (room .says .links-said) (room .says .links-fit),
       start .pre .1 .0 .0,
-    )
-
-put-numbers-requires : tie.Need-put-numbers-requires
-put-numbers-requires c κs =
+    ))
+    (λ c κs.
     let else1 = c .before .before .before .before .before .before in
     let source = else1 .before .before .before .before .before in
     let start = source .before .before .before .before .before .before .before .before .before in
@@ -40,10 +32,9 @@ put-numbers-requires c κs =
       source .refusal .kept .1 .1 .1 .1 .0,
       room .room .cores-long,
       start .pre .1 .0 .1,
-    )
-
-returns-2 : tie.Need-returns-2
-returns-2 c =
+    ))
+    (λ c κs. search needs) (λ c. search needs) (λ c. search needs) (λ c. search needs) (λ c. search needs) (λ c. search needs)
+    (λ c.
     let copied = c .before .before in
     let numbered = copied .before .before .before .before .before in
     let linked = numbered .before .before .before .before .before in
@@ -56,11 +47,4 @@ returns-2 c =
     source-accepted _ _ t (start .pre .1 .1) _ _ _ yes (else1 .if1 .left) _
     (site-accepted _ _ (size-good-true _ (start .pre .0 .this-size) .1) _ _ _ (source-site _ _ _ _ _ yes (else1 .if1 .left)) refl
     _ t _ _ _ (start .pre .0 .room .says .links-said) (sized .1) (sized .2)
-    (linked .put-links .ensures) (numbered .put-numbers .ensures) (copied .copy16 .ensures))
-
-pub read-site-spec : {M : Type 1} → statement M
-read-site-spec =
-    tie.close (
-    tie.spec (λ c κs. search needs) (λ c. search needs) (λ c. search needs) returns put-links-requires
-    put-numbers-requires (λ c κs. search needs) (λ c. search needs) (λ c. search needs) (λ c. search needs) (λ c. search needs) (λ c. search needs)
-    returns-2)
+    (linked .put-links .ensures) (numbered .put-numbers .ensures) (copied .copy16 .ensures))))

@@ -1,26 +1,15 @@
 -- `site::count_links` meets its contract: the blocks passed are counted in both tables. The measure is the blocks left.
-use mathlib.Core.Path.{_≡_, refl, _∙_}
-use mathlib.Core.List.{[]}
-use Prim.Native.Nat.{_-_}
-use native.Mathlib.Omega.{arith}
-use lib.ListN.{length}
-use borrow.Author.Needs.{needs}
+use Rattle.lists.specs.Kit.{_≡_, refl, _∙_, [], _-_, arith, length, needs}
 use Rattle.image_reader.specs.Site.{links-up-to, passed, Tallied}
-use Rattle.image_reader.proofs.BlockLaws.{block-there, passed-none, passed-all}
-use Rattle.image_reader.proofs.TallyLaws.{tallied-none, tallied-at}
-use Rattle.image_reader.proofs.site.count_links.Statement.{statement}
-use Rattle.image_reader.proofs.site.count_links.Tie as tie
+use Rattle.image_reader.proofs.{BlockLaws.{block-there, passed-none, passed-all}, TallyLaws.{tallied-none, tallied-at}}
+use Rattle.image_reader.proofs.site.count_links.{Statement.{statement}, Tie.{close, spec}}
 
-abbrev Inv-loop : tie.InvT-loop
-Inv-loop image n m places counts₀ later₀ end q₀ counts later q =
-    (length counts ≡ length counts₀) × (length later ≡ length later₀) × Tallied n [] 1 (links-up-to n image (passed m q)) counts
-    × Tallied n places 0 (links-up-to n image (passed m q)) later
-
-abbrev μ-loop : tie.MeasureT-loop
-μ-loop image n m places counts₀ later₀ end q₀ counts later q = end - q
-
-loop-holds : tie.Need-loop-holds Inv-loop μ-loop
-loop-holds c =
+pub count-links-spec : {M : Type 1} → statement M
+count-links-spec = close (spec
+    (λ image n m places counts₀ later₀ _ _ counts later q. (length counts ≡ length counts₀) × (length later ≡ length later₀) × Tallied n [] 1
+    (links-up-to n image (passed m q)) counts × Tallied n places 0 (links-up-to n image (passed m q)) later)
+    (λ _ _ _ _ _ _ end _ _ _ q. end - q) (λ c κs. search needs) (λ c κs. search needs) (λ c κs. search needs)
+    (λ c.
     let second = c .before .before .before in
     let first = second .before .before .before .before in
     let start = first .before .before .before .before .before .before in (
@@ -28,10 +17,8 @@ loop-holds c =
       refl,
       tallied-none _ _ _ _ _ (length (start .args .counts .now)) _ (omega (arith, start .pre .0 .counted)) (first .fill16 .ensures) (passed-none _),
       tallied-none _ _ _ _ _ (length (start .args .later .now)) _ (omega (arith, start .pre .1)) (second .fill162 .ensures) (passed-none _),
-    )
-
-count-block-requires : tie.Need-count-block-requires Inv-loop μ-loop
-count-block-requires c κs =
+    ))
+    (λ c κs.
     let in-loop = c .before .before in
     let at-loop = in-loop .before in
     let second = at-loop .before .before .before .before in
@@ -45,34 +32,21 @@ count-block-requires c κs =
         block-there _ _ _ (at-loop .before .blocks-for .ensures) (in-loop .loop-test .taken),
       ),
       (at-loop .loop .inv .2, at-loop .loop .inv .3),
-    )
-
-loop-again : tie.Need-loop-again Inv-loop μ-loop
-loop-again c =
+    ))
+    (λ c. search needs) (λ c. search needs)
+    (λ c.
     let counted = c .before .before .before .before in
     let at-loop = counted .before .before .before .before in (
       counted .count-block .kept .1 .1 .1 .1 .1 .0 ∙ at-loop .loop .inv .0,
       counted .count-block .kept .1 .1 .1 .1 .1 .1 .0 ∙ at-loop .loop .inv .1,
       counted .count-block .ensures .0,
       counted .count-block .ensures .1,
-    )
-
-same-length : tie.Need-same-length Inv-loop μ-loop
-same-length c =
+    ))
+    (λ c.
     let at-loop = c .before in
-    at-loop .loop .inv .0 ∙ at-loop .before .before .before .before .before .before .before .before .fill16 .kept .0
-
-same-length-2 : tie.Need-same-length-2 Inv-loop μ-loop
-same-length-2 c = let at-loop = c .before in at-loop .loop .inv .1 ∙ at-loop .before .before .before .before .fill162 .kept .0
-
-returns : tie.Need-returns Inv-loop μ-loop
-returns c =
+    at-loop .loop .inv .0 ∙ at-loop .before .before .before .before .before .before .before .before .fill16 .kept .0)
+    (λ c. let at-loop = c .before in at-loop .loop .inv .1 ∙ at-loop .before .before .before .before .fill162 .kept .0)
+    (λ c.
     let at-loop = c .before in
     let e = passed-all _ _ _ (at-loop .before .blocks-for .ensures) (c .loop-test .left) in
-    (tallied-at _ _ _ _ _ _ _ (at-loop .loop .inv .2) e, tallied-at _ _ _ _ _ _ _ (at-loop .loop .inv .3) e)
-
-pub count-links-spec : {M : Type 1} → statement M
-count-links-spec =
-    tie.close (
-    tie.spec Inv-loop μ-loop (λ c κs. search needs) (λ c κs. search needs) (λ c κs. search needs) loop-holds count-block-requires (λ c. search needs)
-    (λ c. search needs) loop-again same-length same-length-2 returns)
+    (tallied-at _ _ _ _ _ _ _ (at-loop .loop .inv .2) e, tallied-at _ _ _ _ _ _ _ (at-loop .loop .inv .3) e)))

@@ -1,13 +1,9 @@
 -- `site::is_site` meets its contract: the decision's answer. Scratch is cut to n.
-use lib.Seq.{length-take-le}
-use borrow.Author.Needs.{needs}
-use Rattle.image_reader.proofs.site.is_site.Statement.{statement}
-use Rattle.image_reader.proofs.site.is_site.Tie as tie
+use Rattle.lists.specs.Kit.{length-take-le, needs}
+use Rattle.image_reader.proofs.site.is_site.{Statement.{statement}, Tie.{close, spec}}
 
 ruleset laws = (needs, length-take-le)
 
 pub is-site-spec : {M : Type 1} → statement M
-is-site-spec =
-    tie.close (
-    tie.spec (λ c. search needs) (λ c. search needs) (λ c. search laws) (λ c. search needs) (λ c. search laws) (λ c κs. search laws) (λ c. search needs)
-    (λ c. search needs) (λ c. search needs))
+is-site-spec = close (spec (λ c. search needs) (λ c. search needs) (λ c. search laws) (λ c. search needs) (λ c. search laws) (λ c κs. search laws)
+    (λ c. search needs) (λ c. search needs) (λ c. search needs))

@@ -1,22 +1,17 @@
 -- `site::is_sound` meets its contract: places, degrees and the k-order, the first of which that gets no refuses.
-use mathlib.Core.Path.{_∙_}
-use borrow.Author.Tests.{not-true, not-false}
-use borrow.Author.Needs.{needs}
-use Rattle.image_reader.proofs.KOrderLaws.{few-tallied, not-placed, order-counted}
-use Rattle.image_reader.proofs.SoundLaws.{not-few, sound-decided}
-use Rattle.image_reader.proofs.site.is_sound.Statement.{statement}
-use Rattle.image_reader.proofs.site.is_sound.Tie as tie
+use Rattle.lists.specs.Kit.{_∙_, not-true, not-false, needs}
+use Rattle.image_reader.proofs.{KOrderLaws.{few-tallied, not-placed, order-counted}, SoundLaws.{not-few, sound-decided}}
+use Rattle.image_reader.proofs.site.is_sound.{Statement.{statement}, Tie.{close, spec}}
 
-returns : tie.Need-returns
-returns c =
+pub is-sound-spec : {M : Type 1} → statement M
+is-sound-spec = close (spec (λ c κs. search needs) (λ c. search needs)
+    (λ c.
     let placed = c .before .before .before in
     let start = placed .before .before .before .before .before .before .before in
     let room = start .pre .0 .0 in
     not-placed _ _ (room .is-proper) (start .pre .1 .0) _ _ _ _ _ (room .most) (start .pre .1 .1) (room .ranked) (placed .places-of .ensures)
-    (not-true (placed .places-of .result) (c .if1 .taken))
-
-count-links-requires : tie.Need-count-links-requires
-count-links-requires c κs =
+    (not-true (placed .places-of .result) (c .if1 .taken)))
+    (λ c κs.
     let placed = c .before .before .before .before .before .before in
     let start = placed .before .before .before .before .before .before .before in
     let room = start .pre .0 .0 in (
@@ -29,10 +24,9 @@ count-links-requires c κs =
         is-proper = room .is-proper;
       },
       start .pre .0 .1,
-    )
-
-returns-2 : tie.Need-returns-2
-returns-2 c =
+    ))
+    (λ c κs. search needs) (λ c. search needs) (λ c. search needs) (λ c. search needs)
+    (λ c.
     let few = c .before in
     let counted = few .before .before .before .before .before .before in
     let placed = counted .before .before .before .before .before .before .before in
@@ -40,10 +34,8 @@ returns-2 c =
     not-few _ _ _ _ _
     (few .are-few .ensures
     ∙ few-tallied _ _ _ (counted .count-links .kept .1 .1 .1 .1 .0 ∙ start .pre .0 .0 .counted) (counted .count-links .ensures .0))
-    (not-true (few .are-few .result) (c .if2 .taken))
-
-is-k-order-requires : tie.Need-is-k-order-requires
-is-k-order-requires c κs =
+    (not-true (few .are-few .result) (c .if2 .taken)))
+    (λ c κs.
     let counted = c .before .before .before .before .before .before .before .before .before .before in
     let else1 = counted .before .before .before .before in
     let placed = else1 .before .before .before in
@@ -65,10 +57,9 @@ is-k-order-requires c κs =
         order-counted _ _ (room .is-proper) (start .pre .1 .0) _ _ _ _ _ (room .most) (start .pre .1 .1) (room .ranked) (placed .places-of .ensures)
             (not-false (placed .places-of .result) (else1 .if1 .left)) (counted .count-links .ensures .1),
       ),
-    )
-
-returns-3 : tie.Need-returns-3
-returns-3 c =
+    ))
+    (λ c. search needs) (λ c. search needs) (λ c. search needs)
+    (λ c.
     let ordered = c .before .before .before .before in
     let else2 = ordered .before .before .before .before in
     let few = else2 .before in
@@ -78,10 +69,4 @@ returns-3 c =
     sound-decided _ _ _ _ _
     (few .are-few .ensures
     ∙ few-tallied _ _ _ (counted .count-links .kept .1 .1 .1 .1 .0 ∙ start .pre .0 .0 .counted) (counted .count-links .ensures .0))
-    _ (not-false (few .are-few .result) (else2 .if2 .left)) (ordered .is-k-order .ensures)
-
-pub is-sound-spec : {M : Type 1} → statement M
-is-sound-spec =
-    tie.close (
-    tie.spec (λ c κs. search needs) (λ c. search needs) returns count-links-requires (λ c κs. search needs) (λ c. search needs) (λ c. search needs)
-    (λ c. search needs) returns-2 is-k-order-requires (λ c. search needs) (λ c. search needs) (λ c. search needs) returns-3)
+    _ (not-false (few .are-few .result) (else2 .if2 .left)) (ordered .is-k-order .ensures)))

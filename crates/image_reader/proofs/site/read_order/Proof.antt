@@ -1,13 +1,8 @@
 -- `site::read_order` meets its contract: the blocks passed are read. The measure is what is left of the entries.
-use mathlib.Core.Path.{_≡_, refl, _∙_}
-use Prim.Native.Nat.{_+_, _*_, _-_, _≤_, min}
-use native.Mathlib.Omega.{arith}
-use lib.ListN.{length}
-use borrow.Author.Needs.{needs}
+use Rattle.lists.specs.Kit.{_≡_, refl, _∙_, _+_, _*_, _-_, _≤_, min, arith, length, needs}
 use Rattle.mesh.specs.Image.{block-entries, order-blocks, blocks-for}
 use Rattle.image_reader.specs.Site.{Order-read}
-use Rattle.image_reader.proofs.ListedLaws.{order-at, order-whole}
-use Rattle.image_reader.proofs.site.read_order.Statement.{statement}
+use Rattle.image_reader.proofs.{ListedLaws.{order-at, order-whole}, site.read_order.Statement.{statement}}
 use Rattle.image_reader.proofs.site.read_order.Tie as tie
 
 abbrev Inv-loop : tie.InvT-loop
@@ -16,12 +11,6 @@ Inv-loop image order₀ q₀ order q =
 
 abbrev μ-loop : tie.MeasureT-loop
 μ-loop image order₀ q₀ order q = length order₀ - block-entries * q
-
-loop-holds : tie.Need-loop-holds Inv-loop μ-loop
-loop-holds c = (refl, omega arith, λ j l. absurd (omega arith))
-
-mul-loop : tie.Need-mul-loop Inv-loop μ-loop
-mul-loop c = omega (arith, c .loop .inv .1, c .before .before .before .pre .0)
 
 order-block-requires : tie.Need-order-block-requires Inv-loop μ-loop
 unfolding order-blocks blocks-for
@@ -36,32 +25,20 @@ order-block-requires c κs =
           (min (length (at-loop .loop .order)) (block-entries * q)) (at-loop .loop .inv .2) e,
     )
 
-loop-again : tie.Need-loop-again Inv-loop μ-loop
-loop-again c =
-    let read = c .before .before in
-    let at-loop = read .before .before .before in
-    let start = at-loop .before .before .before in
-    let long = at-loop .loop .inv .0 in
-    let q = at-loop .loop .q in
-    let e : min (length (at-loop .loop .order)) (block-entries * (q + 1)) ≡ min (length (start .args .order .now)) (block-entries * (q + 1)) = omega arith in (
+pub read-order-spec : {M : Type 1} → statement M
+read-order-spec = tie.close (tie.spec Inv-loop μ-loop (λ c. (refl, omega arith, λ j l. absurd (omega arith)))
+    (λ c. omega (arith, c .loop .inv .1, c .before .before .before .pre .0)) order-block-requires (λ c. search needs) (λ c. search needs)
+    (λ c. let read = c .before .before in let at-loop = read .before .before .before in let start = at-loop .before .before .before in let long =
+    at-loop .loop .inv .0 in let q = at-loop .loop .q in let e : min (length (at-loop .loop .order)) (block-entries * (q + 1)) ≡ min
+    (length (start .args .order .now)) (block-entries * (q + 1)) = omega arith in (
       read .order-block .kept .1 .1 .0 ∙ long,
       omega (arith, read .before .before .loop-test .taken),
-      order-at (start .args .image .now) (read .order-block .last .1 .1 .0) (min (length (at-loop .loop .order)) (block-entries * (q + 1)))
+      order-at (start .args .image .now)
+          (read .order-block .last .1 .1 .0) (min (length (at-loop .loop .order)) (block-entries * (q + 1)))
           (min (length (start .args .order .now)) (block-entries * (q + 1))) (read .order-block .ensures) e,
-    )
-
-returns : tie.Need-returns Inv-loop μ-loop
-returns c =
-    let at-loop = c .before in
-    let start = at-loop .before .before .before in
-    let xs = start .args .order .now in
-    let q = at-loop .loop .q in
-    let e : min (length xs) (block-entries * q) ≡ length xs = omega (arith, at-loop .loop .inv .0, c .loop-test .left) in
-    order-whole (start .args .image .now) (at-loop .loop .order) (length xs) (at-loop .loop .inv .0)
-    (order-at (start .args .image .now) (at-loop .loop .order) (min (length xs) (block-entries * q)) (length xs) (at-loop .loop .inv .2) e)
-
-pub read-order-spec : {M : Type 1} → statement M
-read-order-spec =
-    tie.close (
-    tie.spec Inv-loop μ-loop loop-holds mul-loop order-block-requires (λ c. search needs) (λ c. search needs) loop-again
-    (λ c. c .before .loop .inv .0) returns)
+    ))
+    (λ c. c .before .loop .inv .0)
+    (λ c. let at-loop = c .before in let start = at-loop .before .before .before in let xs = start .args .order .now in let q = at-loop .loop .q in let e : min
+    (length xs) (block-entries * q) ≡ length xs = omega (arith, at-loop .loop .inv .0, c .loop-test .left) in order-whole (start .args .image .now)
+    (at-loop .loop .order) (length xs) (at-loop .loop .inv .0) (order-at (start .args .image .now) (at-loop .loop .order)
+    (min (length xs) (block-entries * q)) (length xs) (at-loop .loop .inv .2) e)))

@@ -1,30 +1,18 @@
 -- `site::tally` meets its contract: the blocks passed are counted. The measure is the blocks left.
-use mathlib.Core.Path.{_≡_, refl, _∙_}
-use Prim.Native.Nat.{_-_}
-use native.Mathlib.Omega.{arith}
-use lib.ListN.{length}
-use borrow.Author.Needs.{needs}
+use Rattle.lists.specs.Kit.{_≡_, refl, _∙_, _-_, arith, length, needs}
 use Rattle.image_reader.specs.Site.{links-up-to, passed, Tallied}
-use Rattle.image_reader.proofs.BlockLaws.{block-there, passed-none, passed-all}
-use Rattle.image_reader.proofs.TallyLaws.{tallied-none, tallied-at}
-use Rattle.image_reader.proofs.site.tally.Statement.{statement}
-use Rattle.image_reader.proofs.site.tally.Tie as tie
+use Rattle.image_reader.proofs.{BlockLaws.{block-there, passed-none, passed-all}, TallyLaws.{tallied-none, tallied-at}}
+use Rattle.image_reader.proofs.site.tally.{Statement.{statement}, Tie.{close, spec}}
 
-abbrev Inv-loop : tie.InvT-loop
-Inv-loop image n m ranks slack counts₀ end q₀ counts q =
-    (length counts ≡ length counts₀) × Tallied n ranks slack (links-up-to n image (passed m q)) counts
-
-abbrev μ-loop : tie.MeasureT-loop
-μ-loop image n m ranks slack counts₀ end q₀ counts q = end - q
-
-loop-holds : tie.Need-loop-holds Inv-loop μ-loop
-loop-holds c =
+pub tally-spec : {M : Type 1} → statement M
+tally-spec = close (spec
+    (λ image n m ranks slack counts₀ _ _ counts q. (length counts ≡ length counts₀) × Tallied n ranks slack (links-up-to n image (passed m q)) counts)
+    (λ _ _ _ _ _ _ end _ _ q. end - q) (λ c κs. search needs) (λ c κs. search needs)
+    (λ c.
     let filled = c .before .before .before in
     let start = filled .before .before .before .before .before in
-    (refl, tallied-none _ _ _ _ _ (length (start .args .counts .now)) _ (omega (arith, start .pre .counted)) (filled .fill16 .ensures) (passed-none _))
-
-tally-block-requires : tie.Need-tally-block-requires Inv-loop μ-loop
-tally-block-requires c κs =
+    (refl, tallied-none _ _ _ _ _ (length (start .args .counts .now)) _ (omega (arith, start .pre .counted)) (filled .fill16 .ensures) (passed-none _)))
+    (λ c κs.
     let at-loop = c .before .before in
     let filled = at-loop .before .before .before .before in
     let start = filled .before .before .before .before .before in
@@ -35,21 +23,13 @@ tally-block-requires c κs =
         block-there _ _ _ (at-loop .before .blocks-for .ensures) (c .before .loop-test .taken),
       ),
       at-loop .loop .inv .1,
-    )
-
-loop-again : tie.Need-loop-again Inv-loop μ-loop
-loop-again c =
+    ))
+    (λ c. search needs) (λ c. search needs)
+    (λ c.
     let counted = c .before .before in
     let at-loop = counted .before .before .before in
-    (counted .tally-block .kept .1 .1 .1 .1 .1 .1 .0 ∙ at-loop .loop .inv .0, counted .tally-block .ensures)
-
-returns : tie.Need-returns Inv-loop μ-loop
-returns c =
+    (counted .tally-block .kept .1 .1 .1 .1 .1 .1 .0 ∙ at-loop .loop .inv .0, counted .tally-block .ensures))
+    (λ c. c .before .loop .inv .0 ∙ c .before .before .before .before .before .fill16 .kept .0)
+    (λ c.
     let at-loop = c .before in
-    tallied-at _ _ _ _ _ _ _ (at-loop .loop .inv .1) (passed-all _ _ _ (at-loop .before .blocks-for .ensures) (c .loop-test .left))
-
-pub tally-spec : {M : Type 1} → statement M
-tally-spec =
-    tie.close (
-    tie.spec Inv-loop μ-loop (λ c κs. search needs) (λ c κs. search needs) loop-holds tally-block-requires (λ c. search needs) (λ c. search needs) loop-again
-    (λ c. c .before .loop .inv .0 ∙ c .before .before .before .before .before .fill16 .kept .0) returns)
+    tallied-at _ _ _ _ _ _ _ (at-loop .loop .inv .1) (passed-all _ _ _ (at-loop .before .blocks-for .ensures) (c .loop-test .left))))

@@ -1,38 +1,28 @@
 -- `source::is_image` meets its contract: an image that is not formed is none, and else its site decides.
-use borrow.Author.Tests.{not-true, not-false}
-use borrow.Author.Needs.{needs}
-use Rattle.lists.specs.Facts.{Bytes}
-use Rattle.image_reader.proofs.SiteLaws.{site-room, not-formed, image-decided}
-use Rattle.image_reader.proofs.source.is_image.Statement.{statement}
-use Rattle.image_reader.proofs.source.is_image.Tie as tie
+use Rattle.lists.specs.{Kit.{not-true, not-false, needs}, Facts.{Bytes}}
+use Rattle.image_reader.proofs.{SiteLaws.{site-room, not-formed, image-decided}, source.is_image.{Statement.{statement}, Tie.{close, spec}}}
 
-returns : tie.Need-returns
-returns c =
+pub is-image-spec : {M : Type 1} → statement M
+is-image-spec = close (spec (λ c κs. search needs)
+    (λ c.
     let formed = c .before in
     let known = formed .before .before .before in
     let room = known .before .pre in
     let bytes : Bytes (known .before .args .image .now) = λ j l. known .shared-slice-known .given j .fits in
-    not-formed _ _ (room .most) _ (formed .is-formed .ensures) bytes (room .checked) _ _ (not-true (formed .is-formed .result) (c .if1 .taken))
-
-is-site-requires : tie.Need-is-site-requires
-is-site-requires c κs =
+    not-formed _ _ (room .most) _ (formed .is-formed .ensures) bytes (room .checked) _ _ (not-true (formed .is-formed .result) (c .if1 .taken)))
+    (λ c κs.
     let else1 = c .before .before in
     let formed = else1 .before in
     let room = c .before .before .before .before .before .before .before .pre in
-    site-room _ _ (room .most) _ (formed .is-formed .ensures) (not-false (formed .is-formed .result) (else1 .if1 .left)) _ _ _ (room .says) (room .listed-long)
-    (room .cores-long)
-
-returns-2 : tie.Need-returns-2
-returns-2 c =
+    site-room _ _ (room .most) _ (formed .is-formed .ensures) (not-false (formed .is-formed .result) (else1 .if1 .left)) _ _ _ (room .says)
+    (room .listed-long)
+    (room .cores-long))
+    (λ c. search needs) (λ c. search needs)
+    (λ c.
     let else1 = c .before .before .before .before .before .before .before in
     let formed = else1 .before in
     let known = c .before .before .before .before .before .before .before .before .before .before .before in
     let room = known .before .pre in
     let bytes : Bytes (known .before .args .image .now) = λ j l. known .shared-slice-known .given j .fits in
     image-decided _ _ (room .most) _ (formed .is-formed .ensures) bytes (room .checked) (not-false (formed .is-formed .result) (else1 .if1 .left)) _
-    (room .says .links-said) _ _ _ (c .before .before .before .before .is-site .ensures)
-
-pub is-image-spec : {M : Type 1} → statement M
-is-image-spec =
-    tie.close (
-    tie.spec (λ c κs. search needs) returns is-site-requires (λ c. search needs) (λ c. search needs) returns-2)
+    (room .says .links-said) _ _ _ (c .before .before .before .before .is-site .ensures)))

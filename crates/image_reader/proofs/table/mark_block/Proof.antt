@@ -1,41 +1,27 @@
 -- `table::mark_block` meets its contract: the block's links passed are marked. The measure is its links left.
-use mathlib.Core.Path.{_≡_, refl, _∙_}
-use Prim.Native.Nat.{_+_, _*_, _-_, _≤_}
-use native.Mathlib.Omega.{arith}
-use lib.ListN.{length}
-use borrow.Author.Needs.{needs}
+use Rattle.lists.specs.Kit.{_≡_, refl, _∙_, _+_, _*_, _-_, _≤_, arith, length, needs}
 use Rattle.mesh.specs.Image.{block-links}
-use Rattle.image_reader.proofs.BlockLaws.{link-in, link-inside, link-index, block-passed}
-use Rattle.image_reader.proofs.TallyLaws.{proper-pair}
-use Rattle.image_reader.proofs.TableWritten.{Linking, linking-at, linking-turn, rows-there}
-use Rattle.image_reader.proofs.table.mark_block.Statement.{statement}
-use Rattle.image_reader.proofs.table.mark_block.Tie as tie
+use Rattle.image_reader.proofs.{BlockLaws.{link-in, link-inside, link-index, block-passed}, TallyLaws.{proper-pair}, TableWritten.{Linking, linking-at}}
+use Rattle.image_reader.proofs.{TableWritten.{linking-turn, rows-there}, table.mark_block.{Statement.{statement}, Tie.{close, spec}}}
 
-abbrev Inv-loop : tie.InvT-loop
-Inv-loop image n m q links₀ part i₀ links i = (i ≤ part .count) × (length links ≡ length links₀) × Linking n image links (block-links * q + i)
-
-abbrev μ-loop : tie.MeasureT-loop
-μ-loop image n m q links₀ part i₀ links i = part .count - i
-
-loop-holds : tie.Need-loop-holds Inv-loop μ-loop
-loop-holds c =
+pub mark-block-spec : {M : Type 1} → statement M
+mark-block-spec = close (spec
+    (λ image n _ q links₀ part _ links i. (i ≤ part .count) × (length links ≡ length links₀) × Linking n image links (block-links * q + i))
+    (λ _ _ _ _ _ part _ _ i. part .count - i) (λ c κs. search needs)
+    (λ c.
     let start = c .before .before .before in
-    (omega arith, refl, linking-at _ _ _ _ _ (start .pre .1) (omega (arith, start .pre .0 .1)))
-
-word-at-requires : tie.Need-word-at-requires Inv-loop μ-loop
-word-at-requires c κs =
+    (omega arith, refl, linking-at _ _ _ _ _ (start .pre .1) (omega (arith, start .pre .0 .1))))
+    (λ c. search needs) (λ c. search needs)
+    (λ c κs.
     let at-loop = c .before .before .before in
     let start = at-loop .before .before .before .before in
-    omega (arith, link-inside _ _ _ _ _ (at-loop .before .part-of .ensures) _ _ (start .pre .0 .0 .whole) (start .pre .0 .1) (c .before .if1 .taken))
-
-word-at-requires-2 : tie.Need-word-at-requires-2 Inv-loop μ-loop
-word-at-requires-2 c κs =
+    omega (arith, link-inside _ _ _ _ _ (at-loop .before .part-of .ensures) _ _ (start .pre .0 .0 .whole) (start .pre .0 .1) (c .before .if1 .taken)))
+    (λ c. search needs)
+    (λ c κs.
     let at-loop = c .before .before .before .before in
     let start = at-loop .before .before .before .before in
-    omega (arith, link-inside _ _ _ _ _ (at-loop .before .part-of .ensures) _ _ (start .pre .0 .0 .whole) (start .pre .0 .1) (c .before .before .if1 .taken))
-
-set-link-requires : tie.Need-set-link-requires Inv-loop μ-loop
-set-link-requires c κs =
+    omega (arith, link-inside _ _ _ _ _ (at-loop .before .part-of .ensures) _ _ (start .pre .0 .0 .whole) (start .pre .0 .1) (c .before .before .if1 .taken)))
+    (λ c κs.
     let read = c .before in
     let at-loop = read .before .before .before .before .before in
     let part = at-loop .before .part-of .ensures in
@@ -43,10 +29,9 @@ set-link-requires c κs =
     let pair = link-in _ _ _ _ _ part _ _ _ _ (read .before .before .before .if1 .taken) (read .before .word-at .ensures .0) (read .word-at2 .ensures .0) in
     let index = link-index _ _ _ _ _ part _ (read .before .before .before .if1 .taken) in
     let good = proper-pair _ _ _ _ _ _ (start .pre .0 .0 .is-proper) index pair in
-    (good .0, omega (arith, start .pre .0 .0 .most), rows-there _ _ _ _ _ (at-loop .loop .inv .2) (good .1))
-
-loop-again : tie.Need-loop-again Inv-loop μ-loop
-loop-again c =
+    (good .0, omega (arith, start .pre .0 .0 .most), rows-there _ _ _ _ _ (at-loop .loop .inv .2) (good .1)))
+    (λ c. search needs) (λ c. search needs)
+    (λ c.
     let read = c .before .before .before .before in
     let at-loop = read .before .before .before .before .before in
     let part = at-loop .before .part-of .ensures in
@@ -60,17 +45,10 @@ loop-again c =
       linking-at _ _ _ _ _
           (linking-turn _ _ _ _ _ _ _ _ (start .pre .0 .0 .most) (start .pre .0 .0 .is-proper) index pair (at-loop .loop .inv .2) (put .set-link .ensures))
           e,
-    )
-
-returns : tie.Need-returns Inv-loop μ-loop
-returns c =
+    ))
+    (λ c. c .before .before .loop .inv .1)
+    (λ c.
     let at-loop = c .before .before in
     let start = at-loop .before .before .before .before in
     linking-at _ _ _ _ _ (at-loop .loop .inv .2)
-    (block-passed _ _ _ _ _ (at-loop .before .part-of .ensures) (start .pre .0 .1) _ (at-loop .loop .inv .0) (c .if1 .left))
-
-pub mark-block-spec : {M : Type 1} → statement M
-mark-block-spec =
-    tie.close (
-    tie.spec Inv-loop μ-loop (λ c κs. search needs) loop-holds (λ c. search needs) (λ c. search needs) word-at-requires (λ c. search needs) word-at-requires-2
-    set-link-requires (λ c. search needs) (λ c. search needs) loop-again (λ c. c .before .before .loop .inv .1) returns)
+    (block-passed _ _ _ _ _ (at-loop .before .part-of .ensures) (start .pre .0 .1) _ (at-loop .loop .inv .0) (c .if1 .left))))

@@ -1,7 +1,5 @@
 -- `table::set_link` meets its contract: two bits, with the ends exchanged.
-use mathlib.Core.Path.{ap, _∙_}
-use mathlib.Core.Bool.{true}
-use borrow.Author.Needs.{needs}
+use Rattle.lists.specs.Kit.{ap, _∙_, true, needs}
 use Rattle.mesh.specs.Tables.{put-bit, put-link}
 use Rattle.image_reader.proofs.table.set_link.Statement.{statement}
 use Rattle.image_reader.proofs.table.set_link.Tie as tie

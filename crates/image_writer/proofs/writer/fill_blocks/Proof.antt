@@ -1,24 +1,17 @@
 -- `writer::fill_blocks` meets its contract: the blocks so far stand in front of the buffer, and the rest is as it was. The measure is
 -- the blocks left.
-use Prim.Native.Nat.{_+_, _*_, _-_, _≤_}
-use mathlib.Core.Path.{_≡_}
-use native.Mathlib.Omega.{arith}
-use lib.ListN.{drop, length-drop}
-use lib.Seq.{length-take-le}
-use borrow.Author.Needs.{needs}
+use Rattle.lists.specs.Kit.{_+_, _*_, _-_, _≤_, _≡_, arith, drop, length-drop, length-take-le, needs}
 use Rattle.image_writer.specs.Blocks.{front-block}
 use Rattle.image_writer.proofs.BlockFilling.{Filling, filling-none, filling-turn, filling-end}
-use Rattle.image_writer.proofs.writer.fill_blocks.Statement.{statement}
-use Rattle.image_writer.proofs.writer.fill_blocks.Tie as tie
+use Rattle.image_writer.proofs.writer.fill_blocks.{Statement.{statement}, Tie.{close, spec}}
 
-abbrev Inv-loop : tie.InvT-loop
-Inv-loop blocks n count order buffer₀ i₀ buffer i = (i ≤ blocks) × Filling (front-block n count order) buffer₀ 0 i buffer
-
-abbrev μ-loop : tie.MeasureT-loop
-μ-loop blocks n count order buffer₀ i₀ buffer i = blocks - i
-
-fill-block-requires : tie.Need-fill-block-requires Inv-loop μ-loop
-fill-block-requires c κs =
+pub fill-blocks-spec : {M : Type 1} → statement M
+fill-blocks-spec = close (spec (λ blocks n count order buffer₀ _ buffer i. (i ≤ blocks) × Filling (front-block n count order) buffer₀ 0 i buffer)
+    (λ blocks _ _ _ _ _ _ i. blocks - i) (λ c. (omega arith, filling-none _ _ 0 (omega arith))) (λ c. search needs)
+    (λ c. omega (arith, c .before .loop .inv .1 .long)) (λ c. omega (arith, c .before .loop .inv .1 .long))
+    (λ c. omega (arith, c .before .loop .inv .1 .long)) (λ c. omega (arith, c .before .loop .inv .1 .long))
+    (λ c. omega (arith, c .before .loop .inv .1 .long))
+    (λ c κs.
     let at-loop = c .before .before in
     let start = at-loop .before .before .before in
     let i = at-loop .loop .i in
@@ -27,10 +20,9 @@ fill-block-requires c κs =
       start .pre .1,
       omega (arith, start .pre .2),
       start .pre .3,
-    )
-
-loop-again : tie.Need-loop-again Inv-loop μ-loop
-loop-again c =
+    ))
+    (λ c. search needs) (λ c. search needs)
+    (λ c.
     let filled = c .before .before in
     let at-loop = filled .before .before .before in
     let i = at-loop .loop .i in
@@ -38,12 +30,5 @@ loop-again c =
       omega arith,
       filling-turn _ _ 0 i k _ (at-loop .loop .inv .1) (omega arith) _ (omega (arith, at-loop .loop .inv .1 .long)) (filled .fill-block .kept .0)
           (filled .fill-block .ensures),
-    )
-
-pub fill-blocks-spec : {M : Type 1} → statement M
-fill-blocks-spec =
-    tie.close (
-    tie.spec Inv-loop μ-loop (λ c. (omega arith, filling-none _ _ 0 (omega arith))) (λ c. search needs) (λ c. omega (arith, c .before .loop .inv .1 .long))
-    (λ c. omega (arith, c .before .loop .inv .1 .long)) (λ c. omega (arith, c .before .loop .inv .1 .long)) (λ c. omega (arith, c .before .loop .inv .1 .long))
-    (λ c. omega (arith, c .before .loop .inv .1 .long)) fill-block-requires (λ c. search needs) (λ c. search needs) loop-again
+    ))
     (λ c. c .before .loop .inv .1 .long) (λ c. filling-end _ _ _ _ _ (c .before .loop .inv .1) (omega arith)))

@@ -1,26 +1,18 @@
 -- `writer::fill_order` meets its contract: the payload of an opened block, which is then sealed.
-use mathlib.Core.Path.{ap, _∙_}
-use mathlib.Core.List.{List, flatMap}
-use Prim.Native.Nat.{ℕ}
-use lib.Seq.{sets}
-use borrow.Author.Needs.{needs}
+use Rattle.lists.specs.Kit.{ap, _∙_, List, flatMap, ℕ, sets, needs}
 use Rattle.mesh.specs.Image.{word}
 use Rattle.image_writer.specs.Filler.{sealed}
 use Rattle.image_writer.proofs.FillerLaws.{sealed-payload, order-part, length-order-bytes}
-use Rattle.image_writer.proofs.writer.fill_order.Statement.{statement}
-use Rattle.image_writer.proofs.writer.fill_order.Tie as tie
+use Rattle.image_writer.proofs.writer.fill_order.{Statement.{statement}, Tie.{close, spec}}
 
-returns : tie.Need-returns
-returns c =
+pub fill-order-spec : {M : Type 1} → statement M
+fill-order-spec = close (spec (λ c κs. search needs) (λ c κs. search needs) (λ c κs. search needs) (λ c. search needs)
+    (λ c.
     let closed = c .before .before in
     let put = closed .before .before .before .before in
     let opening = put .before .before .before .before in
     let call = opening .before .before .before .before .args in
     closed .close-block .ensures
-    ∙ ap sealed (put .put-order .ensures ∙ ap (λ (b : List ℕ). sets b 4 (flatMap word (order-part (call .order .now) (call .from)))) (opening .open-block .ensures))
-    ∙ sealed-payload 1 (call .index) (flatMap word (order-part (call .order .now) (call .from))) (length-order-bytes (call .order .now) (call .from))
-
-pub fill-order-spec : {M : Type 1} → statement M
-fill-order-spec =
-    tie.close (
-    tie.spec (λ c κs. search needs) (λ c κs. search needs) (λ c κs. search needs) (λ c. search needs) returns)
+    ∙ ap sealed (put .put-order .ensures ∙ ap (λ (b : List ℕ). sets b 4 (flatMap word (order-part (call .order .now) (call .from))))
+    (opening .open-block .ensures))
+    ∙ sealed-payload 1 (call .index) (flatMap word (order-part (call .order .now) (call .from))) (length-order-bytes (call .order .now) (call .from))))

@@ -1,12 +1,6 @@
 -- `writer::has_room` meets its contract: fewer links want no more blocks, so the most that a site may have tell where there is room
 -- for all; else the links are counted.
-use mathlib.Core.Path.{ap, sym, _∙_}
-use Prim.Native.Nat.{ℕ, _*_}
-use native.Mathlib.Omega.{arith}
-use lib.Dec.{leb}
-use lib.ListN.{length}
-use borrow.Author.Needs.{needs}
-use borrow.Author.Tests.{le-leb}
+use Rattle.lists.specs.Kit.{ap, sym, _∙_, ℕ, _*_, arith, leb, length, needs, le-leb}
 use Rattle.rows.specs.Links.{links-from}
 use Rattle.mesh.specs.Image.{block-count, order-blocks, blocks-for}
 use Rattle.image_writer.proofs.writer.has_room.Statement.{statement}
@@ -19,14 +13,10 @@ returns c =
     let m = length (links-from (start .args .n) (start .args .links .now) 0 0) in
     sym (le-leb (512 * block-count (start .args .n) m) (start .args .bytes) (omega (arith, start .pre .1, c .before .block-count .ensures, c .if1 .taken)))
 
-returns-2 : tie.Need-returns-2
-returns-2 c =
+pub has-room-spec : {M : Type 1} → statement M
+has-room-spec = tie.close (tie.spec (λ c. search needs) (λ c κs. search needs) (λ c. search needs) (λ c. search needs) returns (λ c. search needs)
+    (λ c κs. search needs) (λ c κs. search needs) (λ c. search needs) (λ c. search needs)
+    (λ c.
     let counted = c .before .before in
     let start = counted .before .before .before .before .before in
-    ap (λ (k : ℕ). leb (512 * k) (start .args .bytes)) (c .block-count2 .ensures ∙ ap (block-count (start .args .n)) (counted .count-links .ensures (start .pre .0)))
-
-pub has-room-spec : {M : Type 1} → statement M
-has-room-spec =
-    tie.close (
-    tie.spec (λ c. search needs) (λ c κs. search needs) (λ c. search needs) (λ c. search needs) returns (λ c. search needs) (λ c κs. search needs)
-    (λ c κs. search needs) (λ c. search needs) (λ c. search needs) returns-2)
+    ap (λ (k : ℕ). leb (512 * k) (start .args .bytes)) (c .block-count2 .ensures ∙ ap (block-count (start .args .n)) (counted .count-links .ensures))))

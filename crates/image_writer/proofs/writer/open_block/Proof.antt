@@ -1,36 +1,28 @@
 -- `writer::open_block` meets its contract: zeros, then the kind and the index.
-use mathlib.Core.Path.{ap, _∙_}
-use Prim.Native.Nat.{ℕ}
-use native.Mathlib.Omega.{arith}
-use lib.Seq.{length-sets}
-use lib.ListN.{length, replicate, set, length-replicate, length-set}
-use borrow.Author.Needs.{needs}
+use Rattle.lists.specs.Kit.{ap, _∙_, ℕ, arith, length-sets, length, replicate, set, length-replicate, length-set, needs}
 use Rattle.mesh.specs.Image.{word}
-use Rattle.image_writer.proofs.FillerLaws.{opened-sets}
-use Rattle.image_writer.proofs.writer.open_block.Statement.{statement}
-use Rattle.image_writer.proofs.writer.open_block.Tie as tie
+use Rattle.image_writer.proofs.{FillerLaws.{opened-sets}, writer.open_block.{Statement.{statement}, Tie.{close, spec}}}
 
-put-word-requires : tie.Need-put-word-requires
-put-word-requires c κs =
+pub open-block-spec : {M : Type 1} → statement M
+open-block-spec = close (spec (λ c κs. search needs) (λ c. search needs)
+    (λ c κs.
     let filled = c .before .before .before in
-    simp length-set (omega (arith, ap length (filled .fill8 .ensures), length-replicate {A = ℕ} (length (filled .before .before .before .args .part .now)) 0))
-
-same-length : tie.Need-same-length
-same-length c =
+    simp length-set (omega (
+      arith,
+      ap length (filled .fill8 .ensures),
+      length-replicate {A = ℕ} (length (filled .before .before .before .args .part .now))
+          0,
+    )))
+    (λ c.
     let put = c .before .before in
     let filled = put .before .before .before .before in
     let call = filled .before .before .before .args in
-    ap length (put .put-word .ensures) ∙ length-sets (set (filled .fill8 .last .0) 0 (call .kind)) 2 (word (call .index)) ∙ length-set (filled .fill8 .last .0) 0 (call .kind)
-    ∙ ap length (filled .fill8 .ensures) ∙ length-replicate {A = ℕ} (length (call .part .now)) 0
-
-returns : tie.Need-returns
-returns c =
+    ap length (put .put-word .ensures) ∙ length-sets (set (filled .fill8 .last .0) 0 (call .kind)) 2 (word (call .index)) ∙ length-set
+    (filled .fill8 .last .0) 0 (call .kind)
+    ∙ ap length (filled .fill8 .ensures) ∙ length-replicate {A = ℕ} (length (call .part .now)) 0)
+    (λ c.
     let put = c .before .before in
     let filled = put .before .before .before .before in
     let start = filled .before .before .before in
-    put .put-word .ensures ∙ opened-sets (start .args .kind) (start .args .index) (filled .fill8 .last .0) (filled .fill8 .ensures ∙ ap (λ (k : ℕ). replicate {A = ℕ} k 0) (start .pre))
-
-pub open-block-spec : {M : Type 1} → statement M
-open-block-spec =
-    tie.close (
-    tie.spec (λ c κs. search needs) (λ c. search needs) put-word-requires same-length returns)
+    put .put-word .ensures ∙ opened-sets (start .args .kind) (start .args .index) (filled .fill8 .last .0)
+    (filled .fill8 .ensures ∙ ap (λ (k : ℕ). replicate {A = ℕ} k 0) (start .pre))))

@@ -1,11 +1,6 @@
 -- `writer::put_link` meets its contract: the lower radio's bytes, then the higher one's.
-use mathlib.Core.Path.{ap, sym, _∙_}
-use mathlib.Core.List.{List}
-use Prim.Native.Nat.{ℕ, _+_}
-use lib.Seq.{sets}
-use borrow.Author.Needs.{needs}
+use Rattle.lists.{specs.Kit.{ap, sym, _∙_, List, ℕ, _+_, sets, needs}, proofs.Overwrite.{sets-append}}
 use Rattle.mesh.specs.Image.{word, link-bytes}
-use Rattle.lists.proofs.Overwrite.{sets-append}
 use Rattle.image_writer.proofs.writer.put_link.Statement.{statement}
 use Rattle.image_writer.proofs.writer.put_link.Tie as tie
 
@@ -19,6 +14,4 @@ returns c =
     ∙ sym (sets-append (call .part .now) (call .at) (word (call .a)) (word (call .b)))
 
 pub put-link-spec : {M : Type 1} → statement M
-put-link-spec =
-    tie.close (
-    tie.spec (λ c κs. search needs) (λ c. search needs) (λ c κs. search needs) (λ c. search needs) returns)
+put-link-spec = tie.close (tie.spec (λ c κs. search needs) (λ c. search needs) (λ c κs. search needs) (λ c. search needs) returns)

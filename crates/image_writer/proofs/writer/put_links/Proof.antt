@@ -1,14 +1,10 @@
 -- `writer::put_links` meets its contract: what the cursor leaves of its row first; where nothing of that is left, the rows after it.
-use mathlib.Core.Path.{refl, _∙_}
-use mathlib.Core.Logic.{inl}
-use native.Mathlib.Omega.{arith}
-use borrow.Author.Needs.{needs}
-use Rattle.image_writer.proofs.LinksPut.{left-stop-as, left-turn-as, row-none, row-full}
-use Rattle.image_writer.proofs.writer.put_links.Statement.{statement}
-use Rattle.image_writer.proofs.writer.put_links.Tie as tie
+use Rattle.lists.specs.Kit.{_∙_, inl, arith, needs}
+use Rattle.image_writer.proofs.{LinksPut.{left-stop-as, left-turn-as, row-none, row-full}, writer.put_links.{Statement.{statement}, Tie.{close, spec}}}
 
-put-row-requires : tie.Need-put-row-requires
-put-row-requires c κs =
+pub put-links-spec : {M : Type 1} → statement M
+put-links-spec = close (spec
+    (λ c κs.
     let start = c .before .before .before in
     let rows = start .pre .5 in (
       start .pre .0,
@@ -16,10 +12,9 @@ put-row-requires c κs =
       start .pre .3,
       start .pre .4,
       (omega (arith, start .pre .2, rows .0), omega (arith, start .pre .2, rows .1)),
-    )
-
-returns : tie.Need-returns
-returns c =
+    ))
+    (λ c. search needs)
+    (λ c.
     let put = c .before .before .before .before in
     let start = put .before .before .before .before in
     let went = put .put-row .ensures .1 in (
@@ -29,29 +24,22 @@ returns c =
         small = went .1 .small;
         either = inl (omega (arith, went .1 .same, start .pre .2), c .if1 .taken, row-full _ _ _ _ _ _ (went .0) (c .if1 .taken));
       },
-    )
-
-put-rows-requires : tie.Need-put-rows-requires
-put-rows-requires c κs =
+    ))
+    (λ c. search needs)
+    (λ c κs.
     let put = c .before .before .before .before .before .before in
     let start = put .before .before .before .before in (
       put .put-row .kept .0 ∙ start .pre .0,
       (omega (arith, start .pre .1, put .put-row .ensures .0 .place), put .put-row .ensures .0 .within),
       omega (arith, start .pre .2),
       start .pre .5,
-    )
-
-returns-2 : tie.Need-returns-2
-returns-2 c =
+    ))
+    (λ c. search needs)
+    (λ c.
     let rows = c .before .before in
     let put = rows .before .before .before .before .before .before .before in
     let start = put .before .before .before .before in (
       left-turn-as _ _ _ _ _ _ (start .pre .1) _ _ _ (put .put-row .ensures .0)
           (row-none _ _ _ _ _ _ (put .put-row .ensures .1 .0) (rows .before .before .before .if1 .left)) _ _ _ (rows .put-rows .ensures .0),
       rows .put-rows .ensures .1,
-    )
-
-pub put-links-spec : {M : Type 1} → statement M
-put-links-spec =
-    tie.close (
-    tie.spec put-row-requires (λ c. search needs) returns (λ c. search needs) put-rows-requires (λ c. search needs) returns-2)
+    )))

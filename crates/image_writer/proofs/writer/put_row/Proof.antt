@@ -1,43 +1,30 @@
 -- `writer::put_row` meets its contract: the cursor's word first; where nothing of it is left, the words after it.
-use mathlib.Core.Path.{refl, _∙_}
-use mathlib.Core.Logic.{inr}
-use native.Mathlib.Omega.{arith}
-use borrow.Author.Needs.{needs}
-use Rattle.image_writer.proofs.LinksPut.{row-stop, row-turn, full-of}
-use Rattle.image_writer.proofs.writer.put_row.Statement.{statement}
-use Rattle.image_writer.proofs.writer.put_row.Tie as tie
+use Rattle.lists.specs.Kit.{refl, _∙_, inr, arith, needs}
+use Rattle.image_writer.proofs.{LinksPut.{row-stop, row-turn, full-of}, writer.put_row.{Statement.{statement}, Tie.{close, spec}}}
 
-put-bits-requires : tie.Need-put-bits-requires
-put-bits-requires c κs = let start = c .before .before .before in (start .pre .0, start .pre .1, start .pre .3)
-
-returns : tie.Need-returns
-returns c =
+pub put-row-spec : {M : Type 1} → statement M
+put-row-spec = close (spec (λ c κs. let start = c .before .before .before in (start .pre .0, start .pre .1, start .pre .3)) (λ c. search needs)
+    (λ c.
     let put = c .before .before .before .before in
     let start = put .before .before .before .before in (
       row-stop (start .args .links .now) _ (start .args .c .k) _ _ _ (put .put-bits .ensures .0),
       (inr (c .if1 .taken, full-of (put .put-bits .ensures .1) (c .if1 .taken)), record { same = refl; low = start .pre .2; small = start .pre .3 }),
-    )
-
-put-words-requires : tie.Need-put-words-requires
-put-words-requires c κs =
+    ))
+    (λ c. search needs)
+    (λ c κs.
     let put = c .before .before .before .before .before .before in
     let start = put .before .before .before .before in (
       put .put-bits .kept .0 ∙ start .pre .0,
       (omega (arith, start .pre .1 .0, put .put-bits .ensures .0 .place), put .put-bits .ensures .0 .within),
       omega (arith, start .pre .2),
       start .pre .4,
-    )
-
-returns-2 : tie.Need-returns-2
-returns-2 c =
+    ))
+    (λ c. search needs)
+    (λ c.
     let words = c .before .before in
     let put = words .before .before .before .before .before .before .before in
     let start = put .before .before .before .before in (
-      row-turn (start .args .links .now) _ (start .args .c .k) _ _ _ (put .put-bits .ensures .0) (words .before .before .before .if1 .left) _ _ _ (words .put-words .ensures .0),
+      row-turn (start .args .links .now) _ (start .args .c .k) _ _ _ (put .put-bits .ensures .0) (words .before .before .before .if1 .left) _ _ _
+          (words .put-words .ensures .0),
       words .put-words .ensures .1,
-    )
-
-pub put-row-spec : {M : Type 1} → statement M
-put-row-spec =
-    tie.close (
-    tie.spec put-bits-requires (λ c. search needs) returns (λ c. search needs) put-words-requires (λ c. search needs) returns-2)
+    )))

@@ -1,33 +1,17 @@
 -- `writer::put_rows` meets its contract: what is put so far leaves the links of the rows from a on. The measure is the rows left.
-use mathlib.Core.Path.{_≡_, refl, _∙_}
-use mathlib.Core.Logic.{inl, inr}
-use Prim.Native.Nat.{_-_, _%_, _≤_}
-use native.Mathlib.Omega.{arith}
-use lib.ListN.{length}
-use borrow.Author.Needs.{needs}
+use Rattle.lists.specs.Kit.{_≡_, refl, _∙_, inl, inr, _-_, _%_, _≤_, arith, length, needs}
 use Rattle.rows.specs.Links.{links-from}
 use Rattle.image_writer.specs.Blocks.{Links-put}
 use Rattle.image_writer.proofs.LinksPut.{put-none, rows-stop-as, rows-turn-as, rows-end, links-left-end, row-none, row-full}
-use Rattle.image_writer.proofs.writer.put_rows.Statement.{statement}
-use Rattle.image_writer.proofs.writer.put_rows.Tie as tie
+use Rattle.image_writer.proofs.writer.put_rows.{Statement.{statement}, Tie.{close, spec}}
 
-abbrev Inv-loop : tie.InvT-loop
-Inv-loop part₀ from n links first at₀ a₀ part at a =
-    (a ≤ n) × (at % 4 ≡ 0) × (length part ≡ length part₀) × Links-put (links-from n links first 0) from part₀ part at (links-from n links a 0)
-
-abbrev μ-loop : tie.MeasureT-loop
-μ-loop part₀ from n links first at₀ a₀ part at a = n - a
-
-loop-holds : tie.Need-loop-holds Inv-loop μ-loop
-loop-holds c =
-    let start = c .before .before in (start .pre .2, start .pre .1 .0, refl, put-none _ _ _ (start .pre .1 .1))
-
-row-start-requires : tie.Need-row-start-requires Inv-loop μ-loop
-row-start-requires c κs =
-    let start = c .before .before .before .before .before in (omega (arith, start .pre .3 .0), omega (arith, start .pre .3 .1))
-
-put-row-requires : tie.Need-put-row-requires Inv-loop μ-loop
-put-row-requires c κs =
+pub put-rows-spec : {M : Type 1} → statement M
+put-rows-spec = close (spec
+    (λ part₀ from n links first _ _ part at a. (a ≤ n) × (at % 4 ≡ 0) × (length part ≡ length part₀) × Links-put (links-from n links first 0) from part₀ part at
+    (links-from n links a 0))
+    (λ _ _ n _ _ _ _ _ _ a. n - a) (λ c. let start = c .before .before in (start .pre .2, start .pre .1 .0, refl, put-none _ _ _ (start .pre .1 .1)))
+    (λ c κs. let start = c .before .before .before .before .before in (omega (arith, start .pre .3 .0), omega (arith, start .pre .3 .1)))
+    (λ c κs.
     let at-loop = c .before .before .before in
     let start = at-loop .before .before .before in
     let inv = at-loop .loop .inv in
@@ -37,25 +21,29 @@ put-row-requires c κs =
       begun .2,
       begun .3,
       (omega (arith, begun .1, start .pre .3 .0), omega (arith, begun .1, start .pre .3 .1)),
-    )
-
-returns : tie.Need-returns Inv-loop μ-loop
-returns c =
+    ))
+    (λ c. c .before .before .before .before .put-row .kept .0 ∙ c .before .before .before .before .before .before .before .before .loop .inv .2)
+    (λ c.
     let put = c .before .before .before .before in
     let at-loop = put .before .before .before .before in
     let begun = put .before .row-start .ensures in
     let went = put .put-row .ensures .1 in (
-      rows-stop-as _ _ _ (put .before .before .before .loop-test .taken) (at-loop .loop .inv .3) _ _ _ (begun .0) (begun .1) _ _ _ (put .put-row .ensures .0) _
+      rows-stop-as _ _ _ (put .before .before .before .loop-test .taken) (at-loop .loop .inv .3) _ _ _ (begun .0) (begun .1) _ _ _ (put .put-row .ensures .0)
+          _
           (went .1 .same),
       record {
         low = went .1 .low;
         small = went .1 .small;
-        either = inl (omega (arith, went .1 .same, begun .1 .1, put .before .before .before .loop-test .taken), c .if1 .taken, row-full _ _ _ _ _ _ (went .0) (c .if1 .taken));
+        either = inl (
+          omega (arith, went .1 .same, begun .1 .1, put .before .before .before .loop-test .taken),
+          c .if1 .taken,
+          row-full _ _ _ _ _ _ (went .0)
+              (c .if1 .taken),
+        );
       },
-    )
-
-loop-again : tie.Need-loop-again Inv-loop μ-loop
-loop-again c =
+    ))
+    (λ c. search needs) (λ c. search needs)
+    (λ c.
     let put = c .before .before .before .before in
     let at-loop = put .before .before .before .before in
     let inv = at-loop .loop .inv in
@@ -65,18 +53,18 @@ loop-again c =
       put .put-row .kept .0 ∙ inv .2,
       rows-turn-as _ _ _ (put .before .before .before .loop-test .taken) (inv .3) _ _ _ (begun .0) (begun .1) _ _ _ (put .put-row .ensures .0)
           (row-none _ _ _ _ _ _ (put .put-row .ensures .1 .0) (c .if1 .left)),
-    )
-
-returns-2 : tie.Need-returns-2 Inv-loop μ-loop
-returns-2 c =
+    ))
+    (λ c. search needs) (λ c. c .before .loop .inv .2)
+    (λ c.
     let start = c .before .before .before .before in (
       rows-end (start .args .n) (start .args .links .now) (c .before .loop .a) (c .loop-test .left) (c .before .loop .inv .3),
-      record { low = omega arith; small = omega arith; either = inr (omega arith, links-left-end (start .args .n) (start .args .links .now) (start .args .n) 0 (omega arith)) },
-    )
-
-pub put-rows-spec : {M : Type 1} → statement M
-put-rows-spec =
-    tie.close (
-    tie.spec Inv-loop μ-loop loop-holds row-start-requires put-row-requires
-    (λ c. c .before .before .before .before .put-row .kept .0 ∙ c .before .before .before .before .before .before .before .before .loop .inv .2) returns (λ c. search needs)
-    (λ c. search needs) loop-again (λ c. search needs) (λ c. c .before .loop .inv .2) returns-2)
+      record {
+        low = omega arith;
+        small = omega arith;
+        either = inr (
+          omega arith,
+          links-left-end (start .args .n) (start .args .links .now) (start .args .n) 0
+              (omega arith),
+        );
+      },
+    )))

@@ -1,8 +1,5 @@
 -- `writer::put_word` meets its contract: two stores, one after the other.
-use native.Mathlib.Omega.{arith}
-use native.Mathlib.Numerals.{add-one}
-use lib.ListN.{length-set}
-use borrow.Author.Needs.{needs}
+use Rattle.lists.specs.Kit.{arith, add-one, length-set, needs}
 use Rattle.mesh.specs.Image.{word}
 use Rattle.image_writer.proofs.writer.put_word.Statement.{statement}
 use Rattle.image_writer.proofs.writer.put_word.Tie as tie
@@ -12,6 +9,5 @@ unfolding word
 returns c = rw add-one
 
 pub put-word-spec : {M : Type 1} → statement M
-put-word-spec =
-    tie.close (
-    tie.spec (λ c. search needs) (λ c. search needs) (λ c. search needs) (λ c. search needs) (λ c. simp length-set (omega arith)) (λ c. search needs) returns)
+put-word-spec = tie.close (tie.spec (λ c. search needs) (λ c. search needs) (λ c. search needs) (λ c. search needs) (λ c. simp length-set (omega arith))
+    (λ c. search needs) returns)

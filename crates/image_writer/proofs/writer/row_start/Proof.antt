@@ -1,21 +1,14 @@
 -- `writer::row_start` meets its contract: what is left of the row's own word above the radio, and the words after it, are the radios above.
-use mathlib.Core.Path.{refl, sym, _∙_}
-use native.Mathlib.Omega.{arith}
-use borrow.Author.Needs.{needs}
-use Rattle.image_writer.proofs.LinksPut.{row-left-is, links-row}
-use Rattle.image_writer.proofs.writer.row_start.Statement.{statement}
-use Rattle.image_writer.proofs.writer.row_start.Tie as tie
-
-row-word-requires : tie.Need-row-word-requires
-row-word-requires c κs = let start = c .before in (start .pre .0, omega (arith, start .pre .0), start .pre .1)
-
-returns : tie.Need-returns
-returns c =
-    let start = c .before .before in (
-      row-left-is (start .args .links .now) (start .args .a) _ _ _
-          ∙ sym (links-row (start .args .links .now) (λ j. c .before .shared-slice-known .given j .fits) (start .args .a) _ _ (start .pre .0) (start .pre .1) (c .row-word .ensures) refl),
-      (refl, refl, omega (arith, start .pre .0), omega (arith, start .pre .0)),
-    )
+use Rattle.lists.specs.Kit.{refl, sym, _∙_, arith, needs}
+use Rattle.image_writer.proofs.{LinksPut.{row-left-is, links-row}, writer.row_start.{Statement.{statement}, Tie.{close, spec}}}
 
 pub row-start-spec : {M : Type 1} → statement M
-row-start-spec = tie.close (tie.spec (λ c. search needs) row-word-requires (λ c. search needs) (λ c. search needs) returns)
+row-start-spec = close (spec (λ c. search needs) (λ c κs. let start = c .before in (start .pre .0, omega (arith, start .pre .0), start .pre .1))
+    (λ c. search needs) (λ c. search needs)
+    (λ c.
+    let start = c .before .before in (
+      row-left-is (start .args .links .now) (start .args .a) _ _ _
+          ∙ sym (links-row (start .args .links .now) (λ j. c .before .shared-slice-known .given j .fits) (start .args .a) _ _ (start .pre .0) (start .pre .1)
+          (c .row-word .ensures) refl),
+      (refl, refl, omega (arith, start .pre .0), omega (arith, start .pre .0)),
+    )))

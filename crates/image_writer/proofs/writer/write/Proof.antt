@@ -1,15 +1,9 @@
 -- `writer::write` meets its contract: a refusal touches nothing; accepted, the blocks of links are filled in, and then the ones before them.
-use mathlib.Core.Path.{refl, sym, ap, _∙_}
-use Prim.Native.Nat.{ℕ, _+_}
-use native.Mathlib.Omega.{arith}
-use borrow.Author.Needs.{needs}
-use borrow.Author.Tests.{leb-true, leb-false, not-true, not-false}
-use Rattle.mesh.specs.Tables.{Tables, tables}
-use Rattle.mesh.specs.Image.{block-count, order-blocks, blocks-for}
+use Rattle.lists.specs.Kit.{refl, sym, ap, _∙_, ℕ, _+_, arith, needs, leb-true, leb-false, not-true, not-false}
+use Rattle.mesh.specs.{Tables.{Tables, tables}, Image.{order-blocks, blocks-for}}
 use Rattle.calls.specs.Questions.{lengths-of}
-use Rattle.image_writer.proofs.WriteLaws.{write-refused, write-small, write-order, write-rows, write-most, write-no-room}
-use Rattle.image_writer.proofs.WriteLaws.{write-fit, write-length, write-done}
-use Rattle.image_writer.proofs.writer.write.Statement.{statement}
+use Rattle.image_writer.proofs.{WriteLaws.{write-refused, write-small, write-order, write-rows, write-most, write-no-room, write-fit, write-length}}
+use Rattle.image_writer.proofs.{WriteLaws.{write-done}, writer.write.Statement.{statement}}
 use Rattle.image_writer.proofs.writer.write.Tie as tie
 
 returns : tie.Need-returns
@@ -110,7 +104,5 @@ returns-3 c =
     write-done (s .n) t (s .buffer .now) good _ first-is fits _ _ _ (linked .fill-link-blocks .ensures) _ (filled .fill-blocks .ensures)
 
 pub write-spec : {M : Type 1} → statement M
-write-spec =
-    tie.close (
-    tie.spec (λ c κs. search needs) returns has-room-requires returns-2 (λ c κs. search needs) add-first fill-link-blocks-requires
+write-spec = tie.close (tie.spec (λ c κs. search needs) returns has-room-requires returns-2 (λ c κs. search needs) add-first fill-link-blocks-requires
     fill-blocks-requires (λ c. search needs) mul-t18 (λ c. search needs) returns-3)

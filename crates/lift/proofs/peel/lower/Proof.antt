@@ -1,58 +1,24 @@
--- `peel::lower` meets its contract: the listed radios from place i on are left (`Lowering`). The measure is the radios that are left.
-use mathlib.Core.Path.{_≡_, sym, _∙_}
-use Prim.Native.Nat.{_-_}
-use native.Mathlib.Omega.{arith}
-use lib.ListN.{take, getD}
-use lib.Seq.{length-take-le, getD-take}
-use borrow.Author.Needs.{needs}
-use Rattle.lift.proofs.PeelLaws.{Lowering, lowering-none, lowering-turn, lowering-end}
-use Rattle.lift.proofs.peel.lower.Statement.{statement}
-use Rattle.lift.proofs.peel.lower.Tie as tie
-
-abbrev Inv-loop : tie.InvT-loop
-Inv-loop near k level a held counters₀ due₀ i₀ counters due i = Lowering level a held (take k near) counters₀ due₀ i counters due
-
-abbrev μ-loop : tie.MeasureT-loop
-μ-loop near k level a held counters₀ due₀ i₀ counters due i = k - i
-
-loop-holds : tie.Need-loop-holds Inv-loop μ-loop
-loop-holds c = lowering-none _ _ _ _ _ _ (c .before .before .before .before .pre .1)
-
-lower-one-requires : tie.Need-lower-one-requires Inv-loop μ-loop
-lower-one-requires c κs =
-    let at-loop = c .before .before .before .before in
-    let start = c .before .before .before .before .before .before .before .before .before in
-    let call = start .args in
-    let i = at-loop .loop .i in
-    let at : getD (take (call .k) (call .near .now)) i 0 ≡ getD (call .near .now) i 0 = getD-take (call .k) (call .near .now) i 0 (omega arith) in
-    let below = start .pre .2 i (omega (arith, length-take-le (call .k) (call .near .now) (start .pre .0), c .before .before .before .loop-test .taken)) in
-    (omega (arith, at, below, start .pre .3, at-loop .loop .inv .long), omega (arith, at, below), at-loop .loop .inv .due-long ∙ start .pre .4)
-
-loop-again : tie.Need-loop-again Inv-loop μ-loop
-loop-again c =
-    let at-loop = c .before .before .before .before .before .before .before .before .before in
-    let start = c .before .before .before .before .before .before .before .before .before .before .before .before .before .before in
-    let call = start .args in
-    let i = at-loop .loop .i in
-    lowering-turn _ _ _ _ _ _ i (getD (call .near .now) i 0) _ _ _ _
-    (omega (
-      arith,
-      length-take-le (call .k) (call .near .now)
-          (start .pre .0),
-      c .before .before .before .before .before .before .before .before .loop-test .taken,
-    ))
-    (sym (getD-take (call .k) (call .near .now) i 0 (omega arith))) (c .before .before .before .before .lower-one .ensures) (at-loop .loop .inv)
-
-returns : tie.Need-returns Inv-loop μ-loop
-returns c =
-    let start = c .before .before .before .before .before .before in
-    let call = start .args in
-    lowering-end _ _ _ _ _ _ (c .before .loop .i) _ _ (omega (arith, length-take-le (call .k) (call .near .now) (start .pre .0), c .loop-test .left))
-    (c .before .loop .inv)
+-- `peel::lower` meets its contract: the words before word k are done (`Words-lowering`). The measure is the words that are left.
+use Rattle.lists.specs.Kit.{_∙_, _-_, arith, needs}
+use Rattle.lift.proofs.{PeelLaws.{Words-lowering, words-none, words-turn, words-over}, peel.lower.{Statement.{statement}, Tie.{close, spec}}}
 
 pub lower-spec : {M : Type 1} → statement M
-lower-spec =
-    tie.close (
-    tie.spec Inv-loop μ-loop loop-holds (λ c. search needs) (λ c. search needs)
-    (λ c. omega (arith, c .shared-slice-known3 .given (c .before .before .loop .i))) lower-one-requires (λ c. search needs)
-    (λ c. search needs) loop-again (λ c. c .before .loop .inv .long) (λ c. c .before .loop .inv .due-long) returns)
+lower-spec = close (spec
+    (λ near stay level a held counters₀ due₀ _ counters due k. Words-lowering level a held near stay counters₀ due₀ k counters due)
+    (λ _ _ _ _ _ _ _ _ _ _ k. 8 - k) (λ c. words-none _ _ _ _ _ _ _) (λ c. search needs) (λ c. search needs)
+    (λ c. omega (arith, c .before .loop-test .taken, c .before .before .before .before .before .before .before .before .pre .0)) (λ c. search needs)
+    (λ c. omega (arith, c .before .before .loop-test .taken, c .before .before .before .before .before .before .before .before .before .pre .1))
+    (λ c. search needs)
+    (λ c κs.
+    let at-loop = c .before .before .before .before .before in
+    let start = at-loop .before .before .before .before .before .before in
+    let h = at-loop .loop .inv in
+    (omega (arith, c .before .before .before .before .loop-test .taken), h .lowering .long ∙ start .pre .2, h .lowering .due-long ∙ start .pre .3))
+    (λ c. search needs) (λ c. search needs)
+    (λ c.
+    let done = c .before .before .before .before in
+    let test = done .before .before .before .before .before in
+    let at-loop = test .before in
+    words-turn _ _ _ _ _ _ _ (at-loop .loop .k) _ _ _ _ (test .loop-test .taken) (at-loop .loop .inv) (done .lower-word .ensures))
+    (λ c. c .before .loop .inv .lowering .long) (λ c. c .before .loop .inv .lowering .due-long)
+    (λ c. words-over _ _ _ _ _ _ _ (c .before .loop .k) _ _ (c .loop-test .left) (c .before .loop .inv)))

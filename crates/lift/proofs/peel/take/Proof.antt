@@ -1,64 +1,40 @@
--- `peel::take` meets its contract: its counter grows, the listed neighbours are the radio's own, and they are lowered (`state-takes`).
-use mathlib.Core.Path.{refl, sym, ap, subst, _∙_}
-use Prim.Native.Nat.{_+_}
-use native.Mathlib.Omega.{arith}
-use lib.ListN.{length, getD, replicate, length-set}
-use borrow.Author.Needs.{needs}
-use Rattle.lists.specs.Facts.{Distinct}
-use Rattle.lists.specs.Lists.{Entries-below}
-use Rattle.mesh.specs.Limits.{max-radios, max-neighbours}
-use Rattle.mesh.proofs.Tables.Laws.{length-put-bit}
-use Rattle.rows.proofs.RowListLaws.{distinct-neighbours-of}
-use Rattle.lift.proofs.PeelSteps.{own-radio, own-small, own-long, row-taken, neighbours-below, state-takes, state-fewer}
-use Rattle.lift.proofs.peel.take.Statement.{statement}
-use Rattle.lift.proofs.peel.take.Tie as tie
-
-add-counters : tie.Need-add-counters
-add-counters c =
-    let start = c .before .before .before .before .before .before .before .before .before in
-    let small = own-small _ _ _ _ _ _ (start .pre .0) (start .pre .1) _ (start .pre .2) (start .pre .3) in
-    record { fits = omega (arith, small) }
-
-lower-requires : tie.Need-lower-requires
-lower-requires c κs =
-    let start = c .before .before .before .before .before .before .before .before .before .before .before .before .before .before .before in
-    let links = start .args .links .now in
-    let v = start .args .v in
-    let radio = own-radio _ _ _ _ _ _ (start .pre .0) (start .pre .1) _ (start .pre .2) (start .pre .3) in
-    let listed = c .before .before .before .before .row-neighbours .ensures in
-    let near = row-taken links (start .pre .0) v _ (replicate max-neighbours 0) _ radio refl (listed .0) (listed .1) (search needs) in (
-      near .0,
-      subst Distinct (sym (near .1)) (distinct-neighbours-of links v),
-      subst (Entries-below max-radios) (sym (near .1)) (neighbours-below links (start .pre .0) v),
-      own-long _ _ _ _ _ _ (start .pre .0) (start .pre .1) _ (start .pre .2) (start .pre .3),
-      ap length (c .before .before .before .before .before .before .before .before .before .put-bit .ensures) ∙ length-put-bit _ _ _ _
-          ∙ start .pre .1 .due-long,
-    )
-
-same-length : tie.Need-same-length
-same-length c =
-    let call = c .before .before .before .before .before .before .before .before .before .before .before .before .before .before .before .before .before
-    .before .before .before .args in
-    c .before .before .before .before .lower .ensures .long ∙ length-set (call .counters .now) (call .v) (getD (call .counters .now) (call .v) 0 + 128)
-
-returns : tie.Need-returns
-returns c =
-    let start = c .before .before .before .before .before .before .before .before .before .before .before .before .before .before .before .before .before
-    .before .before .before in
-    let links = start .args .links .now in
-    let radio = own-radio _ _ _ _ _ _ (start .pre .0) (start .pre .1) _ (start .pre .2) (start .pre .3) in
-    let listed = c .before .before .before .before .before .before .before .before .before .row-neighbours .ensures in
-    let near = row-taken links (start .pre .0) (start .args .v) _ (replicate max-neighbours 0) _ radio refl (listed .0) (listed .1) (search needs) in (
-      state-takes _ _ _ _ _ _ (start .pre .0) (start .pre .1) _ (start .pre .2) (start .pre .3) _ _ _ _
-          (c .before .before .before .before .before .before .before .before .before .before .before .before .before .before .put-bit .ensures) (near .1)
-          (c .before .before .before .before .lower .ensures),
-      state-fewer _ _ _ _ _ _ (start .pre .0) (start .pre .1) _ (start .pre .2) (start .pre .3) _ _ _ _
-          (c .before .before .before .before .before .before .before .before .before .before .before .before .before .before .put-bit .ensures) (near .1)
-          (c .before .before .before .before .lower .ensures),
-    )
+-- `peel::take` meets its contract: its counter grows, its row is put into a set, and of the row the radios that are left are lowered (`state-takes`).
+use Rattle.lists.specs.Kit.{ap, _∙_, _+_, arith, length, getD, length-set, needs}
+use Rattle.mesh.{proofs.Tables.Laws.{length-put-bit}}
+use Rattle.rows.proofs.SetLaws.{length-take-out}
+use Rattle.lift.proofs.{PeelSteps.{own-small, own-long, state-takes, state-fewer}, peel.take.{Statement.{statement}, Tie.{close, spec}}}
 
 pub take-spec : {M : Type 1} → statement M
-take-spec =
-    tie.close (
-    tie.spec (λ c κs. search needs) (λ c. search needs) add-counters (λ c. search needs) (λ c. search needs) (λ c κs. search needs) (λ c. search needs)
-    (λ c. search needs) lower-requires same-length (λ c. search needs) returns)
+take-spec = close (spec (λ c κs. search needs) (λ c κs. search needs) (λ c. search needs)
+    (λ c.
+    let start = c .before .before .before .before .before .before .before .before .before .before .before .before .before .before in
+    let small = own-small _ _ _ _ _ _ _ (start .pre .0) (start .pre .1) _ (start .pre .2) (start .pre .3) in
+    record { fits = omega (arith, small) })
+    (λ c. search needs) (λ c. search needs) (λ c κs. search needs) (λ c. search needs)
+    (λ c κs.
+    let out = c .before .before .before .before .before .before .before .before .before .before in
+    let due-out = out .before .before .before .before in
+    let start = due-out .before .before .before .before .before .before .before in (
+      search needs,
+      ap length (out .take-out .ensures) ∙ length-take-out _ _ ∙ start .pre .1 .stay-long,
+      own-long _ _ _ _ _ _ _ (start .pre .0) (start .pre .1) _ (start .pre .2) (start .pre .3),
+      ap length (due-out .put-bit .ensures) ∙ length-put-bit _ _ _ _ ∙ start .pre .1 .due-long,
+    ))
+    (λ c. search needs)
+    (λ c.
+    let lowered = c .before .before .before .before in
+    let out = lowered .before .before .before .before .before .before .before .before .before .before .before in
+    let call = out .before .before .before .before .before .before .before .before .before .before .before .args in
+    lowered .lower .ensures .long ∙ length-set (call .counters .now) (call .v) (getD (call .counters .now) (call .v) 0 + 128))
+    (λ c. search needs)
+    (λ c.
+    let lowered = c .before .before .before .before in
+    let joined = lowered .before .before .before .before .before .before in
+    let out = joined .before .before .before .before .before in
+    let due-out = out .before .before .before .before in
+    let start = due-out .before .before .before .before .before .before .before in (
+      state-takes _ _ _ _ _ _ _ (start .pre .0) (start .pre .1) _ (start .pre .2) (start .pre .3) _ _ _ _ _ (due-out .put-bit .ensures)
+          (out .take-out .ensures) (joined .join-row .ensures) (lowered .lower .ensures),
+      state-fewer _ _ _ _ _ _ _ (start .pre .0) (start .pre .1) _ (start .pre .2) (start .pre .3) _ _ _ _ _ (due-out .put-bit .ensures)
+          (out .take-out .ensures) (joined .join-row .ensures) (lowered .lower .ensures),
+    )))

@@ -1,38 +1,25 @@
 -- `search::mark_ends` meets its contract: the radios below c are marked where the pair may lift (`Marking`). The measure is the radios left.
-use mathlib.Core.Path.{_∙_, ap}
-use mathlib.Core.Bool.{Bool}
-use Prim.Native.Nat.{_-_, _≤_}
-use native.Mathlib.Omega.{arith}
-use lib.ListN.{length}
+use Rattle.lists.specs.Kit.{_∙_, ap, Bool, _-_, _≤_, arith, length, needs}
 use Rattle.mesh.specs.Tables.{put-bit}
 use Rattle.lift.specs.Search.{may-lift}
-use Rattle.lift.proofs.PeelLaws.{Marking, marking-none, marking-turn}
-use borrow.Author.Needs.{needs}
-use Rattle.lift.proofs.search.mark_ends.Statement.{statement}
-use Rattle.lift.proofs.search.mark_ends.Tie as tie
+use Rattle.lift.proofs.{PeelLaws.{Marking, marking-none, marking-turn}, search.mark_ends.{Statement.{statement}, Tie.{close, spec}}}
 
-abbrev Inv-loop : tie.InvT-loop
-Inv-loop a links numbers places free tight untried₀ c₀ untried c = Marking (may-lift a links places free tight) untried₀ c untried × (c ≤ length numbers)
-
-abbrev μ-loop : tie.MeasureT-loop
-μ-loop a links numbers places free tight untried₀ c₀ untried c = length numbers - c
-
-loop-holds : tie.Need-loop-holds Inv-loop μ-loop
-loop-holds c = (marking-none _ _ (c .before .before .before .before .before .before .pre .1), omega arith)
-
-may-lift-requires : tie.Need-may-lift-requires Inv-loop μ-loop
-may-lift-requires c κs = (
-  omega (
-    arith,
-    c .before .before .before .before .before .before .before .before .before .pre .2,
-    c .before .before .before .before .before .before .before
-        .before .before .pre .3,
-  ),
-  omega (arith, c .before .loop-test .taken, c .before .before .before .before .before .before .before .before .before .pre .3),
-)
-
-loop-again : tie.Need-loop-again Inv-loop μ-loop
-loop-again c =
+pub mark-ends-spec : {M : Type 1} → statement M
+mark-ends-spec = close (spec
+    (λ a links numbers places free tight untried₀ _ untried c. Marking (may-lift a links places free tight) untried₀ c untried × (c ≤ length numbers))
+    (λ _ _ numbers _ _ _ _ _ _ c. length numbers - c) (λ c. (marking-none _ _ (c .before .before .before .before .before .before .pre .1), omega arith))
+    (λ c. search needs)
+    (λ c κs. (
+      omega (
+        arith,
+        c .before .before .before .before .before .before .before .before .before .pre .2,
+        c .before .before .before .before .before .before .before
+            .before .before .pre .3,
+      ),
+      omega (arith, c .before .loop-test .taken, c .before .before .before .before .before .before .before .before .before .pre .3),
+    ))
+    (λ c. search needs) (λ c κs. search needs) (λ c. search needs) (λ c. search needs)
+    (λ c.
     let at-loop = c .before .before .before .before .before .before in
     let start = c .before .before .before .before .before .before .before .before .before .before .before .before .before in
     let v = at-loop .loop .c in (
@@ -40,19 +27,12 @@ loop-again c =
           (c .before .before .put-bit .ensures ∙ ap (λ (t : Bool). put-bit t 0 v (at-loop .loop .untried)) (c .before .before .before .may-lift .ensures))
           (at-loop .loop .inv .0),
       omega (arith, c .before .before .before .before .before .loop-test .taken),
-    )
-
-returns : tie.Need-returns Inv-loop μ-loop
-returns c =
+    ))
+    (λ c. c .before .loop .inv .0 .long)
+    (λ c.
     let inv = c .before .loop .inv in
     record {
       long = inv .0 .long;
       is = λ v l lv. inv .0 .is v (omega (arith, c .loop-test .left)) lv;
       other = λ v l lv. inv .0 .other v (omega (arith, inv .1)) lv;
-    }
-
-pub mark-ends-spec : {M : Type 1} → statement M
-mark-ends-spec =
-    tie.close (
-    tie.spec Inv-loop μ-loop loop-holds (λ c. search needs) may-lift-requires (λ c. search needs) (λ c κs. search needs) (λ c. search needs) (λ c. search needs)
-    loop-again (λ c. c .before .loop .inv .0 .long) returns)
+    }))

@@ -1,28 +1,14 @@
 -- `tries::rule_out` meets its contract: the radios below c are ruled out or stay (`Ruling`). The measure is the radios left.
-use mathlib.Core.Path.{_≡_, sym, _∙_}
-use mathlib.Core.Logic.{⊎-elim}
-use mathlib.Core.Bool.{false, cond}
-use Prim.Native.Nat.{_-_, _≤_}
-use native.Mathlib.Omega.{arith}
-use lib.ListN.{length}
-use Rattle.lists.proofs.Tests.{cond-true, cond-false}
+use Rattle.lists.{specs.Kit.{_≡_, sym, _∙_, ⊎-elim, false, cond, _-_, _≤_, arith, length, needs}, proofs.Tests.{cond-true, cond-false}}
 use Rattle.mesh.specs.Tables.{put-bit}
-use Rattle.lift.proofs.TryLaws.{Ruling, ruling-none, ruling-turn, ruling-end}
-use borrow.Author.Needs.{needs}
-use Rattle.lift.proofs.tries.rule_out.Statement.{statement}
-use Rattle.lift.proofs.tries.rule_out.Tie as tie
+use Rattle.lift.proofs.{TryLaws.{Ruling, ruling-none, ruling-turn, ruling-end}, tries.rule_out.{Statement.{statement}, Tie.{close, spec}}}
 
-abbrev Inv-loop : tie.InvT-loop
-Inv-loop level gone numbers counters untried₀ c₀ untried c = Ruling level gone numbers counters untried₀ c untried × (c ≤ length numbers)
-
-abbrev μ-loop : tie.MeasureT-loop
-μ-loop level gone numbers counters untried₀ c₀ untried c = length numbers - c
-
-loop-holds : tie.Need-loop-holds Inv-loop μ-loop
-loop-holds c = (ruling-none _ _ _ _ _ (c .before .before .before .pre .2), omega arith)
-
-loop-again : tie.Need-loop-again Inv-loop μ-loop
-loop-again c =
+pub rule-out-spec : {M : Type 1} → statement M
+rule-out-spec = close (spec
+    (λ level gone numbers counters untried₀ _ untried c. Ruling level gone numbers counters untried₀ c untried × (c ≤ length numbers))
+    (λ _ _ numbers _ _ _ _ c. length numbers - c) (λ c. (ruling-none _ _ _ _ _ (c .before .before .before .pre .2), omega arith)) (λ c. search needs)
+    (λ c κs. search needs) (λ c. search needs) (λ c κs. search needs) (λ c. search needs) (λ c. search needs)
+    (λ c.
     let at-loop = c .before .before .before in
     let start = c .before .before .before .before .before .before .before in
     let i = at-loop .loop .c in
@@ -32,17 +18,9 @@ loop-again c =
       ruling-turn _ _ _ _ _ (start .pre .2) i (test .result) _ _ (omega (arith, start .pre .0, c .before .before .loop-test .taken)) (test .ensures) new
           (at-loop .loop .inv .0),
       omega (arith, c .before .before .loop-test .taken),
-    )
-
-returns : tie.Need-returns Inv-loop μ-loop
-returns c =
+    ))
+    (λ c. c .before .loop .inv .0 .long)
+    (λ c.
     let at-loop = c .before in
     ruling-end _ _ _ _ _ (c .before .before .before .before .before .pre .2) (at-loop .loop .c) _ (omega
-    (arith, c .loop-test .left, at-loop .loop .inv .1)) (at-loop .loop .inv .0)
-
-pub rule-out-spec : {M : Type 1} → statement M
-rule-out-spec =
-    tie.close (
-    tie.spec Inv-loop μ-loop loop-holds (λ c. search needs) (λ c κs. search needs) (λ c. search needs) (λ c κs. search needs) (λ c. search needs)
-    (λ c. search needs)
-    loop-again (λ c. c .before .loop .inv .0 .long) returns)
+    (arith, c .loop-test .left, at-loop .loop .inv .1)) (at-loop .loop .inv .0)))

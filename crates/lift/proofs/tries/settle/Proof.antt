@@ -1,42 +1,40 @@
 -- `tries::settle` meets its contract: the peel shows that no pair of a lifts r (`settled-none`), or some untried radios are ruled out
 -- (`settled-some`).
-use mathlib.Core.Path.{_≡_, refl, sym, _∙_}
-use native.Mathlib.Omega.{arith}
-use borrow.Author.Needs.{needs}
-use borrow.Author.Tests.{not-true, not-false}
-use Rattle.lists.proofs.Tests.{never}
+use Rattle.lists.{specs.Kit.{refl, sym, _∙_, arith, needs, not-true, not-false}, proofs.Tests.{never}}
 use Rattle.lift.proofs.TrySteps.{site-links, site-small, settled-none, settled-some, ruled-fewer}
-use Rattle.lift.proofs.tries.settle.Statement.{statement}
-use Rattle.lift.proofs.tries.settle.Tie as tie
+use Rattle.lift.proofs.tries.settle.{Statement.{statement}, Tie.{close, spec}}
 
-peel-around-requires : tie.Need-peel-around-requires
-peel-around-requires c κs =
+pub settle-spec : {M : Type 1} → statement M
+settle-spec = close (spec (λ c. search needs)
+    (λ c κs.
     let start = c .before .before .before .before .before .before .before in
     let at = start .pre .4 in (
       site-links _ _ _ (start .pre .0 .site),
       record { base = at .base; kept = at .kept; stop-there = at .base .there },
       omega (arith, start .pre .2, site-small _ _ _ (start .pre .0 .site)),
-    )
-
-returns : tie.Need-returns
-returns c =
+    ))
+    (λ c. c .before .before .before .peel-around .ensures .long ∙ sym (c .before .before .before .before .before .before .before .before .before .before .before
+    .pre .4 .base .long))
+    (λ c. search needs)
+    (λ c.
     let start = c .before .before .before .before .before .before .before .before .before .before .before in
     let end = c .before .before .before .peel-around .ensures in (
       settled-none _ _ _ (start .pre .0 .site) (start .args .r) (start .pre .1) _ _ _ _ end (not-true _ (c .if1 .taken)) (start .pre .3),
       ((end .long, start .pre .3 .long), omega arith),
-    )
-
-rule-out-requires : tie.Need-rule-out-requires
-rule-out-requires c κs =
+    ))
+    (λ c κs.
     let start = c .before .before .before .before .before .before .before .before .before .before .before .before .before in (
       site-small _ _ _
           (start .pre .0 .site),
       c .before .before .before .before .before .peel-around .ensures .long,
       start .pre .3 .long,
-    )
-
-returns-2 : tie.Need-returns-2
-returns-2 c =
+    ))
+    (λ c κs. search needs)
+    (λ c. c .before .before .before .before .before .before .before .before .before .before .peel-around .ensures .long ∙ sym
+    (c .before .before .before .before .before .before .before .before .before .before .before .before .before .before .before .before .before .before .pre .4
+    .base .long))
+    (λ c. c .before .before .before .before .rule-out .ensures .long)
+    (λ c.
     let start = c .before .before .before .before .before .before .before .before .before .before .before .before .before .before .before .before .before
     .before in
     let end = c .before .before .before .before .before .before .before .before .before .before .peel-around .ensures in
@@ -49,15 +47,4 @@ returns-2 c =
         ruled-fewer _ _ _ (start .pre .0 .site) (start .args .r) (start .pre .1) _ _ (end .peeling) _
             (λ q. never _ q refl) _ _ (start .pre .3) ruled,
       ),
-    )
-
-pub settle-spec : {M : Type 1} → statement M
-settle-spec =
-    tie.close (
-    tie.spec (λ c. search needs) peel-around-requires (λ c. c .before .before .before .peel-around .ensures .long ∙ sym
-    (c .before .before .before .before .before .before .before .before .before .before .before .pre .4 .base .long)) (λ c. search needs) returns
-    rule-out-requires (λ c κs. search needs)
-    (λ c. c .before .before .before .before .before .before .before .before .before .before .peel-around .ensures .long ∙ sym
-    (c .before .before .before .before .before .before .before .before .before .before .before .before .before .before .before .before .before .before
-    .pre .4 .base .long))
-    (λ c. c .before .before .before .before .rule-out .ensures .long) returns-2)
+    )))

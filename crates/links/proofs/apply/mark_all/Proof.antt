@@ -1,13 +1,7 @@
 -- `apply::mark_all` meets its contract: what is left of the list marks the row to what the whole list marks it to.
 -- The measure is what is left of the list.
-use mathlib.Core.Bool.{true}
-use Prim.Native.Nat.{_-_}
-use native.Mathlib.Omega.{arith}
-use lib.ListN.{length}
-use borrow.Author.Needs.{needs}
-use Rattle.lists.proofs.Loops.{Folding, folding-none, folding-turn, folding-end, folding-long}
-use Rattle.mesh.specs.Tables.{put-bit}
-use Rattle.mesh.proofs.Tables.Laws.{length-put-bit}
+use Rattle.lists.{specs.Kit.{true, _-_, arith, length, needs}, proofs.Loops.{Folding, folding-none, folding-turn, folding-end, folding-long}}
+use Rattle.mesh.{specs.Tables.{put-bit}, proofs.Tables.Laws.{length-put-bit}}
 use Rattle.links.specs.Changes.{all-marked}
 use Rattle.links.proofs.apply.mark_all.Statement.{statement}
 use Rattle.links.proofs.apply.mark_all.Tie as tie
@@ -18,24 +12,16 @@ Inv-loop set₀ list i₀ set i = Folding (λ v now. put-bit true 0 v now) list 
 abbrev μ-loop : tie.MeasureT-loop
 μ-loop set₀ list i₀ set i = length list - i
 
-cast-put-bit : tie.Need-cast-put-bit Inv-loop μ-loop
-cast-put-bit c = omega (arith, c .shared-slice-known2 .given (c .before .before .before .loop .i))
-
-loop-again : tie.Need-loop-again Inv-loop μ-loop
-loop-again c =
-    let call = c .before .before .put-bit in
-    let at-loop = c .before .before .before .before .before .before in
-    folding-turn _ _ _ (at-loop .loop .set) _ (at-loop .loop .i) (at-loop .loop .inv) (c .before .before .before .before .before .loop-test .taken) (call .ensures)
-
-same-length : tie.Need-same-length Inv-loop μ-loop
-same-length c = folding-long _ (λ v now. length-put-bit true 0 v now) _ _ _ _ (c .before .loop .inv)
-
 returns : tie.Need-returns Inv-loop μ-loop
 unfolding all-marked
 returns c = folding-end _ _ _ _ _ (c .before .loop .inv) (c .loop-test .left)
 
 pub mark-all-spec : {M : Type 1} → statement M
-mark-all-spec =
-    tie.close (
-    tie.spec Inv-loop μ-loop (λ c. folding-none _ _ _) (λ c. search needs) (λ c. search needs) cast-put-bit (λ c κs. search needs) (λ c. search needs)
-    (λ c. search needs) loop-again same-length returns)
+mark-all-spec = tie.close (tie.spec Inv-loop μ-loop (λ c. folding-none _ _ _) (λ c. search needs) (λ c. search needs)
+    (λ c. omega (arith, c .shared-slice-known2 .given (c .before .before .before .loop .i))) (λ c κs. search needs) (λ c. search needs) (λ c. search needs)
+    (λ c.
+    let call = c .before .before .put-bit in
+    let at-loop = c .before .before .before .before .before .before in
+    folding-turn _ _ _ (at-loop .loop .set) _ (at-loop .loop .i) (at-loop .loop .inv) (c .before .before .before .before .before .loop-test .taken)
+    (call .ensures))
+    (λ c. folding-long _ (λ v now. length-put-bit true 0 v now) _ _ _ _ (c .before .loop .inv)) returns)

@@ -1,53 +1,27 @@
 -- `counts::join_all` meets its contract: what is left of the list brings the set to what the whole list brings it to (`Joining`). The
 -- measure is the radios that are left.
-use mathlib.Core.Path.{sym}
-use Prim.Native.Nat.{_-_}
-use native.Mathlib.Omega.{arith}
-use lib.ListN.{take}
-use lib.Seq.{length-take-le, getD-take}
-use borrow.Author.Needs.{needs}
-use Rattle.links.proofs.CountLaws.{Joining, joining-none, joining-turn, joining-end}
-use Rattle.links.proofs.counts.join_all.Statement.{statement}
-use Rattle.links.proofs.counts.join_all.Tie as tie
+use Rattle.lists.specs.Kit.{sym, _-_, arith, take, length-take-le, getD-take, needs}
+use Rattle.links.proofs.{CountLaws.{Joining, joining-none, joining-turn, joining-end}, counts.join_all.{Statement.{statement}, Tie.{close, spec}}}
 
-abbrev Inv-loop : tie.InvT-loop
-Inv-loop list k links set₀ i₀ set i = Joining links (take k list) set₀ i set
-
-abbrev μ-loop : tie.MeasureT-loop
-μ-loop list k links set₀ i₀ set i = k - i
-
-loop-holds : tie.Need-loop-holds Inv-loop μ-loop
-loop-holds c = joining-none _ _ _ (c .before .before .pre .1)
-
-shared-slice-read-join-around : tie.Need-shared-slice-read-join-around Inv-loop μ-loop
-shared-slice-read-join-around c = omega (arith, c .before .before .before .before .before .pre .0, c .before .loop-test .taken)
-
-cast-join-around : tie.Need-cast-join-around Inv-loop μ-loop
-cast-join-around c = omega (arith, c .shared-slice-known3 .given (c .before .before .loop .i))
-
-join-around-requires : tie.Need-join-around-requires Inv-loop μ-loop
-join-around-requires c κs =
+pub join-all-spec : {M : Type 1} → statement M
+join-all-spec = close (spec (λ list k links set₀ _ set i. Joining links (take k list) set₀ i set) (λ _ k _ _ _ _ i. k - i)
+    (λ c. joining-none _ _ _ (c .before .before .pre .1)) (λ c. search needs)
+    (λ c. omega (arith, c .before .before .before .before .before .pre .0, c .before .loop-test .taken))
+    (λ c. omega (arith, c .shared-slice-known3 .given (c .before .before .loop .i)))
+    (λ c κs.
     let at-loop = c .before .before .before in
     let start = at-loop .before .before .before in
     let asked = start .pre .2 (at-loop .loop .i) (c .before .before .loop-test .taken) in
-    (asked .0, asked .1, at-loop .loop .inv .1)
-
-loop-again : tie.Need-loop-again Inv-loop μ-loop
-loop-again c =
+    (asked .0, asked .1, at-loop .loop .inv .1))
+    (λ c. search needs) (λ c. search needs)
+    (λ c.
     let at-loop = c .before .before .before .before in
     let start = at-loop .before .before .before in
     let x = start .args in
     let l = c .before .before .before .loop-test .taken in
     joining-turn _ _ _ (at-loop .loop .i) _ _ _ (omega (arith, l, length-take-le (x .k) (x .list .now) (start .pre .0)))
-    (sym (getD-take (x .k) (x .list .now) (at-loop .loop .i) 0 l)) (c .join-around .ensures) (at-loop .loop .inv)
-
-returns : tie.Need-returns Inv-loop μ-loop
-returns c =
+    (sym (getD-take (x .k) (x .list .now) (at-loop .loop .i) 0 l)) (c .join-around .ensures) (at-loop .loop .inv))
+    (λ c.
     let start = c .before .before .before .before in
     let x = start .args in
-    joining-end _ _ _ _ _ (omega (arith, c .loop-test .left, length-take-le (x .k) (x .list .now) (start .pre .0))) (c .before .loop .inv)
-
-pub join-all-spec : {M : Type 1} → statement M
-join-all-spec =
-    tie.close (
-    tie.spec Inv-loop μ-loop loop-holds (λ c. search needs) shared-slice-read-join-around cast-join-around join-around-requires (λ c. search needs) (λ c. search needs) loop-again returns)
+    joining-end _ _ _ _ _ (omega (arith, c .loop-test .left, length-take-le (x .k) (x .list .now) (start .pre .0))) (c .before .loop .inv)))

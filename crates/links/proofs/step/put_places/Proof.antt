@@ -1,13 +1,7 @@
 -- `step::put_places` meets its contract: what is left of the places brings the table to what all of them bring it to. The measure is the
 -- places that are left.
-use mathlib.Core.Path.{sym, ap}
-use Prim.Native.Nat.{ℕ, _+_, _-_}
-use native.Mathlib.Omega.{arith}
-use lib.ListN.{getD, set, length-set}
-use borrow.Author.Needs.{needs}
-use Rattle.lists.specs.Lists.{range}
-use Rattle.lists.proofs.Loops.{Folding, folding-none, folding-turn, folding-end, folding-long}
-use Rattle.lists.proofs.Range.{getD-range, length-range}
+use Rattle.lists.{specs.Kit.{sym, ap, ℕ, _+_, _-_, arith, getD, set, length-set, needs}, specs.Lists.{range}, proofs.Loops.{Folding, folding-none}}
+use Rattle.lists.{proofs.Loops.{folding-turn, folding-end, folding-long}, proofs.Range.{getD-range, length-range}}
 use Rattle.links.specs.Steps.{places-put}
 use Rattle.links.proofs.step.put_places.Statement.{statement}
 use Rattle.links.proofs.step.put_places.Tie as tie
@@ -18,50 +12,34 @@ Inv-loop order start size places₀ i₀ places i = Folding (λ p now. set now (
 abbrev μ-loop : tie.MeasureT-loop
 μ-loop order start size places₀ i₀ places i = size - i
 
-add-p : tie.Need-add-p Inv-loop μ-loop
-add-p c = let pre = c .before .before .pre in omega (arith, pre .0, pre .1, c .loop-test .taken)
-
-cast-places : tie.Need-cast-places Inv-loop μ-loop
-cast-places c = let pre = c .before .before .pre in omega (arith, pre .0, pre .1, c .loop-test .taken)
-
-mul-places : tie.Need-mul-places Inv-loop μ-loop
-mul-places c = let pre = c .before .before .pre in omega (arith, pre .0, pre .1, c .loop-test .taken)
-
-shared-slice-read-places : tie.Need-shared-slice-read-places Inv-loop μ-loop
-shared-slice-read-places c = let pre = c .before .before .before .pre in omega (arith, pre .0, c .before .loop-test .taken)
-
-cast-places-2 : tie.Need-cast-places-2 Inv-loop μ-loop
-cast-places-2 c = omega (arith, c .shared-slice-known .given (c .before .before .before .args .start + c .before .before .loop .i))
-
-mul-places-2 : tie.Need-mul-places-2 Inv-loop μ-loop
-mul-places-2 c = omega (arith, c .shared-slice-known .given (c .before .before .before .args .start + c .before .before .loop .i))
-
-element-write-places : tie.Need-element-write-places Inv-loop μ-loop
-element-write-places c =
-    let at-loop = c .before .before in
-    let start = at-loop .before in
-    omega (
-      arith,
-      start .pre .2 (start .args .start + at-loop .loop .i) (omega (arith, start .pre .0, c .before .loop-test .taken)),
-      folding-long _ (λ p now. length-set now _ p) _ _ _ _ (at-loop .loop .inv),
-    )
-
-loop-again : tie.Need-loop-again Inv-loop μ-loop
-loop-again c =
-    let at-loop = c .before .before in
-    let start = at-loop .before in
-    let x = start .args in
-    let i = at-loop .loop .i in
-    let l = c .before .loop-test .taken in
-    folding-turn _ _ _ (at-loop .loop .places) _ i (at-loop .loop .inv) (omega (arith, length-range (x .start) (x .size)))
-    (ap (λ (p : ℕ). set (at-loop .loop .places) (getD (x .order .now) p 0) p) (sym (getD-range (x .start) (x .size) i l)))
-
 returns : tie.Need-returns Inv-loop μ-loop
 unfolding places-put
 returns c =
     let x = c .before .before .args in folding-end _ _ _ _ _ (c .before .loop .inv) (omega (arith, length-range (x .start) (x .size), c .loop-test .left))
 
 pub put-places-spec : {M : Type 1} → statement M
-put-places-spec =
-    tie.close (
-    tie.spec Inv-loop μ-loop (λ c. folding-none _ _ _) add-p cast-places mul-places shared-slice-read-places cast-places-2 mul-places-2 element-write-places (λ c. search needs) (λ c. search needs) loop-again returns)
+put-places-spec = tie.close (tie.spec Inv-loop μ-loop (λ c. folding-none _ _ _)
+    (λ c. let pre = c .before .before .pre in omega (arith, pre .0, pre .1, c .loop-test .taken))
+    (λ c. let pre = c .before .before .pre in omega (arith, pre .0, pre .1, c .loop-test .taken))
+    (λ c. let pre = c .before .before .pre in omega (arith, pre .0, pre .1, c .loop-test .taken))
+    (λ c. let pre = c .before .before .before .pre in omega (arith, pre .0, c .before .loop-test .taken))
+    (λ c. omega (arith, c .shared-slice-known .given (c .before .before .before .args .start + c .before .before .loop .i)))
+    (λ c. omega (arith, c .shared-slice-known .given (c .before .before .before .args .start + c .before .before .loop .i)))
+    (λ c.
+    let at-loop = c .before .before in
+    let start = at-loop .before in
+    omega (
+      arith,
+      start .pre .2 (start .args .start + at-loop .loop .i) (omega (arith, start .pre .0, c .before .loop-test .taken)),
+      folding-long _ (λ p now. length-set now _ p) _ _ _ _ (at-loop .loop .inv),
+    ))
+    (λ c. search needs) (λ c. search needs)
+    (λ c.
+    let at-loop = c .before .before in
+    let start = at-loop .before in
+    let x = start .args in
+    let i = at-loop .loop .i in
+    let l = c .before .loop-test .taken in
+    folding-turn _ _ _ (at-loop .loop .places) _ i (at-loop .loop .inv) (omega (arith, length-range (x .start) (x .size)))
+    (ap (λ (p : ℕ). set (at-loop .loop .places) (getD (x .order .now) p 0) p) (sym (getD-range (x .start) (x .size) i l))))
+    returns)

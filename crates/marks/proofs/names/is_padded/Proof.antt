@@ -1,43 +1,19 @@
 -- `names::is_padded` meets its contract: the bytes passed are alphanumeric, so what is left decides. The measure is the bytes left.
-use mathlib.Core.Path.{_≡_, refl, sym, ap, _∙_}
-use Prim.Native.Nat.{ℕ, _-_}
-use native.Mathlib.Omega.{arith}
-use lib.ListN.{length, drop}
-use lib.Dec.{eqb}
-use borrow.Author.Needs.{needs}
-use borrow.Author.Tests.{not-true, not-false}
-use Rattle.lists.specs.Lists.{all}
+use Rattle.lists.specs.{Kit.{_≡_, refl, sym, ap, _∙_, ℕ, _-_, arith, length, drop, eqb, needs, not-true, not-false}, Lists.{all}}
 use Rattle.mesh.specs.Marks.{alphanumerics-then-spaces}
-use Rattle.marks.proofs.Left.{padded-pass, padded-stop, padded-end, rest-part}
-use Rattle.marks.proofs.names.is_padded.Statement.{statement}
-use Rattle.marks.proofs.names.is_padded.Tie as tie
+use Rattle.marks.proofs.{Left.{padded-pass, padded-stop, padded-end, rest-part}, names.is_padded.{Statement.{statement}, Tie.{close, spec}}}
 
-abbrev Inv-loop : tie.InvT-loop
-Inv-loop name i₀ i = alphanumerics-then-spaces name ≡ alphanumerics-then-spaces (drop i name)
-
-abbrev μ-loop : tie.MeasureT-loop
-μ-loop name i₀ i = length name - i
-
-loop-holds : tie.Need-loop-holds Inv-loop μ-loop
-loop-holds c = refl
-
-returns : tie.Need-returns Inv-loop μ-loop
-returns c =
+pub is-padded-spec : {M : Type 1} → statement M
+is-padded-spec = close (spec (λ name _ i. alphanumerics-then-spaces name ≡ alphanumerics-then-spaces (drop i name)) (λ name _ i. length name - i)
+    (λ c. refl) (λ c. search needs) (λ c κs. search needs) (λ c. search needs) (λ c. search needs) (λ c. search needs) (λ c κs. search needs)
+    (λ c.
     let then1 = c .before .before in
     let at-loop = then1 .before .before .before .before in
     c .are-all .ensures ∙ ap (all (λ (d : ℕ). eqb d 32)) (rest-part _ (at-loop .loop .i))
-    ∙ sym (padded-stop _ (at-loop .loop .i) (at-loop .loop .inv) (omega arith) (sym (then1 .before .is-alphanumeric .ensures) ∙ not-true _ (then1 .if1 .taken)))
-
-loop-again : tie.Need-loop-again Inv-loop μ-loop
-loop-again c =
+    ∙ sym (padded-stop _ (at-loop .loop .i) (at-loop .loop .inv) (omega arith)
+    (sym (then1 .before .is-alphanumeric .ensures) ∙ not-true _ (then1 .if1 .taken))))
+    (λ c. search needs) (λ c. search needs)
+    (λ c.
     let at-loop = c .before .before .before .before in
-    padded-pass _ (at-loop .loop .i) (at-loop .loop .inv) (omega arith) (sym (c .before .is-alphanumeric .ensures) ∙ not-false _ (c .if1 .left))
-
-returns-2 : tie.Need-returns-2 Inv-loop μ-loop
-returns-2 c = sym (padded-end _ (c .before .loop .i) (c .before .loop .inv) (omega arith))
-
-pub is-padded-spec : {M : Type 1} → statement M
-is-padded-spec =
-    tie.close (
-    tie.spec Inv-loop μ-loop loop-holds (λ c. search needs) (λ c κs. search needs) (λ c. search needs) (λ c. search needs) (λ c. search needs)
-    (λ c κs. search needs) returns (λ c. search needs) (λ c. search needs) loop-again returns-2)
+    padded-pass _ (at-loop .loop .i) (at-loop .loop .inv) (omega arith) (sym (c .before .is-alphanumeric .ensures) ∙ not-false _ (c .if1 .left)))
+    (λ c. sym (padded-end _ (c .before .loop .i) (c .before .loop .inv) (omega arith))))

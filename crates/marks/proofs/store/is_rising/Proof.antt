@@ -1,18 +1,9 @@
 -- `store::is_rising` meets its contract: the names are parts of the store.
-use Rattle.marks.proofs.StoreLoops.{rising-first, rising-next}
-use borrow.Author.Needs.{needs}
-use Rattle.marks.proofs.store.is_rising.Statement.{statement}
-use Rattle.marks.proofs.store.is_rising.Tie as tie
-
-returns : tie.Need-returns
-returns c = rising-first _ _ _ (c .before .before .before .if1 .taken) (c .is-before .ensures)
-
-returns-2 : tie.Need-returns-2
-returns-2 c = rising-next _ _ _ (c .before .before .before .if1 .left) (c .is-before2 .ensures)
+use Rattle.lists.specs.Kit.{needs}
+use Rattle.marks.proofs.{StoreLoops.{rising-first, rising-next}, store.is_rising.{Statement.{statement}, Tie.{close, spec}}}
 
 pub is-rising-spec : {M : Type 1} → statement M
-is-rising-spec =
-    tie.close (
-    tie.spec (λ c. search needs) (λ c. search needs) (λ c. search needs) (λ c. search needs) (λ c. search needs) (λ c. search needs)
-    (λ c. search needs) (λ c. search needs) (λ c κs. search needs) returns (λ c. search needs) (λ c. search needs) (λ c. search needs)
-    (λ c. search needs) (λ c. search needs) (λ c. search needs) (λ c. search needs) (λ c. search needs) (λ c κs. search needs) returns-2)
+is-rising-spec = close (spec (λ c. search needs) (λ c. search needs) (λ c. search needs) (λ c. search needs) (λ c. search needs) (λ c. search needs)
+    (λ c. search needs) (λ c. search needs) (λ c κs. search needs) (λ c. rising-first _ _ _ (c .before .before .before .if1 .taken) (c .is-before .ensures))
+    (λ c. search needs) (λ c. search needs) (λ c. search needs) (λ c. search needs) (λ c. search needs) (λ c. search needs) (λ c. search needs)
+    (λ c. search needs) (λ c κs. search needs) (λ c. rising-next _ _ _ (c .before .before .before .if1 .left) (c .is-before2 .ensures)))

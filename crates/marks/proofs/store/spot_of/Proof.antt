@@ -1,11 +1,8 @@
 -- `store::spot_of` meets its contract: questions 1 to 3, then 17 of the store and of the name, then the spot.
-use mathlib.Core.Path.{sym, _∙_}
-use native.Mathlib.Omega.{arith}
-use borrow.Author.Needs.{needs}
-use borrow.Author.Tests.{not-true, not-false}
+use Rattle.lists.specs.Kit.{sym, _∙_, arith, needs, not-true, not-false}
 use Rattle.calls.specs.Marks.{store-length}
-use Rattle.marks.proofs.StoreLoops.{refused-site, site-is-good, good-size, good-length, not-store, not-named, all-good}
-use Rattle.marks.proofs.store.spot_of.Statement.{statement}
+use Rattle.marks.proofs.{StoreLoops.{refused-site, site-is-good, good-size, good-length, not-store, not-named, all-good}}
+use Rattle.marks.proofs.{store.spot_of.Statement.{statement}}
 use Rattle.marks.proofs.store.spot_of.Tie as tie
 
 returns : tie.Need-returns
@@ -72,7 +69,5 @@ returns-4 c =
     )
 
 pub spot-of-spec : {M : Type 1} → statement M
-spot-of-spec =
-    tie.close (
-    tie.spec (λ c κs. search needs) (λ c κs. search needs) returns count-used-requires is-store-requires (λ c κs. search needs) returns-2
-    (λ c κs. search needs) (λ c κs. search needs) returns-3 (λ c κs. search needs) returns-4)
+spot-of-spec = tie.close (tie.spec (λ c κs. search needs) (λ c κs. search needs) returns count-used-requires is-store-requires (λ c κs. search needs)
+    returns-2 (λ c κs. search needs) (λ c κs. search needs) returns-3 (λ c κs. search needs) returns-4)

@@ -1,6 +1,5 @@
 -- `ends::leads` meets its contract: each branch answers what `stands-first` names.
-use borrow.Author.Needs.{needs}
-use borrow.Author.Tests.{eq-eqb, ne-eqb}
+use Rattle.lists.specs.Kit.{needs, eq-eqb, ne-eqb}
 use Rattle.plan.specs.Places.{stands-first}
 use Rattle.plan.proofs.ends.leads.Statement.{statement}
 use Rattle.plan.proofs.ends.leads.Tie as tie

@@ -1,5 +1,5 @@
 -- `ends::other_end` meets its contract: each branch answers what `other-end` names.
-use borrow.Author.Tests.{eq-eqb, ne-eqb}
+use Rattle.lists.specs.Kit.{eq-eqb, ne-eqb}
 use Rattle.plan.specs.Places.{other-end}
 use Rattle.plan.proofs.ends.other_end.Statement.{statement}
 use Rattle.plan.proofs.ends.other_end.Tie as tie

@@ -1,25 +1,11 @@
 -- `peel::call_at` meets its contract: going up the bound is the level, going down one less, and the level is then above 0.
-use mathlib.Core.Path.{refl, ap, _∙_}
-use Prim.Native.Nat.{ℕ, _-_}
-use native.Mathlib.Omega.{arith}
-use borrow.Author.Needs.{needs}
-use Rattle.plan.proofs.BeginLaws.{bound-up, bound-down}
-use Rattle.plan.proofs.peel.call_at.Statement.{statement}
-use Rattle.plan.proofs.peel.call_at.Tie as tie
-
-returns : tie.Need-returns
-returns c =
-    let level = c .before .lower .ensures in (refl, refl, refl, level, level ∙ bound-up _ _ (c .if1 .taken))
-
-sub-t8 : tie.Need-sub-t8
-sub-t8 c = omega (arith, c .before .lower .ensures, c .before .before .before .before .before .pre .2 (c .if1 .left))
-
-returns-2 : tie.Need-returns-2
-returns-2 c =
-    let level = c .before .lower .ensures in
-    (refl, refl, refl, level, ap (λ (x : ℕ). x - 1) level ∙ bound-down _ _ (c .if1 .left))
+use Rattle.lists.specs.Kit.{refl, ap, _∙_, ℕ, _-_, arith, needs}
+use Rattle.plan.proofs.{BeginLaws.{bound-up, bound-down}, peel.call_at.{Statement.{statement}, Tie.{close, spec}}}
 
 pub call-at-spec : {M : Type 1} → statement M
-call-at-spec =
-    tie.close (
-    tie.spec (λ c. search needs) (λ c. search needs) (λ c κs. search needs) returns sub-t8 returns-2)
+call-at-spec = close (spec (λ c. search needs) (λ c. search needs) (λ c κs. search needs)
+    (λ c. let level = c .before .lower .ensures in (refl, refl, refl, level, level ∙ bound-up _ _ (c .if1 .taken)))
+    (λ c. omega (arith, c .before .lower .ensures, c .before .before .before .before .before .pre .2 (c .if1 .left)))
+    (λ c.
+    let level = c .before .lower .ensures in
+    (refl, refl, refl, level, ap (λ (x : ℕ). x - 1) level ∙ bound-down _ _ (c .if1 .left))))

@@ -1,17 +1,7 @@
 -- `rise::fits` meets its contract: at an end the link adds one neighbour, so that fewer than `most` are few enough.
-use borrow.Author.Needs.{needs}
-use Rattle.plan.proofs.RisePlan.{fits-a, fits-b, fits-other}
-use Rattle.plan.proofs.rise.fits.Statement.{statement}
-use Rattle.plan.proofs.rise.fits.Tie as tie
-
-returns : tie.Need-returns
-returns c = fits-a _ _ _ _ _ (c .before .if1 .taken)
-
-returns-2 : tie.Need-returns-2
-returns-2 c = fits-b _ _ _ _ _ (c .before .before .before .if1 .left) (c .before .if2 .taken)
-
-returns-3 : tie.Need-returns-3
-returns-3 c = fits-other _ _ _ _ _ (c .before .before .before .if1 .left) (c .before .if2 .left)
+use Rattle.plan.proofs.{RisePlan.{fits-a, fits-b, fits-other}, rise.fits.{Statement.{statement}, Tie.{close, spec}}}
 
 pub fits-spec : {M : Type 1} → statement M
-fits-spec = tie.close (tie.spec returns returns-2 returns-3)
+fits-spec = close (spec (λ c. fits-a _ _ _ _ _ (c .before .if1 .taken))
+    (λ c. fits-b _ _ _ _ _ (c .before .before .before .if1 .left) (c .before .if2 .taken))
+    (λ c. fits-other _ _ _ _ _ (c .before .before .before .if1 .left) (c .before .if2 .left)))

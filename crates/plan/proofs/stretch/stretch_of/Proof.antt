@@ -1,14 +1,7 @@
 -- `stretch::stretch_of` meets its contract: what is counted so far and what the numbers from place i on come to is the whole
 -- count. The measure is the numbers that are left.
-use mathlib.Core.Path.{_≡_}
-use Prim.Native.Nat.{_+_, _-_, _≤_}
-use native.Mathlib.Omega.{arith}
-use lib.Dec.{ltb, eqb}
-use lib.ListN.{length, drop, length-take}
-use borrow.Author.Needs.{needs}
-use Rattle.lists.proofs.Loops.{Counted-from, counted-end}
-use Rattle.plan.proofs.LevelCounts.{counted-part}
-use Rattle.plan.proofs.stretch.stretch_of.Statement.{statement}
+use Rattle.lists.{specs.Kit.{_≡_, _+_, _-_, _≤_, arith, ltb, eqb, length, drop, length-take, needs}, proofs.Loops.{Counted-from, counted-end}}
+use Rattle.plan.proofs.{LevelCounts.{counted-part}, stretch.stretch_of.Statement.{statement}}
 use Rattle.plan.proofs.stretch.stretch_of.Tie as tie
 
 abbrev Inv-loop : tie.InvT-loop
@@ -22,32 +15,16 @@ abbrev μ-loop : tie.MeasureT-loop
 add-end : tie.Need-add-end Inv-loop μ-loop
 add-end c = search needs
 
-sub-count-part : tie.Need-sub-count-part Inv-loop μ-loop
-sub-count-part c = omega arith
-
-part-count-part-start : tie.Need-part-count-part-start Inv-loop μ-loop
-part-count-part-start c = search needs
-
-part-count-part-end : tie.Need-part-count-part-end Inv-loop μ-loop
-part-count-part-end c = omega (arith, c .least .ensures, c .before .before .loop .inv .0)
-
-count-part-requires : tie.Need-count-part-requires Inv-loop μ-loop
-count-part-requires c κs =
+pub stretch-of-spec : {M : Type 1} → statement M
+stretch-of-spec = tie.close (tie.spec Inv-loop μ-loop (λ c. (omega arith, (omega arith, omega arith), (omega arith, omega arith))) (λ c. search needs)
+    (λ c κs. search needs) add-end (λ c. omega arith) (λ c. search needs) (λ c. omega (arith, c .least .ensures, c .before .before .loop .inv .0))
+    (λ c κs.
     let at-loop = c .before .before .before in
     let i = at-loop .loop .i in
-    omega (arith, length-take (i + c .before .least .result - i) (drop i (at-loop .before .before .args .numbers .now)), c .before .least .ensures)
-
-add-start : tie.Need-add-start Inv-loop μ-loop
-add-start c = search needs
-
-add-size : tie.Need-add-size Inv-loop μ-loop
-add-size c = search needs
-
-loop-less : tie.Need-loop-less Inv-loop μ-loop
-loop-less c = omega (arith, c .before .before .before .before .least .ensures, c .before .before .before .before .before .loop-test .taken)
-
-loop-again : tie.Need-loop-again Inv-loop μ-loop
-loop-again c =
+    omega (arith, length-take (i + c .before .least .result - i) (drop i (at-loop .before .before .args .numbers .now)), c .before .least .ensures))
+    (λ c. search needs) (λ c. search needs) (λ c. search needs) (λ c. search needs)
+    (λ c. omega (arith, c .before .before .before .before .least .ensures, c .before .before .before .before .before .loop-test .taken))
+    (λ c.
     let at-loop = c .before .before .before .before .before .before in
     let end = c .before .before .before .before .least in
     let found = c .before .before .count-part in
@@ -57,16 +34,8 @@ loop-again c =
       omega (arith, end .ensures, at-loop .loop .inv .0),
       counted-part _ _ (at-loop .loop .start) i m _ (at-loop .loop .inv .1) (rw e at (found .ensures .0)),
       counted-part _ _ (at-loop .loop .size) i m _ (at-loop .loop .inv .2) (rw e at (found .ensures .1)),
-    )
-
-returns : tie.Need-returns Inv-loop μ-loop
-returns c =
+    ))
+    (λ c.
     let at-loop = c .before in
     let all : at-loop .loop .i ≡ length (at-loop .before .before .args .numbers .now) = omega (arith, at-loop .loop .inv .0, c .loop-test .left) in
-    (counted-end _ _ (at-loop .loop .start) _ all (at-loop .loop .inv .1), counted-end _ _ (at-loop .loop .size) _ all (at-loop .loop .inv .2))
-
-pub stretch-of-spec : {M : Type 1} → statement M
-stretch-of-spec =
-    tie.close (
-    tie.spec Inv-loop μ-loop (λ c. (omega arith, (omega arith, omega arith), (omega arith, omega arith))) (λ c. search needs) (λ c κs. search needs) add-end
-    sub-count-part part-count-part-start part-count-part-end count-part-requires (λ c. search needs) add-start (λ c. search needs) add-size loop-less loop-again returns)
+    (counted-end _ _ (at-loop .loop .start) _ all (at-loop .loop .inv .1), counted-end _ _ (at-loop .loop .size) _ all (at-loop .loop .inv .2))))

@@ -1,16 +1,8 @@
 -- `turn::count_end` meets its contract: each branch stores what `end-counted` names.
-use native.Mathlib.Omega.{arith}
-use borrow.Author.Needs.{needs}
-use borrow.Author.Tests.{eq-eqb, ne-eqb}
+use Rattle.lists.specs.Kit.{arith, needs, eq-eqb, ne-eqb}
 use Rattle.plan.specs.Turns.{end-counted}
 use Rattle.plan.proofs.turn.count_end.Statement.{statement}
 use Rattle.plan.proofs.turn.count_end.Tie as tie
-
-add-counters : tie.Need-add-counters
-add-counters c = omega (arith, c .before .before .before .before .pre .3 (c .before .before .if1 .taken))
-
-sub-counters : tie.Need-sub-counters
-sub-counters c = c .before .before .before .before .pre .2 (c .before .if2 .left) (c .before .before .if1 .taken)
 
 returns : tie.Need-returns
 unfolding end-counted
@@ -25,6 +17,6 @@ unfolding end-counted
 returns-3 c = rw (ne-eqb _ _ (c .if1 .left))
 
 pub count-end-spec : {M : Type 1} → statement M
-count-end-spec =
-    tie.close (
-    tie.spec (λ c. search needs) (λ c. search needs) add-counters (λ c. search needs) (λ c. search needs) sub-counters (λ c. search needs) returns returns-2 returns-3)
+count-end-spec = tie.close (tie.spec (λ c. search needs) (λ c. search needs)
+    (λ c. omega (arith, c .before .before .before .before .pre .3 (c .before .before .if1 .taken))) (λ c. search needs) (λ c. search needs)
+    (λ c. c .before .before .before .before .pre .2 (c .before .if2 .left) (c .before .before .if1 .taken)) (λ c. search needs) returns returns-2 returns-3)

@@ -1,27 +1,17 @@
 -- `turn::release_left` meets its contract: the words of the row are released one by one, each without what is taken, and the radios that
 -- are left from word k on give what all of them give (`Words-releasing`). The measure is the words that are left.
-use mathlib.Core.Path.{refl}
-use Prim.Native.Nat.{_-_}
-use native.Mathlib.Omega.{arith}
-use borrow.Author.Needs.{needs}
-use Rattle.plan.proofs.NearLaws.{releasable-same, released-same}
-use Rattle.plan.proofs.TurnLoops.{Words-releasing, words-none, words-ready, words-turn, words-end, left-from, left-from-zero, left-from-end, left-split}
-use Rattle.plan.proofs.turn.release_left.Statement.{statement}
-use Rattle.plan.proofs.turn.release_left.Tie as tie
+use Rattle.lists.specs.Kit.{refl, _-_, arith, needs}
+use Rattle.plan.proofs.{NearLaws.{releasable-same, released-same}, TurnLoops.{Words-releasing, words-none, words-ready, words-turn, words-end}}
+use Rattle.plan.proofs.{TurnLoops.{left-from, left-from-zero, left-from-end, left-split}, turn.release_left.{Statement.{statement}, Tie.{close, spec}}}
 
-abbrev Inv-loop : tie.InvT-loop
-Inv-loop row left level most numbers places counters₀ fits₀ k₀ counters fits k =
-    Words-releasing numbers places level most (left-from row left) counters₀ fits₀ k counters fits
-
-abbrev μ-loop : tie.MeasureT-loop
-μ-loop row left level most numbers places counters₀ fits₀ k₀ counters fits k = 8 - k
-
-loop-holds : tie.Need-loop-holds Inv-loop μ-loop
-loop-holds c =
-    let start = c .before .before .before in words-none _ _ _ _ (left-from _ _) _ _ (releasable-same _ _ _ _ (left-from-zero _ _) (start .pre .1))
-
-release-word-requires : tie.Need-release-word-requires Inv-loop μ-loop
-release-word-requires c κs =
+pub release-left-spec : {M : Type 1} → statement M
+release-left-spec = close (spec
+    (λ row left level most numbers places counters₀ fits₀ _ counters fits k. Words-releasing numbers places level most (left-from row left) counters₀ fits₀ k
+    counters fits)
+    (λ _ _ _ _ _ _ _ _ _ _ _ k. 8 - k)
+    (λ c. let start = c .before .before .before in words-none _ _ _ _ (left-from _ _) _ _ (releasable-same _ _ _ _ (left-from-zero _ _) (start .pre .1)))
+    (λ c κs. search needs) (λ c. search needs) (λ c. search needs) (λ c. search needs) (λ c. search needs)
+    (λ c κs.
     let read = c .before .before .before in
     let at-loop = read .before .before in
     let given = at-loop .before .before .before in (
@@ -29,24 +19,16 @@ release-word-requires c κs =
       words-ready _ _ _ _ (left-from _ _) _ _ (at-loop .loop .k) _ _ _ (omega arith)
           (left-split _ (given .before .pre .0) (λ j. given .shared-slice-known .given j .fits) (at-loop .loop .k) _ (omega arith) (read .word-of .ensures) _)
           (at-loop .loop .inv),
-    )
-
-loop-again : tie.Need-loop-again Inv-loop μ-loop
-loop-again c =
+    ))
+    (λ c. search needs) (λ c. search needs)
+    (λ c.
     let made = c in
     let read = made .before .before .before .before in
     let at-loop = read .before .before in
     let given = at-loop .before .before .before in
     words-turn _ _ _ _ (left-from _ _) _ _ (at-loop .loop .k) _ _ _ (omega arith)
     (left-split _ (given .before .pre .0) (λ j. given .shared-slice-known .given j .fits) (at-loop .loop .k) _ (omega arith) (read .word-of .ensures) _)
-    (at-loop .loop .inv) _ _ (made .release-word .ensures .0) (made .release-word .ensures .1)
-
-returns : tie.Need-returns Inv-loop μ-loop
-returns c =
+    (at-loop .loop .inv) _ _ (made .release-word .ensures .0) (made .release-word .ensures .1))
+    (λ c.
     let done = words-end _ _ _ _ (left-from _ _) _ _ _ _ _ (left-from-end _ _ _ (c .loop-test .left)) (c .before .loop .inv) in
-    released-same _ _ _ _ _ _ _ _ _ (left-from-zero _ _) refl (done .0) (done .1)
-
-pub release-left-spec : {M : Type 1} → statement M
-release-left-spec =
-    tie.close (
-    tie.spec Inv-loop μ-loop loop-holds (λ c κs. search needs) (λ c. search needs) (λ c. search needs) (λ c. search needs) (λ c. search needs) release-word-requires (λ c. search needs) (λ c. search needs) loop-again returns)
+    released-same _ _ _ _ _ _ _ _ _ (left-from-zero _ _) refl (done .0) (done .1)))

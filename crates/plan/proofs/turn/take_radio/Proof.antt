@@ -1,59 +1,52 @@
 -- `turn::take_radio` meets its contract: the row of an end is released with one bit put, any other row as it is.
-use Prim.Native.Nat.{_+_, _*_, _-_}
-use native.Mathlib.Omega.{arith}
-use borrow.Author.Needs.{needs}
+use Rattle.lists.specs.Kit.{_∙_, true, _+_, _*_, _-_, arith, needs}
 use Rattle.mesh.specs.Limits.{row-bytes}
 use Rattle.plan.proofs.NearLaws.{releasable-same, released-same, length-part, neighbours-of-end, neighbours-of-lent}
-use Rattle.plan.proofs.turn.take_radio.Statement.{statement}
-use Rattle.plan.proofs.turn.take_radio.Tie as tie
+use Rattle.plan.proofs.turn.take_radio.{Statement.{statement}, Tie.{close, spec}}
 
-release-end-requires : tie.Need-release-end-requires
-release-end-requires c κs =
-    let branch = c .before .before in
+pub take-radio-spec : {M : Type 1} → statement M
+take-radio-spec = close (spec (λ c κs. search needs) (λ c κs. search needs)
+    (λ c κs.
+    let asked = c .before in
+    let start = asked .before .before .before .before .before .before in
+    (start .pre .0 .row, neighbours-of-end true _ _ _ _ _ (asked .other-end .ensures) (c .if1 .taken) (start .pre .0) .0))
+    (λ c. search needs)
+    (λ c κs.
+    let copied = c .before .before .before in
+    let branch = copied .before in
     let asked = branch .before in
     let start = asked .before .before .before .before .before .before in
     let same = neighbours-of-end _ _ _ _ _ _ (asked .other-end .ensures) (branch .if1 .taken) (start .pre .0) in
-    (start .pre .0 .row, same .0, releasable-same _ _ _ _ (same .1) (start .pre .1))
-
-returns : tie.Need-returns
-returns c =
-    let made = c in
-    let branch = made .before .before .before in
+    (search needs, releasable-same _ _ _ _ (copied .end-row .ensures ∙ same .1) (start .pre .1)))
+    (λ c.
+    let copied = c .before .before .before .before in
+    let branch = copied .before in
     let asked = branch .before in
-    let put = asked .before in
-    let start = put .before .before .before .before .before in
-    released-same _ _ _ _ _ _ _ _ _ (neighbours-of-end _ _ _ _ _ _ (asked .other-end .ensures) (branch .if1 .taken) (start .pre .0) .1) (put .put .ensures)
-    (made .release-end .ensures .0) (made .release-end .ensures .1)
-
-part-release-row-end : tie.Need-part-release-row-end
-part-release-row-end c =
+    let out = asked .before in
+    let start = asked .before .before .before .before .before .before in
+    let same = neighbours-of-end _ _ _ _ _ _ (asked .other-end .ensures) (branch .if1 .taken) (start .pre .0) in
+    released-same _ _ _ _ _ _ _ _ _ (copied .end-row .ensures ∙ same .1) (out .take-out .ensures) (c .release-row .ensures .0) (c .release-row .ensures .1))
+    (λ c. search needs) (λ c. search needs) (λ c. search needs) (λ c. search needs)
+    (λ c.
     let start = c .before .before .before .before .before .before .before in
-    omega (arith, start .pre .0 .row)
-
-release-row-requires : tie.Need-release-row-requires
-release-row-requires c κs =
+    omega (arith, start .pre .0 .row))
+    (λ c κs.
     let branch = c .before .before .before in
     let asked = branch .before in
     let start = asked .before .before .before .before .before .before in
     let v = start .args .v in
     let long = row-bytes * v + row-bytes - row-bytes * v in (
       length-part _ v long (omega arith) (start .pre .0 .row),
-      releasable-same _ _ _ _ (neighbours-of-lent _ _ _ _ _ _ (asked .other-end .ensures) long (omega arith) (branch .if1 .left) (start .pre .0)) (start .pre .1),
-    )
-
-returns-2 : tie.Need-returns-2
-returns-2 c =
+      releasable-same _ _ _ _ (neighbours-of-lent _ _ _ _ _ _ (asked .other-end .ensures) long (omega arith) (branch .if1 .left) (start .pre .0))
+          (start .pre .1),
+    ))
+    (λ c.
     let made = c in
     let branch = made .before .before .before .before in
     let asked = branch .before in
-    let put = asked .before in
-    let start = put .before .before .before .before .before in
+    let out = asked .before in
+    let start = out .before .before .before .before .before in
     let v = start .args .v in
     let long = row-bytes * v + row-bytes - row-bytes * v in
     released-same _ _ _ _ _ _ _ _ _ (neighbours-of-lent _ _ _ _ _ _ (asked .other-end .ensures) long (omega arith) (branch .if1 .left) (start .pre .0))
-    (put .put .ensures) (made .release-row .ensures .0) (made .release-row .ensures .1)
-
-pub take-radio-spec : {M : Type 1} → statement M
-take-radio-spec =
-    tie.close (
-    tie.spec (λ c κs. search needs) (λ c κs. search needs) release-end-requires returns (λ c. search needs) (λ c. search needs) (λ c. search needs) (λ c. search needs) part-release-row-end release-row-requires returns-2)
+    (out .take-out .ensures) (made .release-row2 .ensures .0) (made .release-row2 .ensures .1)))

@@ -1,6 +1,5 @@
 -- `walk::is_left` meets its contract: each branch answers what `is-left` names.
-use borrow.Author.Needs.{needs}
-use borrow.Author.Tests.{eq-eqb, ne-eqb, lt-ltb, le-ltb}
+use Rattle.lists.specs.Kit.{needs, eq-eqb, ne-eqb, lt-ltb, le-ltb}
 use Rattle.plan.specs.Walks.{is-left}
 use Rattle.plan.proofs.walk.is_left.Statement.{statement}
 use Rattle.plan.proofs.walk.is_left.Tie as tie
@@ -18,6 +17,5 @@ unfolding is-left
 returns-3 c = rw (eq-eqb _ _ (c .before .before .before .if1 .left), le-ltb _ _ (c .before .if2 .left))
 
 pub is-left-spec : {M : Type 1} → statement M
-is-left-spec =
-    tie.close (
-    tie.spec (λ c. search needs) (λ c. search needs) returns (λ c. search needs) (λ c. search needs) returns-2 (λ c. search needs) returns-3)
+is-left-spec = tie.close (tie.spec (λ c. search needs) (λ c. search needs) returns (λ c. search needs) (λ c. search needs) returns-2 (λ c. search needs)
+    returns-3)

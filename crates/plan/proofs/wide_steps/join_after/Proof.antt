@@ -1,24 +1,17 @@
 -- `words::join_after` meets its contract: the row as it stands, and at an end of the link the other end's bit.
-use mathlib.Core.Path.{_∙_}
-use borrow.Author.Needs.{needs}
-use Rattle.plan.proofs.WordLaws.{joined-row, joined-end}
-use Rattle.plan.proofs.wide_steps.join_after.Statement.{statement}
-use Rattle.plan.proofs.wide_steps.join_after.Tie as tie
+use Rattle.lists.specs.Kit.{_∙_, needs}
+use Rattle.plan.proofs.{WordLaws.{joined-row, joined-end}, wide_steps.join_after.{Statement.{statement}, Tie.{close, spec}}}
 
-returns : tie.Need-returns
-returns c =
+pub join-after-spec : {M : Type 1} → statement M
+join-after-spec = close (spec (λ c κs. search needs) (λ c κs. search needs) (λ c κs. search needs)
+    (λ c.
     let start = c .before .before .before .before .before .before .before in
     let joined = c .before .before .before .before in
     joined-end (start .pre .0 .1) _ _ (start .pre .1) (joined .join-row .ensures) (joined .join-row .kept .1 .1 .0 ∙ start .pre .1) _
-    (c .before .before .before .other-end .ensures) (c .before .before .if1 .taken) _ (c .put-in .ensures)
-
-returns-2 : tie.Need-returns-2
-returns-2 c =
+    (c .before .before .before .other-end .ensures) (c .before .before .if1 .taken) _ (c .put-in .ensures))
+    (λ c.
     let start = c .before .before .before .before .before in
     let joined = c .before .before in
     joined-row (start .pre .0 .1) _ _ (start .pre .1) (joined .join-row .ensures) (joined .join-row .kept .1 .1 .0 ∙ start .pre .1) _
     (c .before .other-end .ensures)
-    (c .if1 .left)
-
-pub join-after-spec : {M : Type 1} → statement M
-join-after-spec = tie.close (tie.spec (λ c κs. search needs) (λ c κs. search needs) (λ c κs. search needs) returns returns-2)
+    (c .if1 .left)))

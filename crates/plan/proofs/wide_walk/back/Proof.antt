@@ -1,122 +1,94 @@
 -- `words::back` meets its contract: the candidate leaves the sets, and the candidates among its neighbours lose one; the mathematics is in
 -- `proofs.WordTurns`.
-use mathlib.Core.Path.{refl, _∙_}
-use Prim.Native.Nat.{ℕ, _-_}
-use native.Mathlib.Omega.{arith}
-use lib.ListN.{length-replicate}
-use borrow.Author.Needs.{needs}
-use Rattle.plan.proofs.WordTurns.{ends-ready, back-place, back-below, back-fits, back-lowerable, back-done}
-use Rattle.plan.proofs.WordTurns.{lowerable-as, lowered-as, out-long, state-as}
-use Rattle.plan.proofs.wide_walk.back.Statement.{statement}
-use Rattle.plan.proofs.wide_walk.back.Tie as tie
+use Rattle.lists.specs.Kit.{refl, _∙_, ℕ, _-_, arith, length-replicate, needs}
+use Rattle.plan.proofs.WordTurns.{ends-ready, back-place, back-below, back-fits, back-lowerable, back-done, lowerable-as, lowered-as, out-long, state-as}
+use Rattle.plan.proofs.wide_walk.back.{Statement.{statement}, Tie.{close, spec}}
 
-sub-v : tie.Need-sub-v
-sub-v c =
+pub back-spec : {M : Type 1} → statement M
+back-spec = close (spec
+    (λ c.
     let start = c .before .before .before .before in
     let site = start .pre .0 .1 in
     let st = start .pre .1 .0 in
     let at = start .pre .1 .1 in
     let p = start .args .p in
-    back-place site st p (at .0) (at .1) .0
-
-mul-v : tie.Need-mul-v
-mul-v c =
+    back-place site st p (at .0) (at .1) .0)
+    (λ c.
     let start = c .before .before .before .before in
     let site = start .pre .0 .1 in
     let st = start .pre .1 .0 in
     let at = start .pre .1 .1 in
     let p = start .args .p in
-    omega (arith, at .1)
-
-shared-slice-read-v : tie.Need-shared-slice-read-v
-shared-slice-read-v c =
+    omega (arith, at .1))
+    (λ c.
     let start = c .before .before .before .before .before in
     let site = start .pre .0 .1 in
     let st = start .pre .1 .0 in
     let at = start .pre .1 .1 in
     let p = start .args .p in
-    omega (arith, back-place site st p (at .0) (at .1) .2, site .fits)
-
-cast-join-after : tie.Need-cast-join-after
-cast-join-after c = omega (
-  arith,
-  c .shared-slice-known4 .given (c .before .before .before .before .before .args .p - c .before .before .before .before
-      .before .args .part .first),
-)
-
-join-after-requires : tie.Need-join-after-requires
-join-after-requires c κs =
+    omega (arith, back-place site st p (at .0) (at .1) .2, site .fits))
+    (λ c.
+    omega (
+      arith,
+      c .shared-slice-known4 .given (c .before .before .before .before .before .args .p - c .before .before .before .before
+          .before .args .part .first),
+    ))
+    (λ c κs.
     let start = c .before .before .before .before .before .before in
     let site = start .pre .0 .1 in
     let st = start .pre .1 .0 in
     let at = start .pre .1 .1 in
     let p = start .args .p in
-    ((_, ends-ready site _ (back-below site st p (at .0) (at .1) _ refl)), length-replicate {A = ℕ} 8 0)
-
-cast-take-out : tie.Need-cast-take-out
-cast-take-out c =
+    ((_, ends-ready site _ (back-below site st p (at .0) (at .1) _ refl)), length-replicate {A = ℕ} 8 0))
+    (λ c.
     let start = c .before .before .before .before .before .before .before .before in
     let site = start .pre .0 .1 in
     let st = start .pre .1 .0 in
     let at = start .pre .1 .1 in
     let p = start .args .p in
-    omega (arith, at .1)
-
-cast-take-out-2 : tie.Need-cast-take-out-2
-cast-take-out-2 c =
+    omega (arith, at .1))
+    (λ c κs. search needs)
+    (λ c.
     let start = c .before .before .before .before .before .before .before .before .before .before in
     let site = start .pre .0 .1 in
     let st = start .pre .1 .0 in
     let at = start .pre .1 .1 in
     let p = start .args .p in
-    omega (arith, at .1)
-
-cast-take-out-3 : tie.Need-cast-take-out-3
-cast-take-out-3 c = omega (
-  arith,
-  c .before .before .before .before .before .before .before .shared-slice-known4 .given
-      (c .before .before .before .before .before .before .before .before .before .before .before .before .args .p - c .before .before .before .before .before
-      .before .before .before .before .before .before .before .args .part .first),
-)
-
-cast-take-out-4 : tie.Need-cast-take-out-4
-cast-take-out-4 c = omega (
-  arith,
-  c .before .before .before .before .before .before .before .before .before .shared-slice-known4 .given
-      (c .before .before .before .before .before .before .before .before .before .before .before .before .before .before .args .p - c .before .before .before
-      .before .before .before .before .before .before .before .before .before .before .before .args .part .first),
-)
-
-mul-list : tie.Need-mul-list
-mul-list c =
+    omega (arith, at .1))
+    (λ c κs. search needs)
+    (λ c.
+    omega (
+      arith,
+      c .before .before .before .before .before .before .before .shared-slice-known4 .given
+          (c .before .before .before .before .before .before .before .before .before .before .before .before .args .p -
+          c .before .before .before .before .before
+          .before .before .before .before .before .before .before .args .part .first),
+    ))
+    (λ c κs. search needs)
+    (λ c.
+    omega (
+      arith,
+      c .before .before .before .before .before .before .before .before .before .shared-slice-known4 .given
+          (c .before .before .before .before .before .before .before .before .before .before .before .before .before .before .args .p -
+          c .before .before .before
+          .before .before .before .before .before .before .before .before .before .before .before .args .part .first),
+    ))
+    (λ c κs. search needs)
+    (λ c.
     let start = c .before .before .before .before .before .before .before .before .before .before .before .before .before .before .before in
     let site = start .pre .0 .1 in
     let st = start .pre .1 .0 in
     let at = start .pre .1 .1 in
     let p = start .args .p in
-    omega (arith, back-fits site st p (at .0) (at .1) _ refl, st .room)
-
-element-write-list : tie.Need-element-write-list
-element-write-list c =
+    omega (arith, back-fits site st p (at .0) (at .1) _ refl, st .room))
+    (λ c.
     let start = c .before .before .before .before .before .before .before .before .before .before .before .before .before .before .before in
     let site = start .pre .0 .1 in
     let st = start .pre .1 .0 in
     let at = start .pre .1 .1 in
     let p = start .args .p in
-    omega (arith, back-fits site st p (at .0) (at .1) _ refl, st .room)
-
-add-t19 : tie.Need-add-t19
-add-t19 c =
-    let start = c .before .before .before .before .before .before .before .before .before .before .before .before .before .before .before .before .before
-    .before .before .before in
-    let site = start .pre .0 .1 in
-    let st = start .pre .1 .0 in
-    let at = start .pre .1 .1 in
-    let p = start .args .p in
-    omega (arith, back-fits site st p (at .0) (at .1) _ refl, st .room)
-
-lower-requires : tie.Need-lower-requires
-lower-requires c κs =
+    omega (arith, back-fits site st p (at .0) (at .1) _ refl, st .room))
+    (λ c κs.
     let start = c .before .before .before .before .before .before .before .before .before .before .before .before .before .before .before .before .before
     .before .before in
     let site = start .pre .0 .1 in
@@ -133,10 +105,16 @@ lower-requires c κs =
         out-long _ _ _ (c .before .before .before .before .before .before .before .before .before .before
             .take-out .ensures) (st .due-long),
       ),
-    )
-
-returns : tie.Need-returns
-returns c =
+    ))
+    (λ c.
+    let start = c .before .before .before .before .before .before .before .before .before .before .before .before .before .before .before .before .before
+    .before .before .before in
+    let site = start .pre .0 .1 in
+    let st = start .pre .1 .0 in
+    let at = start .pre .1 .1 in
+    let p = start .args .p in
+    omega (arith, back-fits site st p (at .0) (at .1) _ refl, st .room))
+    (λ c.
     let start = c .before .before .before .before .before .before .before .before .before .before .before .before .before .before .before .before .before
     .before .before .before in
     let site = start .pre .0 .1 in
@@ -151,10 +129,4 @@ returns c =
           (back-done site st p (at .0) (at .1) _ refl _ long joined _ _ (lowered-as _ cand
           (c .before .before .before .before .before .before .before .before .before .before .before .take-out .ensures) (c .lower .ensures))),
       (refl, refl),
-    )
-
-pub back-spec : {M : Type 1} → statement M
-back-spec =
-    tie.close (
-    tie.spec sub-v mul-v shared-slice-read-v cast-join-after join-after-requires cast-take-out (λ c κs. search needs) cast-take-out-2 (λ c κs. search needs)
-    cast-take-out-3 (λ c κs. search needs) cast-take-out-4 (λ c κs. search needs) mul-list element-write-list lower-requires add-t19 returns)
+    )))

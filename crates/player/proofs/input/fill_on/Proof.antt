@@ -1,13 +1,12 @@
 -- `fill_on` meets its contract: what the read brought has room in the buffer.
-use native.Mathlib.Omega.{arith}
+use Rattle.lists.specs.Kit.{arith, needs}
 use Rattle.io.proofs.Counting.{counts}
-use borrow.Author.Needs.{needs}
-use Rattle.player.proofs.ReadLaws.{none-found, take-none, put-within}
-use Rattle.player.proofs.input.fill_on.Statement.{statement}
-use Rattle.player.proofs.input.fill_on.Tie as tie
+use Rattle.player.proofs.{ReadLaws.{none-found, take-none, put-within}, input.fill_on.{Statement.{statement}, Tie.{close, spec}}}
 
-returns : tie.Need-returns
-returns c =
+pub fill-on-spec : {M : Type 1} → statement M
+fill-on-spec = close (spec (λ c. search needs) (λ c κs. search needs) (λ c κs. search needs) (λ c. search needs) (λ c. search needs)
+    (λ c κs. search needs) (λ c. search needs) (λ c. search needs)
+    (λ c.
     let put = c .before .before in
     let read = put .before .before .before .before .before in
     let start = read .before .before .before .before .before in
@@ -18,10 +17,4 @@ returns c =
         puts = put .put-text .ensures;
         none = λ h. take-none _ _ (none-found (read .read .ensures .1 .1) h);
       },
-    )
-
-pub fill-on-spec : {M : Type 1} → statement M
-fill-on-spec =
-    tie.close (
-    tie.spec (λ c. search needs) (λ c κs. search needs) (λ c κs. search needs) (λ c. search needs) (λ c. search needs) (λ c κs. search needs)
-    (λ c. search needs) (λ c. search needs) returns)
+    )))

@@ -1,9 +1,7 @@
 -- `within` meets its contract: either length is one of the buffer.
-use native.Mathlib.Omega.{arith}
+use Rattle.lists.specs.Kit.{arith}
 use Rattle.io.proofs.Counting.{counts}
-use borrow.Author.Needs.{needs}
-use Rattle.player.proofs.input.within.Statement.{statement}
-use Rattle.player.proofs.input.within.Tie as tie
+use Rattle.player.proofs.input.within.{Statement.{statement}, Tie.{close, spec}}
 
 pub within-spec : {M : Type 1} → statement M
-within-spec = tie.close (tie.spec (λ c. (counts _ _ (omega arith), omega arith)) (λ c. (counts _ _ (omega arith), omega arith)))
+within-spec = close (spec (λ c. (counts _ _ (omega arith), omega arith)) (λ c. (counts _ _ (omega arith), omega arith)))

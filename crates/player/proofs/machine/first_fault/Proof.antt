@@ -1,16 +1,6 @@
 -- `machine::first_fault` meets its contract: by whether there is a fault.
-use borrow.Author.Tests.{eq-eqb, ne-eqb}
-use borrow.Author.Needs.{needs}
-use Rattle.player.proofs.machine.first_fault.Statement.{statement}
-use Rattle.player.proofs.machine.first_fault.Tie as tie
-
-returns : tie.Need-returns
-returns c = rw (eq-eqb (c .before .args .old) 0 (c .if1 .taken))
-
-returns-2 : tie.Need-returns-2
-returns-2 c = rw (ne-eqb (c .before .args .old) 0 (c .if1 .left))
+use Rattle.lists.specs.Kit.{eq-eqb, ne-eqb}
+use Rattle.player.proofs.machine.first_fault.{Statement.{statement}, Tie.{close, spec}}
 
 pub first-fault-spec : {M : Type 1} → statement M
-first-fault-spec =
-    tie.close (
-    tie.spec returns returns-2)
+first-fault-spec = close (spec (λ c. rw (eq-eqb (c .before .args .old) 0 (c .if1 .taken))) (λ c. rw (ne-eqb (c .before .args .old) 0 (c .if1 .left))))

@@ -1,13 +1,10 @@
 -- `machine::stopped` meets its contract: `bad L` is put, and the run has a fault.
-use mathlib.Core.Path.{refl}
-use native.Mathlib.Omega.{arith}
-use Rattle.player.proofs.ReadingLaws.{fault-first}
-use borrow.Author.Needs.{needs}
-use Rattle.player.proofs.machine.stopped.Statement.{statement}
-use Rattle.player.proofs.machine.stopped.Tie as tie
+use Rattle.lists.specs.Kit.{refl, arith, needs}
+use Rattle.player.proofs.{ReadingLaws.{fault-first}, machine.stopped.{Statement.{statement}, Tie.{close, spec}}}
 
-returns : tie.Need-returns
-returns c =
+pub stopped-spec : {M : Type 1} → statement M
+stopped-spec = close (spec (λ c κs. search needs) (λ c κs. search needs) (λ c. search needs)
+    (λ c.
     let at-put-bad-line = c .before .before .before in
     let start = at-put-bad-line .before .before .before in
     record {
@@ -16,9 +13,4 @@ returns c =
       held = refl;
       live = refl;
       fault = λ e. absurd (omega (arith, fault-first (start .args .s .fault) 8 _ (c .first-fault .ensures) e .1));
-    }
-
-pub stopped-spec : {M : Type 1} → statement M
-stopped-spec =
-    tie.close (
-    tie.spec (λ c κs. search needs) (λ c κs. search needs) (λ c. search needs) returns)
+    }))

@@ -1,17 +1,8 @@
 -- `machine::take_byte` meets its contract: each way through it is one thing that the machine does with a byte.
-use mathlib.Core.Path.{refl, sym, _∙_}
-use mathlib.Core.Bool.{true, true≢false}
-use Prim.Native.Nat.{_+_}
-use native.Mathlib.Omega.{arith}
-use lib.ListN.{length-set}
-use lib.Seq.{length-take-le}
-use borrow.Author.Tests.{not-true, not-false}
-use borrow.Author.Needs.{needs}
+use Rattle.lists.specs.Kit.{refl, sym, _∙_, true, true≢false, _+_, arith, length-set, length-take-le, not-true, not-false, needs}
 use Rattle.mesh.specs.Tables.{tables}
-use Rattle.player.specs.Machine.{Marked}
-use Rattle.player.specs.declared.machine.Progress.{Progress}
-use Rattle.player.proofs.ByteLaws.{byte-over, byte-long, byte-held, byte-call, byte-bad}
-use Rattle.player.proofs.machine.take_byte.Statement.{statement}
+use Rattle.player.specs.{Machine.{Marked}, declared.machine.Progress.{Progress}}
+use Rattle.player.proofs.{ByteLaws.{byte-over, byte-long, byte-held, byte-call, byte-bad}, machine.take_byte.Statement.{statement}}
 use Rattle.player.proofs.machine.take_byte.Tie as tie
 
 returns : tie.Need-returns
@@ -80,19 +71,8 @@ returns-5 c =
           (sym (played .play-line .ensures .0) ∙ not-false (played .play-line .result .ok) (tested .if4 .left)) (played .play-line .ensures .1) refl refl refl,
     )
 
-slice-write-line : tie.Need-slice-write-line
-slice-write-line c = search needs
-
-slice-reshare-prefix-play-line : tie.Need-slice-reshare-prefix-play-line
-slice-reshare-prefix-play-line c = simp length-set (omega arith)
-
-slice-aggregate-play-line : tie.Need-slice-aggregate-play-line
-slice-aggregate-play-line c = sym (length-take-le _ _ (simp length-set (omega arith)))
-
 pub take-byte-spec : {M : Type 1} → statement M
-take-byte-spec =
-    tie.close (
-    tie.spec returns (λ c κs. search needs) (λ c. search needs) returns-2 slice-write-line (λ c. search needs) (λ c. search needs) returns-3
-    slice-reshare-prefix-play-line slice-aggregate-play-line (λ c κs. search needs) (λ c κs. search needs) (λ c. search needs) (λ c. search needs) (λ c.
-    search needs) (λ c. search needs) (λ c. search needs) (λ c. search needs) returns-4 (λ c. search needs) (λ c. search needs) (λ c. search needs) (λ c.
-    search needs) (λ c. search needs) (λ c. search needs) (λ c. search needs) returns-5)
+take-byte-spec = tie.close (tie.spec returns (λ c κs. search needs) (λ c. search needs) returns-2 (λ c. search needs) (λ c. search needs) (λ c. search needs)
+    returns-3 (λ c. simp length-set (omega arith)) (λ c. sym (length-take-le _ _ (simp length-set (omega arith)))) (λ c κs. search needs)
+    (λ c κs. search needs) (λ c. search needs) (λ c. search needs) (λ c. search needs) (λ c. search needs) (λ c. search needs) (λ c. search needs) returns-4
+    (λ c. search needs) (λ c. search needs) (λ c. search needs) (λ c. search needs) (λ c. search needs) (λ c. search needs) (λ c. search needs) returns-5)

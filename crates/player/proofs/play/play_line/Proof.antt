@@ -1,9 +1,7 @@
 -- `play::play_line` meets its contract: the cases of the parser are the cases of `Played`.
-use mathlib.Core.Path.{refl}
-use borrow.Author.Needs.{needs}
+use Rattle.lists.specs.Kit.{refl, needs}
 use Rattle.player.specs.Lines.{is-call}
-use Rattle.player.proofs.LineLaws.{line-calls, up-played, down-played, none-played}
-use Rattle.player.proofs.play.play_line.Statement.{statement}
+use Rattle.player.proofs.{LineLaws.{line-calls, up-played, down-played, none-played}, play.play_line.Statement.{statement}}
 use Rattle.player.proofs.play.play_line.Tie as tie
 
 returns : tie.Need-returns
@@ -37,8 +35,6 @@ returns-4 c =
     (line-calls _ parsed found, none-played _ _ _ _ _ parsed found refl)
 
 pub play-line-spec : {M : Type 1} → statement M
-play-line-spec =
-    tie.close (
-    tie.spec (λ c κs. search needs) (λ c. search needs) (λ c κs. search needs) (λ c. search needs) (λ c κs. search needs) (λ c. search needs)
-    (λ c. search needs) (λ c. search needs) (λ c. search needs) (λ c. search needs) (λ c. search needs) (λ c. search needs) returns (λ c. search needs)
-    (λ c. search needs) (λ c. search needs) (λ c. search needs) (λ c. search needs) returns-2 returns-3 returns-4)
+play-line-spec = tie.close (tie.spec (λ c κs. search needs) (λ c. search needs) (λ c κs. search needs) (λ c. search needs) (λ c κs. search needs)
+    (λ c. search needs) (λ c. search needs) (λ c. search needs) (λ c. search needs) (λ c. search needs) (λ c. search needs) (λ c. search needs) returns
+    (λ c. search needs) (λ c. search needs) (λ c. search needs) (λ c. search needs) (λ c. search needs) returns-2 returns-3 returns-4)

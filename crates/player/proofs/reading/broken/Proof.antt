@@ -1,9 +1,7 @@
 -- `reading::broken` meets its contract: nothing but the fault is another, and a failure is one.
-use mathlib.Core.Path.{refl}
+use Rattle.lists.specs.Kit.{refl, needs}
 use Rattle.player.specs.Reading.{broken-off}
-use Rattle.player.proofs.ReadingLaws.{fault-first}
-use borrow.Author.Needs.{needs}
-use Rattle.player.proofs.reading.broken.Statement.{statement}
+use Rattle.player.proofs.{ReadingLaws.{fault-first}, reading.broken.Statement.{statement}}
 use Rattle.player.proofs.reading.broken.Tie as tie
 
 returns : tie.Need-returns
@@ -13,6 +11,4 @@ returns c =
     (refl, λ e. fault-first (start .args .s .fault) (start .args .state) _ (c .first-fault .ensures) e .1)
 
 pub broken-spec : {M : Type 1} → statement M
-broken-spec =
-    tie.close (
-    tie.spec (λ c κs. search needs) returns)
+broken-spec = tie.close (tie.spec (λ c κs. search needs) returns)

@@ -1,13 +1,7 @@
--- `reading::kept_fault` meets its contract: a fault stays.
-use Rattle.player.proofs.ReadingLaws.{fault-first}
-use borrow.Author.Needs.{needs}
-use Rattle.player.proofs.reading.kept_fault.Statement.{statement}
-use Rattle.player.proofs.reading.kept_fault.Tie as tie
-
-returns-2 : tie.Need-returns-2
-returns-2 c = λ e. fault-first _ _ _ (c .first-fault .ensures) e .0
+-- `reading::kept_fault` meets its contract: by whether the buffer was kept.
+use Rattle.lists.specs.Kit.{needs}
+use Rattle.player.proofs.{ReadingLaws.{kept-right, kept-not}, reading.kept_fault.{Statement.{statement}, Tie.{close, spec}}}
 
 pub kept-fault-spec : {M : Type 1} → statement M
-kept-fault-spec =
-    tie.close (
-    tie.spec (λ c. search needs) (λ c κs. search needs) returns-2)
+kept-fault-spec = close (spec (λ c. kept-right _ _ (c .if1 .taken)) (λ c κs. search needs)
+    (λ c. kept-not _ _ _ (c .before .if1 .left) (c .first-fault .ensures)))

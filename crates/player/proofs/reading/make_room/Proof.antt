@@ -1,16 +1,7 @@
 -- `reading::make_room` meets its contract: the two cases of a buffer that is full or not.
-use Rattle.player.proofs.ReadingLaws.{room-made-not, room-made-full}
-use borrow.Author.Needs.{needs}
-use Rattle.player.proofs.reading.make_room.Statement.{statement}
-use Rattle.player.proofs.reading.make_room.Tie as tie
-
-returns : tie.Need-returns
-returns c = record { is = room-made-not _ (c .if1 .taken); kept = λ e. e }
-
-returns-2 : tie.Need-returns-2
-returns-2 c = record { is = room-made-full _ _ (search needs); kept = c .kept-fault .ensures }
+use Rattle.lists.specs.Kit.{needs}
+use Rattle.player.proofs.{ReadingLaws.{room-made-not, room-made-full, kept-zero}, reading.make_room.{Statement.{statement}, Tie.{close, spec}}}
 
 pub make-room-spec : {M : Type 1} → statement M
-make-room-spec =
-    tie.close (
-    tie.spec returns (λ c κs. search needs) (λ c κs. search needs) returns-2)
+make-room-spec = close (spec (λ c. record { is = room-made-not _ (c .if1 .taken); kept = λ e. e }) (λ c κs. search needs) (λ c κs. search needs)
+    (λ c. record { is = room-made-full _ _ (search needs); kept = kept-zero _ _ _ (c .kept-fault .ensures) }))

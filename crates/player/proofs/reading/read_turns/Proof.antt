@@ -1,14 +1,10 @@
 -- `reading::read_turns` meets its contract: what the reads so far brought is taken, and the measure is the count of reads left.
-use mathlib.Core.Path.{_≡_, refl, sym, _∙_}
-use native.Mathlib.Omega.{arith}
-use lib.ListN.{length}
-use borrow.Author.Needs.{needs}
-use borrow.Author.Tests.{not-false}
+use Rattle.lists.specs.Kit.{_≡_, refl, _∙_, arith, length, needs, not-false}
 use Rattle.mesh.specs.Tables.{tables}
 use Rattle.text.specs.Print.{buffer-at}
 use Rattle.player.specs.Machine.{spot}
-use Rattle.player.proofs.ReadingLaws.{Read-to, read-none, read-more, read-end, sized-as, sized-cleared, ready-turn}
-use Rattle.player.proofs.reading.read_turns.Statement.{statement}
+use Rattle.player.proofs.{ReadingLaws.{Read-to, read-none, read-more, read-end, sized-as, sized-cleared, ready-turn}}
+use Rattle.player.proofs.{reading.read_turns.Statement.{statement}}
 use Rattle.player.proofs.reading.read_turns.Tie as tie
 
 abbrev Inv-loop : tie.InvT-loop
@@ -24,19 +20,16 @@ abbrev μ-loop : tie.MeasureT-loop
 loop-holds : tie.Need-loop-holds Inv-loop μ-loop
 unfolding spot
 loop-holds c =
-    let start = c .before .before .before .before .before .before .before in
-    (refl, refl, refl, refl, refl, refl, read-none _ _ _ _ _ _ refl (record { at = omega arith; number = omega (arith, c .most .ensures); room = start .pre .1 .0 }))
-
-turn-requires : tie.Need-turn-requires Inv-loop μ-loop
-turn-requires c κs =
-    let at-if1 = c .before .before .before .before .before .before .before .before in
-    let at-loop-test = at-if1 .before .before in
-    let at-loop = at-loop-test .before in
-    let start = at-loop .before .before .before .before .before .before .before .before in
-    let inv = at-loop .loop .inv in
-    let live = not-false (at-loop .loop .s .live) (at-if1 .if1 .left) in
-    let sized = sized-as (inv .2) (inv .3) (sized-cleared _ _ _ (start .pre .1 .1)) in
-    (live, (ready-turn _ _ _ (at-loop-test .loop-test .taken) (inv .6 .ready live), sized))
+    let start = c .before .before .before .before .before .before .before in (
+      refl,
+      refl,
+      refl,
+      refl,
+      refl,
+      refl,
+      read-none _ _ _ _ _ _ refl (record
+          { at = omega arith; number = omega (arith, c .most .ensures); room = start .pre .1 .0 }),
+    )
 
 loop-again : tie.Need-loop-again Inv-loop μ-loop
 unfolding spot
@@ -59,28 +52,29 @@ loop-again c =
           (omega (arith, at-turn .turn .kept)) (at-turn .turn .ensures .0) (inv .6) (at-turn .turn .ensures .1),
     )
 
-returns : tie.Need-returns Inv-loop μ-loop
-returns c =
+pub read-turns-spec : {M : Type 1} → statement M
+read-turns-spec = tie.close (tie.spec Inv-loop μ-loop (λ c κs. search needs) loop-holds (λ c. search needs)
+    (λ c κs.
+    let at-if1 = c .before .before .before .before .before .before .before .before in
+    let at-loop-test = at-if1 .before .before in
+    let at-loop = at-loop-test .before in
+    let start = at-loop .before .before .before .before .before .before .before .before in
+    let inv = at-loop .loop .inv in
+    let live = not-false (at-loop .loop .s .live) (at-if1 .if1 .left) in
+    let sized = sized-as (inv .2) (inv .3) (sized-cleared _ _ _ (start .pre .1 .1)) in
+    (live, (ready-turn _ _ _ (at-loop-test .loop-test .taken) (inv .6 .ready live), sized)))
+    (λ c. search needs) loop-again (λ c. search needs) (λ c. search needs) (λ c. search needs) (λ c. search needs) (λ c. search needs) (λ c. search needs)
+    (λ c.
     let at-loop = c .before in
     let start = at-loop .before .before .before .before .before .before .before .before in
-    read-end _ _ _ _ _ _ _ _ (start .pre .1 .1) (at-loop .loop .inv .6)
-
-returns-2 : tie.Need-returns-2 Inv-loop μ-loop
-returns-2 c =
+    read-end _ _ _ _ _ _ _ _ (start .pre .1 .1) (at-loop .loop .inv .6))
+    (λ c. search needs) (λ c. search needs) (λ c. search needs) (λ c. search needs) (λ c. search needs) (λ c. search needs)
+    (λ c.
     let at-loop = c .before .before .before in
     let start = at-loop .before .before .before .before .before .before .before .before in
-    read-end _ _ _ _ _ _ _ _ (start .pre .1 .1) (at-loop .loop .inv .6)
-
-returns-3 : tie.Need-returns-3 Inv-loop μ-loop
-returns-3 c =
+    read-end _ _ _ _ _ _ _ _ (start .pre .1 .1) (at-loop .loop .inv .6))
+    (λ c. search needs) (λ c. search needs) (λ c. search needs) (λ c. search needs) (λ c. search needs) (λ c. search needs)
+    (λ c.
     let at-loop = c .before .before .before .before .before in
     let start = at-loop .before .before .before .before .before .before .before .before in
-    read-end _ _ _ _ _ _ _ _ (start .pre .1 .1) (at-loop .loop .inv .6)
-
-pub read-turns-spec : {M : Type 1} → statement M
-read-turns-spec =
-    tie.close (
-    tie.spec Inv-loop μ-loop (λ c κs. search needs) loop-holds (λ c. search needs) turn-requires (λ c. search needs) loop-again (λ c. search needs) (λ c.
-    search needs) (λ c. search needs) (λ c. search needs) (λ c. search needs) (λ c. search needs) returns (λ c. search needs) (λ c. search needs) (λ c.
-    search needs) (λ c. search needs) (λ c. search needs) (λ c. search needs) returns-2 (λ c. search needs) (λ c. search needs) (λ c. search needs) (λ c.
-    search needs) (λ c. search needs) (λ c. search needs) returns-3)
+    read-end _ _ _ _ _ _ _ _ (start .pre .1 .1) (at-loop .loop .inv .6)))

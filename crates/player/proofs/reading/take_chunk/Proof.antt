@@ -1,39 +1,27 @@
 -- `reading::take_chunk` meets its contract: the bytes passed so far are taken, and the measure is what is left of the chunk.
-use mathlib.Core.Path.{_≡_, refl}
-use Prim.Native.Nat.{_-_}
-use native.Mathlib.Omega.{arith}
-use lib.ListN.{length}
-use borrow.Author.Needs.{needs}
+use Rattle.lists.specs.Kit.{_≡_, refl, _-_, arith, length, needs}
 use Rattle.mesh.specs.Tables.{tables}
 use Rattle.text.specs.Print.{buffer-at}
 use Rattle.player.specs.Machine.{spot, Marked}
 use Rattle.player.proofs.ReadingLaws.{Chunk-to, chunk-none, chunk-more, chunk-end, marked-room}
-use Rattle.player.proofs.reading.take_chunk.Statement.{statement}
-use Rattle.player.proofs.reading.take_chunk.Tie as tie
+use Rattle.player.proofs.reading.take_chunk.{Statement.{statement}, Tie.{close, spec}}
 
-abbrev Inv-loop : tie.InvT-loop
-Inv-loop keep chunk n line₀ links₀ numbers₀ order₀ answer₀ out₀ s₀ i₀ line links numbers order answer out s i =
-    (length line ≡ length line₀) × (length links ≡ length links₀) × (length numbers ≡ length numbers₀) × (length order ≡ length order₀)
-    × (length answer ≡ length answer₀) × (length out ≡ length out₀) × (Marked s₀ → Marked s)
-    × Chunk-to (length line₀) n chunk i (spot (tables links₀ numbers₀ order₀) answer₀ line₀ s₀) (buffer-at out₀ (s₀ .at))
-    (spot (tables links numbers order) answer line s) s out
-
-abbrev μ-loop : tie.MeasureT-loop
-μ-loop keep chunk n line₀ links₀ numbers₀ order₀ answer₀ out₀ s₀ i₀ line links numbers order answer out s i =
-    length chunk - i
-
-loop-holds : tie.Need-loop-holds Inv-loop μ-loop
-loop-holds c =
+pub take-chunk-spec : {M : Type 1} → statement M
+take-chunk-spec = close (spec
+    (λ _ chunk n line₀ links₀ numbers₀ order₀ answer₀ out₀ s₀ _ line links numbers order answer out s i. (length line ≡ length line₀) ×
+    (length links ≡ length links₀) × (length numbers ≡ length numbers₀) × (length order ≡ length order₀) × (length answer ≡ length answer₀) ×
+    (length out ≡ length out₀) × (Marked s₀ → Marked s) × Chunk-to (length line₀) n chunk i (spot (tables links₀ numbers₀ order₀) answer₀ line₀ s₀)
+    (buffer-at out₀ (s₀ .at)) (spot (tables links numbers order) answer line s) s out)
+    (λ _ chunk _ _ _ _ _ _ _ _ _ _ _ _ _ _ _ _ i. length chunk - i)
+    (λ c.
     let start = c .before .before .before .before .before .before .before in
-    (refl, refl, refl, refl, refl, refl, (λ m. m), chunk-none _ _ _ _ _ _ (start .pre))
-
-take-byte-requires : tie.Need-take-byte-requires Inv-loop μ-loop
-take-byte-requires c κs =
+    (refl, refl, refl, refl, refl, refl, (λ m. m), chunk-none _ _ _ _ _ _ (start .pre)))
+    (λ c. search needs) (λ c. search needs)
+    (λ c κs.
     let at-loop = c .before .before .before .before .before .before .before .before in
-    omega (arith, at-loop .loop .inv .7 .ready .number)
-
-loop-again : tie.Need-loop-again Inv-loop μ-loop
-loop-again c =
+    omega (arith, at-loop .loop .inv .7 .ready .number))
+    (λ c κs. search needs) (λ c. search needs)
+    (λ c.
     let at-take-byte = c .before .before .before .before .before .before .before .before .before .before .before .before .before .before in
     let at-loop-test = at-take-byte .before .before .before .before .before .before .before .before in
     let at-loop = at-loop-test .before in (
@@ -46,15 +34,8 @@ loop-again c =
       (λ m. marked-room _ _ (c .make-room .ensures) (at-take-byte .take-byte .ensures .0 (at-loop .loop .inv .6 m))),
       chunk-more _ _ _ _ _ _ _ _ _ _ _ _ _ _ _ _ _ _ _ (at-loop-test .loop-test .taken) refl (at-loop .loop .inv .0) (search needs) (c .make-room .ensures)
           (at-loop .loop .inv .7) (at-take-byte .take-byte .ensures .1),
-    )
-
-returns : tie.Need-returns Inv-loop μ-loop
-returns c =
+    ))
+    (λ c. search needs) (λ c. search needs) (λ c. search needs) (λ c. search needs) (λ c. search needs) (λ c. search needs)
+    (λ c.
     let at-loop = c .before in
-    (at-loop .loop .inv .7 .ready .at, (at-loop .loop .inv .6, chunk-end _ _ _ _ _ _ _ _ _ (c .loop-test .left) (at-loop .loop .inv .7)))
-
-pub take-chunk-spec : {M : Type 1} → statement M
-take-chunk-spec =
-    tie.close (
-    tie.spec Inv-loop μ-loop loop-holds (λ c. search needs) (λ c. search needs) take-byte-requires (λ c κs. search needs) (λ c. search needs) loop-again (λ
-    c. search needs) (λ c. search needs) (λ c. search needs) (λ c. search needs) (λ c. search needs) (λ c. search needs) returns)
+    (at-loop .loop .inv .7 .ready .at, (at-loop .loop .inv .6, chunk-end _ _ _ _ _ _ _ _ _ (c .loop-test .left) (at-loop .loop .inv .7)))))

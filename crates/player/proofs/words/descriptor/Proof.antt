@@ -1,26 +1,10 @@
 -- `words::descriptor` meets its contract: by the word's length, and by its byte.
-use mathlib.Core.Path.{sym, ap, _∙_}
-use native.Mathlib.Omega.{arith}
-use mir.Syntax.{w32}
-use mir.Facts.{toZ-pos}
-use borrow.Author.Needs.{needs}
+use Rattle.lists.specs.Kit.{arith, needs}
+use mir.{Syntax.{w32}, Facts.{toZ-pos}}
 use Rattle.player.proofs.WordLaws.{descriptor-other, descriptor-below, descriptor-above, descriptor-digit}
-use Rattle.player.proofs.words.descriptor.Statement.{statement}
-use Rattle.player.proofs.words.descriptor.Tie as tie
-
-returns : tie.Need-returns
-returns c = search (needs, descriptor-other)
-
-returns-2 : tie.Need-returns-2
-returns-2 c = search (needs, descriptor-below)
-
-returns-3 : tie.Need-returns-3
-returns-3 c = search (needs, descriptor-above)
-
-returns-4 : tie.Need-returns-4
-returns-4 c = descriptor-digit _ (search needs) _ (search needs) (search needs) (toZ-pos w32 (omega arith))
+use Rattle.player.proofs.words.descriptor.{Statement.{statement}, Tie.{close, spec}}
 
 pub descriptor-spec : {M : Type 1} → statement M
-descriptor-spec =
-    tie.close (
-    tie.spec returns (λ c. search needs) returns-2 returns-3 (λ c. search needs) returns-4)
+descriptor-spec = close (spec (λ c. search (needs, descriptor-other)) (λ c. search needs) (λ c. search (needs, descriptor-below))
+    (λ c. search (needs, descriptor-above)) (λ c. search needs)
+    (λ c. descriptor-digit _ (search needs) _ (search needs) (search needs) (toZ-pos w32 (omega arith))))

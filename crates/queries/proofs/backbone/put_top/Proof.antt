@@ -1,6 +1,5 @@
 -- `put_top` meets its contract: the test is that of `top-put`.
-use borrow.Author.Tests.{eq-eqb, ne-eqb}
-use borrow.Author.Needs.{needs}
+use Rattle.lists.specs.Kit.{eq-eqb, ne-eqb, needs}
 use Rattle.queries.specs.Parts.{top-put}
 use Rattle.queries.proofs.backbone.put_top.Statement.{statement}
 use Rattle.queries.proofs.backbone.put_top.Tie as tie
@@ -16,5 +15,4 @@ returns-2 c =
     rw (← at .before .number-in .ensures, eq-eqb _ _ (at .if1 .left)) (c .before .before .put-in .ensures)
 
 pub put-top-spec : {M : Type 1} → statement M
-put-top-spec =
-    tie.close (tie.spec (λ c κs. search needs) returns (λ c κs. search needs) (λ c. search needs) returns-2)
+put-top-spec = tie.close (tie.spec (λ c κs. search needs) returns (λ c κs. search needs) (λ c. search needs) returns-2)

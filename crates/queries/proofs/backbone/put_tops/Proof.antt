@@ -1,12 +1,8 @@
 -- `put_tops` meets its contract: what is left of the list gives what all of it gives (`Folding`). The measure is what is
 -- left of the list.
-use Prim.Native.Nat.{_-_}
-use lib.ListN.{take}
-use borrow.Author.Needs.{needs}
-use Rattle.lists.proofs.Loops.{Folding, folding-none, folding-front, folding-front-end, folding-long}
+use Rattle.lists.{specs.Kit.{_-_, take, needs}, proofs.Loops.{Folding, folding-none, folding-front, folding-front-end, folding-long}}
 use Rattle.queries.specs.Parts.{top-put, tops-put}
-use Rattle.queries.proofs.PartLaws.{length-top-put}
-use Rattle.queries.proofs.backbone.put_tops.Statement.{statement}
+use Rattle.queries.proofs.{PartLaws.{length-top-put}, backbone.put_tops.Statement.{statement}}
 use Rattle.queries.proofs.backbone.put_tops.Tie as tie
 
 abbrev Inv-loop : tie.InvT-loop
@@ -14,16 +10,6 @@ Inv-loop numbers top list k set₀ i₀ set i = Folding (top-put numbers top) (t
 
 abbrev μ-loop : tie.MeasureT-loop
 μ-loop numbers top list k set₀ i₀ set i = k - i
-
-loop-again : tie.Need-loop-again Inv-loop μ-loop
-loop-again c =
-    let at-loop = c .before .before .before .before .before .before in
-    let start = at-loop .before .before .before .before in
-    folding-front _ (start .args .list .now) (start .args .k) (start .args .set .now) (at-loop .loop .set) _ (at-loop .loop .i) (start .pre)
-    (c .before .before .before .before .before .loop-test .taken) (c .before .before .put-top .ensures) (at-loop .loop .inv)
-
-same-length : tie.Need-same-length Inv-loop μ-loop
-same-length c = folding-long _ (length-top-put _ _) _ _ _ _ (c .before .loop .inv)
 
 returns : tie.Need-returns Inv-loop μ-loop
 unfolding tops-put
@@ -33,7 +19,11 @@ returns c =
     (c .before .loop .inv)
 
 pub put-tops-spec : {M : Type 1} → statement M
-put-tops-spec =
-    tie.close (
-    tie.spec Inv-loop μ-loop (λ c. folding-none _ _ _) (λ c. search needs) (λ c. search needs) (λ c κs. search needs)
-    (λ c. search needs) (λ c. search needs) loop-again same-length returns)
+put-tops-spec = tie.close (tie.spec Inv-loop μ-loop (λ c. folding-none _ _ _) (λ c. search needs) (λ c. search needs) (λ c κs. search needs)
+    (λ c. search needs) (λ c. search needs)
+    (λ c.
+    let at-loop = c .before .before .before .before .before .before in
+    let start = at-loop .before .before .before .before in
+    folding-front _ (start .args .list .now) (start .args .k) (start .args .set .now) (at-loop .loop .set) _ (at-loop .loop .i) (start .pre)
+    (c .before .before .before .before .before .loop-test .taken) (c .before .before .put-top .ensures) (at-loop .loop .inv))
+    (λ c. folding-long _ (length-top-put _ _) _ _ _ _ (c .before .loop .inv)) returns)

@@ -1,13 +1,8 @@
 -- `sets::take_set` meets its contract: the words before word k are without the other set's bits (`Changing`). The measure is the words
 -- that are left.
-use mathlib.Core.Path.{refl, sym, _∙_}
-use Prim.Native.Nat.{_-_}
-use native.Mathlib.Omega.{arith}
-use lib.ListN.{getD}
-use borrow.Author.Needs.{needs}
+use Rattle.lists.specs.Kit.{refl, sym, _∙_, _-_, arith, getD, needs}
 use Rattle.rows.specs.Sets.{word-left}
-use Rattle.rows.proofs.SetLaws.{Changing, changing-none, changing-turn, set-taken-end}
-use Rattle.rows.proofs.sets.take_set.Statement.{statement}
+use Rattle.rows.proofs.{SetLaws.{Changing, changing-none, changing-turn, set-taken-end}, sets.take_set.Statement.{statement}}
 use Rattle.rows.proofs.sets.take_set.Tie as tie
 
 abbrev Inv-loop : tie.InvT-loop
@@ -22,14 +17,10 @@ loop-again c =
     let test = c .before .before .before in
     changing-turn _ _ (test .before .loop .k) _ (test .before .loop .set) (test .loop-test .taken) refl (test .before .loop .inv)
 
-returns : tie.Need-returns Inv-loop μ-loop
-returns c = set-taken-end _ _ (c .before .loop .set) (c .before .loop .k) (c .loop-test .left) (search needs) (c .before .loop .inv)
-
 pub take-set-spec : {M : Type 1} → statement M
-take-set-spec =
-    tie.close (
-    tie.spec Inv-loop μ-loop (λ c. changing-none _ _ (search needs)) (λ c. search needs) (λ c. search needs)
+take-set-spec = tie.close (tie.spec Inv-loop μ-loop (λ c. changing-none _ _ (search needs)) (λ c. search needs) (λ c. search needs)
     (λ c. omega (arith, c .before .loop-test .taken, c .before .before .loop .inv .long)) (λ c. search needs) (λ c. search needs) (λ c. search needs)
     (λ c. omega (arith, c .before .before .before .loop-test .taken, c .before .before .before .before .loop .inv .long)) (λ c. search needs)
     (λ c. omega (arith, c .before .before .before .loop-test .taken, c .before .before .before .before .loop .inv .long)) (λ c. search needs)
-    (λ c. search needs) loop-again (λ c. c .before .loop .inv .long ∙ sym (search needs)) returns)
+    (λ c. search needs) loop-again (λ c. c .before .loop .inv .long ∙ sym (search needs))
+    (λ c. set-taken-end _ _ (c .before .loop .set) (c .before .loop .k) (c .loop-test .left) (search needs) (c .before .loop .inv)))

@@ -1,48 +1,46 @@
 -- `lines::read_link` meets its contract: each test decides one step of `link-of`.
-use native.Mathlib.Omega.{arith}
-use borrow.Author.Tests.{not-true, not-false}
-use borrow.Author.Needs.{needs}
+use Rattle.lists.specs.Kit.{arith, not-true, not-false, needs}
 use Rattle.script.proofs.LineLaws.{space-past, space-differ, space-is, link-none, link-gap, link-one, link-both}
-use Rattle.script.proofs.lines.read_link.Statement.{statement}
-use Rattle.script.proofs.lines.read_link.Tie as tie
-
-returns : tie.Need-returns
-returns c =
-    let number = c .before .before in
-    let call = number .before .before .args in
-    link-none (call .up) (call .s .now) (call .p) (number .read-number .result) (number .read-number .ensures) (not-true _ (c .if1 .taken))
-
-returns-2 : tie.Need-returns-2
-returns-2 c =
-    let number = c .before .before .before in
-    let call = number .before .before .args in
-    link-gap (call .up) (call .s .now) (call .p) (number .read-number .result) (number .read-number .ensures) (not-false _ (c .before .if1 .left)) (space-past (call .s .now) (number .read-number .result .next) (omega arith))
-
-returns-3 : tie.Need-returns-3
-returns-3 c =
-    let number = c .before .before .before .before .before in
-    let call = number .before .before .args in
-    link-gap (call .up) (call .s .now) (call .p) (number .read-number .result) (number .read-number .ensures) (not-false _ (c .before .before .before .if1 .left)) (space-differ (call .s .now) (number .read-number .result .next) (omega arith) (c .if3 .taken))
-
-returns-4 : tie.Need-returns-4
-returns-4 c =
-    let number = c .before .before .before .before .before .before .before .before in
-    let call = number .before .before .args in
-    link-one (call .up) (call .s .now) (call .p) (number .read-number .result) (number .read-number .ensures) (not-false _ (c .before .before .before .before .before .before .if1 .left)) (space-is (call .s .now) (number .read-number .result .next) (omega arith) (c .before .before .before .if3 .left)) (c .before .before .read-last-number .result) (c .before .before .read-last-number .ensures) (not-true _ (c .if4 .taken))
-
-returns-5 : tie.Need-returns-5
-returns-5 c =
-    let number = c .before .before .before .before .before .before .before .before .before in
-    let call = number .before .before .args in
-    link-both (call .up) (call .s .now) (call .p) (number .read-number .result) (number .read-number .ensures) (not-false _ (c .before .before .before .before .before .before .before .if1 .left)) (space-is (call .s .now) (number .read-number .result .next) (omega arith) (c .before .before .before .before .if3 .left)) (c .before .before .before .read-last-number .result) (c .before .before .before .read-last-number .ensures) (not-false _ (c .before .if4 .left)) _ (c .if5 .taken)
-
-returns-6 : tie.Need-returns-6
-returns-6 c =
-    let number = c .before .before .before .before .before .before .before .before .before in
-    let call = number .before .before .args in
-    link-both (call .up) (call .s .now) (call .p) (number .read-number .result) (number .read-number .ensures) (not-false _ (c .before .before .before .before .before .before .before .if1 .left)) (space-is (call .s .now) (number .read-number .result .next) (omega arith) (c .before .before .before .before .if3 .left)) (c .before .before .before .read-last-number .result) (c .before .before .before .read-last-number .ensures) (not-false _ (c .before .if4 .left)) _ (c .if5 .left)
+use Rattle.script.proofs.lines.read_link.{Statement.{statement}, Tie.{close, spec}}
 
 pub read-link-spec : {M : Type 1} → statement M
-read-link-spec =
-    tie.close (
-    tie.spec (λ c κs. search needs) returns returns-2 (λ c. search needs) returns-3 (λ c. search needs) (λ c κs. search needs) returns-4 returns-5 returns-6)
+read-link-spec = close (spec (λ c κs. search needs)
+    (λ c.
+    let number = c .before .before in
+    let call = number .before .before .args in
+    link-none (call .up) (call .s .now) (call .p) (number .read-number .result) (number .read-number .ensures) (not-true _ (c .if1 .taken)))
+    (λ c.
+    let number = c .before .before .before in
+    let call = number .before .before .args in
+    link-gap (call .up) (call .s .now) (call .p) (number .read-number .result) (number .read-number .ensures) (not-false _ (c .before .if1 .left))
+    (space-past (call .s .now) (number .read-number .result .next) (omega arith)))
+    (λ c. search needs)
+    (λ c.
+    let number = c .before .before .before .before .before in
+    let call = number .before .before .args in
+    link-gap (call .up) (call .s .now) (call .p) (number .read-number .result) (number .read-number .ensures)
+    (not-false _ (c .before .before .before .if1 .left)) (space-differ (call .s .now) (number .read-number .result .next) (omega arith) (c .if3 .taken)))
+    (λ c. search needs) (λ c κs. search needs)
+    (λ c.
+    let number = c .before .before .before .before .before .before .before .before in
+    let call = number .before .before .args in
+    link-one (call .up) (call .s .now) (call .p) (number .read-number .result) (number .read-number .ensures)
+    (not-false _ (c .before .before .before .before .before .before .if1 .left))
+    (space-is (call .s .now) (number .read-number .result .next) (omega arith) (c .before .before .before .if3 .left))
+    (c .before .before .read-last-number .result) (c .before .before .read-last-number .ensures) (not-true _ (c .if4 .taken)))
+    (λ c.
+    let number = c .before .before .before .before .before .before .before .before .before in
+    let call = number .before .before .args in
+    link-both (call .up) (call .s .now) (call .p) (number .read-number .result) (number .read-number .ensures)
+    (not-false _ (c .before .before .before .before .before .before .before .if1 .left))
+    (space-is (call .s .now) (number .read-number .result .next) (omega arith) (c .before .before .before .before .if3 .left))
+    (c .before .before .before .read-last-number .result) (c .before .before .before .read-last-number .ensures) (not-false _ (c .before .if4 .left)) _
+    (c .if5 .taken))
+    (λ c.
+    let number = c .before .before .before .before .before .before .before .before .before in
+    let call = number .before .before .args in
+    link-both (call .up) (call .s .now) (call .p) (number .read-number .result) (number .read-number .ensures)
+    (not-false _ (c .before .before .before .before .before .before .before .if1 .left))
+    (space-is (call .s .now) (number .read-number .result .next) (omega arith) (c .before .before .before .before .if3 .left))
+    (c .before .before .before .read-last-number .result) (c .before .before .before .read-last-number .ensures) (not-false _ (c .before .if4 .left)) _
+    (c .if5 .left)))

@@ -1,35 +1,29 @@
 -- `printing::put_link_line` meets its contract: one text after another.
-use mathlib.Core.Path.{refl, sym}
-use native.Mathlib.Omega.{arith}
+use Rattle.lists.specs.Kit.{refl, sym, arith, take, take-all, length-take-le, needs}
 use mir.Facts.{toZ-ofZ}
-use lib.ListN.{take}
-use lib.Seq.{take-all, length-take-le}
-use borrow.Author.Needs.{needs}
-use Rattle.script.proofs.PrintedLaws.{puts-link-line}
-use Rattle.script.proofs.printing.put_link_line.Statement.{statement}
-use Rattle.script.proofs.printing.put_link_line.Tie as tie
-
-returns : tie.Need-returns
-returns c =
-    let start = c .before .before .before .before .before .before .before .before .before .before .before .before .before .before .before .before .before .before .before in
-    let call = start .args in
-    puts-link-line (call .number) (call .step) (take (call .count) (call .changed .now)) (toZ-ofZ (start .fits .step)) (sym (take-all (call .count) (call .changed .now) (omega arith)))
-    (c .before .before .before .before .before .before .before .before .before .before .before .before .before .before .before .put-decimal .ensures) (c .before .before .before .before .before .before .before .before .before .before .before .put-byte .ensures) (c .before .before .before .before .before .before .before .put-step .ensures) (c .before .before .put-radios .ensures)
-
-slice-aggregate-put-radios : tie.Need-slice-aggregate-put-radios
-slice-aggregate-put-radios c =
-    let call = c .before .before .before .before .before .before .before .before .before .before .before .before .before .before .before .before .before .args in
-    sym (length-take-le (call .count) (call .changed .now) (omega arith))
-
-returns-2 : tie.Need-returns-2
-returns-2 c =
-    let start = c .before .before .before .before .before .before .before .before .before .before .before .before .before .before .before .before .before .before .before .before in
-    let call = start .args in
-    puts-link-line (call .number) (call .step) (take (call .count) (call .changed .now)) (toZ-ofZ (start .fits .step)) refl
-    (c .before .before .before .before .before .before .before .before .before .before .before .before .before .before .before .before .put-decimal .ensures) (c .before .before .before .before .before .before .before .before .before .before .before .before .put-byte .ensures) (c .before .before .before .before .before .before .before .before .put-step .ensures) (c .before .before .put-radios2 .ensures)
+use Rattle.script.proofs.{PrintedLaws.{puts-link-line}, printing.put_link_line.{Statement.{statement}, Tie.{close, spec}}}
 
 pub put-link-line-spec : {M : Type 1} → statement M
-put-link-line-spec =
-    tie.close (
-    tie.spec (λ c κs. search needs) (λ c κs. search needs) (λ c κs. search needs) (λ c κs. search needs) (λ c. search needs) returns
-    slice-aggregate-put-radios (λ c κs. search needs) (λ c. search needs) returns-2)
+put-link-line-spec = close (spec (λ c κs. search needs) (λ c κs. search needs) (λ c κs. search needs) (λ c κs. search needs) (λ c. search needs)
+    (λ c.
+    let start = c .before .before .before .before .before .before .before .before .before .before .before .before .before .before .before .before .before
+    .before .before in
+    let call = start .args in
+    puts-link-line (call .number) (call .step) (take (call .count) (call .changed .now)) (toZ-ofZ (start .fits .step))
+    (sym (take-all (call .count) (call .changed .now) (omega arith)))
+    (c .before .before .before .before .before .before .before .before .before .before .before .before .before .before .before .put-decimal .ensures)
+    (c .before .before .before .before .before .before .before .before .before .before .before .put-byte .ensures)
+    (c .before .before .before .before .before .before .before .put-step .ensures) (c .before .before .put-radios .ensures))
+    (λ c.
+    let call = c .before .before .before .before .before .before .before .before .before .before .before .before .before .before .before .before .before
+    .args in
+    sym (length-take-le (call .count) (call .changed .now) (omega arith)))
+    (λ c κs. search needs) (λ c. search needs)
+    (λ c.
+    let start = c .before .before .before .before .before .before .before .before .before .before .before .before .before .before .before .before .before
+    .before .before .before in
+    let call = start .args in
+    puts-link-line (call .number) (call .step) (take (call .count) (call .changed .now)) (toZ-ofZ (start .fits .step)) refl
+    (c .before .before .before .before .before .before .before .before .before .before .before .before .before .before .before .before .put-decimal .ensures)
+    (c .before .before .before .before .before .before .before .before .before .before .before .before .put-byte .ensures)
+    (c .before .before .before .before .before .before .before .before .put-step .ensures) (c .before .before .put-radios2 .ensures)))

@@ -1,6 +1,5 @@
 -- `digit_byte` meets its contract by the definition.
-use mathlib.Core.Path.{refl}
-use borrow.Author.Needs.{needs}
+use Rattle.lists.specs.Kit.{refl, needs}
 use Rattle.text.specs.Text.{digit-byte}
 use Rattle.script.proofs.writer.digit_byte.Statement.{statement}
 use Rattle.script.proofs.writer.digit_byte.Tie as tie

@@ -1,24 +1,11 @@
 -- `put_radio` meets its contract: what is listed are the neighbours above the radio, all of them, since the row fits the list.
-use mathlib.Core.Path.{sym, ap}
-use mathlib.Core.List.{List, flatMap}
-use Prim.Native.Nat.{ℕ}
-use native.Mathlib.Omega.{arith}
-use lib.ListN.{length, replicate}
-use lib.Seq.{length-take-le}
-use borrow.Author.Needs.{needs}
+use Rattle.lists.specs.Kit.{sym, ap, List, flatMap, ℕ, arith, length, replicate, length-take-le, needs}
 use Rattle.mesh.specs.Limits.{max-neighbours}
 use Rattle.text.proofs.PrintLaws.{puts-as}
 use Rattle.calls.specs.Script.{up-line}
-use Rattle.rows.specs.Links.{links-to, links-above}
-use Rattle.rows.proofs.AboveLaws.{above-front}
-use Rattle.script.proofs.PutLaws.{above-radios}
-use Rattle.script.proofs.writer.put_radio.Statement.{statement}
+use Rattle.rows.{specs.Links.{links-to, links-above}, proofs.AboveLaws.{above-front}}
+use Rattle.script.proofs.{PutLaws.{above-radios}, writer.put_radio.Statement.{statement}}
 use Rattle.script.proofs.writer.put_radio.Tie as tie
-
-aggregate : tie.Need-slice-aggregate-put-row
-aggregate c =
-    let listed = c .before .before .before in
-    sym (length-take-le _ _ (omega (arith, listed .row-above .ensures .0, listed .row-above .kept .1 .1 .0)))
 
 put-row-requires : tie.Need-put-row-requires
 unfolding links-above
@@ -44,6 +31,6 @@ returns c =
     puts-as (ap (λ (bs : List ℕ). flatMap up-line (links-to (s .a) bs)) is) (put .put-row .ensures)
 
 pub put-radio-spec : {M : Type 1} → statement M
-put-radio-spec =
-    tie.close (
-    tie.spec (λ c. search needs) (λ c κs. search needs) (λ c. search needs) (λ c. search needs) aggregate put-row-requires (λ c. search needs) returns)
+put-radio-spec = tie.close (tie.spec (λ c. search needs) (λ c κs. search needs) (λ c. search needs) (λ c. search needs)
+    (λ c. let listed = c .before .before .before in sym (length-take-le _ _ (omega (arith, listed .row-above .ensures .0, listed .row-above .kept .1 .1 .0))))
+    put-row-requires (λ c. search needs) returns)

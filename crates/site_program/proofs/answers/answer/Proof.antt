@@ -1,11 +1,8 @@
 -- `answers::answer` meets its contract: each case is the contract of its verb.
-use mathlib.Core.Path.{refl}
-use borrow.Author.Needs.{needs}
+use Rattle.lists.specs.Kit.{refl, needs}
 use Rattle.text.specs.Print.{put}
-use Rattle.site_program.specs.Texts.{Text-by}
-use Rattle.site_program.specs.Said.{Said}
-use Rattle.site_program.proofs.SaidLaws.{as-verb, as-sheet, as-script, as-image}
-use Rattle.site_program.proofs.answers.answer.Statement.{statement}
+use Rattle.site_program.specs.{Texts.{Text-by}, Said.{Said}}
+use Rattle.site_program.proofs.{SaidLaws.{as-verb, as-sheet, as-script, as-image}, answers.answer.Statement.{statement}}
 use Rattle.site_program.proofs.answers.answer.Tie as tie
 
 returns : tie.Need-returns
@@ -60,12 +57,10 @@ unfolding Said Text-by put
 returns-12 c = as-verb _ _ _ _ _ _ _ (c .enum-told12 .given .1) (record { number = refl; puts = record { is = refl } })
 
 pub answer-spec : {M : Type 1} → statement M
-answer-spec =
-    tie.close (
-    tie.spec (λ c. search needs) (λ c. search needs) (λ c κs. search needs) (λ c. search needs) (λ c κs. search needs) (λ c. search needs)
-    (λ c κs. search needs) (λ c κs. search needs) (λ c. search needs) (λ c κs. search needs) (λ c κs. search needs) (λ c. search needs)
-    (λ c κs. search needs) (λ c κs. search needs) (λ c. search needs) (λ c κs. search needs) (λ c. search needs) (λ c κs. search needs)
-    (λ c. search needs) (λ c κs. search needs) (λ c. search needs) (λ c κs. search needs) (λ c. search needs)
-    (λ c κs. search needs) (λ c. search needs) returns (λ c. search needs) returns-2
-    (λ c. search needs) returns-3 (λ c. search needs) returns-4 (λ c. search needs) returns-5 (λ c. search needs) returns-6 (λ c. search needs)
-    returns-7 (λ c. search needs) returns-8 (λ c. search needs) returns-9 (λ c. search needs) returns-10 (λ c. search needs) returns-11 returns-12)
+answer-spec = tie.close (tie.spec (λ c. search needs) (λ c. search needs) (λ c κs. search needs) (λ c. search needs) (λ c κs. search needs)
+    (λ c. search needs) (λ c κs. search needs) (λ c κs. search needs) (λ c. search needs) (λ c κs. search needs) (λ c κs. search needs) (λ c. search needs)
+    (λ c κs. search needs) (λ c κs. search needs) (λ c. search needs) (λ c κs. search needs) (λ c. search needs) (λ c κs. search needs) (λ c. search needs)
+    (λ c κs. search needs) (λ c. search needs) (λ c κs. search needs) (λ c. search needs) (λ c κs. search needs) (λ c. search needs) returns
+    (λ c. search needs) returns-2 (λ c. search needs) returns-3 (λ c. search needs) returns-4 (λ c. search needs) returns-5 (λ c. search needs) returns-6
+    (λ c. search needs) returns-7 (λ c. search needs) returns-8 (λ c. search needs) returns-9 (λ c. search needs) returns-10 (λ c. search needs) returns-11
+    returns-12)

@@ -1,6 +1,5 @@
 -- `answers::check` meets its contract: one text after another.
-use mathlib.Core.Path.{refl}
-use borrow.Author.Needs.{needs}
+use Rattle.lists.specs.Kit.{refl, needs}
 use Rattle.text.proofs.PrintLaws.{puts-append}
 use Rattle.site_program.specs.Texts.{accepted-line}
 use Rattle.site_program.proofs.answers.check.Statement.{statement}
@@ -17,6 +16,5 @@ returns c =
     }
 
 pub check-spec : {M : Type 1} → statement M
-check-spec =
-    tie.close (
-    tie.spec (λ c. search needs) (λ c κs. search needs) (λ c κs. search needs) (λ c. search needs) (λ c κs. search needs) (λ c. search needs) returns)
+check-spec = tie.close (tie.spec (λ c. search needs) (λ c κs. search needs) (λ c κs. search needs) (λ c. search needs) (λ c κs. search needs)
+    (λ c. search needs) returns)

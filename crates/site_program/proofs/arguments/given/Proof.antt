@@ -1,40 +1,35 @@
 -- `arguments::given` meets its contract: each way through it is a case of `given-of`.
-use mathlib.Core.Path.{_∙_}
-use borrow.Author.Tests.{not-true, not-false}
+use Rattle.lists.specs.Kit.{_∙_, not-true, not-false, needs}
 use Rattle.site_program.proofs.GivenLaws.{given-other, given-none, given-bad, given-one, given-second-bad, given-two}
-use borrow.Author.Needs.{needs}
-use Rattle.site_program.proofs.arguments.given.Statement.{statement}
-use Rattle.site_program.proofs.arguments.given.Tie as tie
+use Rattle.site_program.proofs.arguments.given.{Statement.{statement}, Tie.{close, spec}}
 
-returns : tie.Need-returns
-returns c =
+pub given-spec : {M : Type 1} → statement M
+given-spec = close (spec (λ c κs. search needs)
+    (λ c.
     let at-if1 = c .before in
-    c .none .ensures ∙ given-other _ _ _ _ (at-if1 .if1 .taken)
-
-returns-2 : tie.Need-returns-2
-returns-2 c =
+    c .none .ensures ∙ given-other _ _ _ _ (at-if1 .if1 .taken))
+    (λ c κs. search needs)
+    (λ c.
     let at-if2 = c .before in
     let at-if1 = at-if2 .before in
-    c .none2 .ensures ∙ given-none _ _ _ _ (at-if1 .if1 .left) (at-if2 .if2 .taken)
-
-returns-3 : tie.Need-returns-3
-returns-3 c =
+    c .none2 .ensures ∙ given-none _ _ _ _ (at-if1 .if1 .left) (at-if2 .if2 .taken))
+    (λ c κs. search needs) (λ c κs. search needs)
+    (λ c.
     let at-if3 = c .before in
     let at-read-alone = at-if3 .before .before in
     let at-if2 = at-read-alone .before in
     let at-if1 = at-if2 .before in
-    c .none3 .ensures ∙ given-bad _ _ _ _ (at-if1 .if1 .left) (at-if2 .if2 .left) (at-read-alone .read-alone .result) (at-read-alone .read-alone .ensures) (not-true _ (at-if3 .if3 .taken))
-
-returns-4 : tie.Need-returns-4
-returns-4 c =
+    c .none3 .ensures ∙ given-bad _ _ _ _ (at-if1 .if1 .left) (at-if2 .if2 .left) (at-read-alone .read-alone .result) (at-read-alone .read-alone .ensures)
+    (not-true _ (at-if3 .if3 .taken)))
+    (λ c.
     let at-if3 = c .before in
     let at-read-alone = at-if3 .before .before in
     let at-if2 = at-read-alone .before in
     let at-if1 = at-if2 .before in
-    given-one _ _ _ _ (at-if1 .if1 .left) (at-if2 .if2 .left) (at-read-alone .read-alone .result) (at-read-alone .read-alone .ensures) (not-false _ (at-if3 .if3 .left)) (c .if4 .taken)
-
-returns-5 : tie.Need-returns-5
-returns-5 c =
+    given-one _ _ _ _ (at-if1 .if1 .left) (at-if2 .if2 .left) (at-read-alone .read-alone .result) (at-read-alone .read-alone .ensures)
+    (not-false _ (at-if3 .if3 .left)) (c .if4 .taken))
+    (λ c κs. search needs) (λ c κs. search needs)
+    (λ c.
     let at-if5 = c .before in
     let at-read-alone2 = at-if5 .before .before in
     let at-if4 = at-read-alone2 .before in
@@ -42,22 +37,16 @@ returns-5 c =
     let at-read-alone = at-if3 .before .before in
     let at-if2 = at-read-alone .before in
     let at-if1 = at-if2 .before in
-    c .none4 .ensures ∙ given-second-bad _ _ _ _ (at-if1 .if1 .left) (at-if2 .if2 .left) (at-read-alone .read-alone .result) (at-read-alone .read-alone .ensures) (not-false _ (at-if3 .if3 .left)) (at-if4 .if4 .left)
-    (at-read-alone2 .read-alone2 .result) (at-read-alone2 .read-alone2 .ensures) (not-true _ (at-if5 .if5 .taken))
-
-returns-6 : tie.Need-returns-6
-returns-6 c =
+    c .none4 .ensures ∙ given-second-bad _ _ _ _ (at-if1 .if1 .left) (at-if2 .if2 .left) (at-read-alone .read-alone .result)
+    (at-read-alone .read-alone .ensures) (not-false _ (at-if3 .if3 .left)) (at-if4 .if4 .left)
+    (at-read-alone2 .read-alone2 .result) (at-read-alone2 .read-alone2 .ensures) (not-true _ (at-if5 .if5 .taken)))
+    (λ c.
     let at-read-alone2 = c .before .before in
     let at-if4 = at-read-alone2 .before in
     let at-if3 = at-if4 .before in
     let at-read-alone = at-if3 .before .before in
     let at-if2 = at-read-alone .before in
     let at-if1 = at-if2 .before in
-    given-two _ _ _ _ (at-if1 .if1 .left) (at-if2 .if2 .left) (at-read-alone .read-alone .result) (at-read-alone .read-alone .ensures) (not-false _ (at-if3 .if3 .left)) (at-if4 .if4 .left)
-    (at-read-alone2 .read-alone2 .result) (at-read-alone2 .read-alone2 .ensures) (not-false _ (c .if5 .left))
-
-pub given-spec : {M : Type 1} → statement M
-given-spec =
-    tie.close (
-    tie.spec (λ c κs. search needs) returns (λ c κs. search needs) returns-2 (λ c κs. search needs) (λ c κs. search needs) returns-3 returns-4 (λ c κs.
-    search needs) (λ c κs. search needs) returns-5 returns-6)
+    given-two _ _ _ _ (at-if1 .if1 .left) (at-if2 .if2 .left) (at-read-alone .read-alone .result) (at-read-alone .read-alone .ensures)
+    (not-false _ (at-if3 .if3 .left)) (at-if4 .if4 .left)
+    (at-read-alone2 .read-alone2 .result) (at-read-alone2 .read-alone2 .ensures) (not-false _ (c .if5 .left))))

@@ -1,16 +1,6 @@
 -- `next_line` meets its contract: by whether the number is the largest.
-use Rattle.site_program.proofs.CourseLaws.{next-more, next-last}
-use borrow.Author.Needs.{needs}
-use Rattle.site_program.proofs.course.next_line.Statement.{statement}
-use Rattle.site_program.proofs.course.next_line.Tie as tie
-
-returns : tie.Need-returns
-returns c = next-more _ (c .if1 .taken)
-
-returns-2 : tie.Need-returns-2
-returns-2 c = next-last _ (c .if1 .left)
+use Rattle.lists.specs.Kit.{needs}
+use Rattle.site_program.proofs.{CourseLaws.{next-more, next-last}, course.next_line.{Statement.{statement}, Tie.{close, spec}}}
 
 pub next-line-spec : {M : Type 1} → statement M
-next-line-spec =
-    tie.close (
-    tie.spec (λ c. search needs) returns returns-2)
+next-line-spec = close (spec (λ c. search needs) (λ c. next-more _ (c .if1 .taken)) (λ c. next-last _ (c .if1 .left)))

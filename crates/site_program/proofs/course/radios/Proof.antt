@@ -1,13 +1,6 @@
 -- `radios` meets its contract: the first line is the bytes before its end.
-use borrow.Author.Needs.{needs}
-use Rattle.site_program.proofs.FirstLaws.{named-is}
-use Rattle.site_program.proofs.course.radios.Statement.{statement}
-use Rattle.site_program.proofs.course.radios.Tie as tie
-
-returns : tie.Need-returns
-returns c = search (needs, named-is)
+use Rattle.lists.specs.Kit.{needs}
+use Rattle.site_program.proofs.{FirstLaws.{named-is}, course.radios.{Statement.{statement}, Tie.{close, spec}}}
 
 pub radios-spec : {M : Type 1} → statement M
-radios-spec =
-    tie.close (
-    tie.spec (λ c κs. search needs) (λ c. search needs) (λ c κs. search needs) returns)
+radios-spec = close (spec (λ c κs. search needs) (λ c. search needs) (λ c κs. search needs) (λ c. search (needs, named-is)))

@@ -1,29 +1,18 @@
 -- `take_chunk` meets its contract: what is left of the chunk takes the run where the whole takes it. The measure is how many bytes are left.
-use mathlib.Core.Path.{_≡_, refl, sym, _∙_}
-use Prim.Native.Nat.{_-_, _≤_}
-use native.Mathlib.Omega.{arith}
-use lib.ListN.{length, drop}
-use borrow.Author.Needs.{needs}
+use Rattle.lists.specs.Kit.{_≡_, refl, _∙_, _-_, _≤_, arith, length, drop, needs}
 use Rattle.mesh.specs.Tables.{tables}
-use Rattle.site_program.specs.Course.{Spot, spot, bytes-taken, byte-taken}
-use Rattle.site_program.proofs.CourseLaws.{taken-next, taken-end, taken-room}
-use Rattle.site_program.proofs.course.take_chunk.Statement.{statement}
-use Rattle.site_program.proofs.course.take_chunk.Tie as tie
+use Rattle.site_program.specs.Course.{spot, bytes-taken}
+use Rattle.site_program.proofs.{CourseLaws.{taken-next, taken-end, taken-room}, course.take_chunk.{Statement.{statement}, Tie.{close, spec}}}
 
-abbrev Inv-loop : tie.InvT-loop
-Inv-loop chunk n line₀ links₀ numbers₀ order₀ s₀ i₀ line links numbers order s i =
-    (length line ≡ length line₀) × (length links ≡ length links₀) × (length numbers ≡ length numbers₀) × (length order ≡ length order₀)
-    × (i ≤ length chunk) × (bytes-taken (length line₀) n (drop i chunk) (spot (tables links numbers order) line s)
-    ≡ bytes-taken (length line₀) n chunk (spot (tables links₀ numbers₀ order₀) line₀ s₀))
-
-abbrev μ-loop : tie.MeasureT-loop
-μ-loop chunk n line₀ links₀ numbers₀ order₀ s₀ i₀ line links numbers order s i = length chunk - i
-
-loop-holds : tie.Need-loop-holds Inv-loop μ-loop
-loop-holds c = (refl, refl, refl, refl, omega arith, refl)
-
-loop-again : tie.Need-loop-again Inv-loop μ-loop
-loop-again c =
+pub take-chunk-spec : {M : Type 1} → statement M
+take-chunk-spec = close (spec
+    (λ chunk n line₀ links₀ numbers₀ order₀ s₀ _ line links numbers order s i. (length line ≡ length line₀) × (length links ≡ length links₀) ×
+    (length numbers ≡ length numbers₀) × (length order ≡ length order₀) × (i ≤ length chunk) ×
+    (bytes-taken (length line₀) n (drop i chunk) (spot (tables links numbers order) line s) ≡ bytes-taken (length line₀) n chunk
+    (spot (tables links₀ numbers₀ order₀) line₀ s₀)))
+    (λ chunk _ _ _ _ _ _ _ _ _ _ _ _ i. length chunk - i) (λ c. (refl, refl, refl, refl, omega arith, refl)) (λ c. search needs) (λ c κs. search needs)
+    (λ c. search needs) (λ c. search needs)
+    (λ c.
     let at-take-byte = c .before .before .before .before .before .before .before .before in
     let at-loop-test = at-take-byte .before .before .before .before .before .before in
     let at-loop = at-loop-test .before in
@@ -34,15 +23,8 @@ loop-again c =
       omega (arith, at-take-byte .take-byte .kept, inv .3),
       omega arith,
       taken-next _ _ _ _ _ _ _ _ (at-loop-test .loop-test .taken) refl (inv .5) (at-take-byte .take-byte .ensures ∙ taken-room _ _ _ _ _ (inv .0)),
-    )
-
-returns : tie.Need-returns Inv-loop μ-loop
-returns c =
+    ))
+    (λ c. search needs) (λ c. search needs) (λ c. search needs) (λ c. search needs)
+    (λ c.
     let at-loop = c .before in
-    taken-end _ _ _ _ _ _ (c .loop-test .left) (at-loop .loop .inv .5)
-
-pub take-chunk-spec : {M : Type 1} → statement M
-take-chunk-spec =
-    tie.close (
-    tie.spec Inv-loop μ-loop loop-holds (λ c. search needs) (λ c κs. search needs) (λ c. search needs) (λ c. search needs) loop-again (λ c. search needs)
-    (λ c. search needs) (λ c. search needs) (λ c. search needs) returns)
+    taken-end _ _ _ _ _ _ (c .loop-test .left) (at-loop .loop .inv .5)))

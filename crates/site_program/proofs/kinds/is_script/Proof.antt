@@ -1,12 +1,6 @@
 -- `source::is_script` meets its contract: the first six bytes, or all where there are fewer, are compared with the word.
-use mathlib.Core.Path.{_≡_, ap, _∙_}
-use mathlib.Core.List.{List}
-use Prim.Native.Nat.{ℕ}
-use lib.ListN.{take}
-use Rattle.lists.specs.Lists.{same}
-use Rattle.lists.proofs.Parts.{take-min}
+use Rattle.lists.{specs.Kit.{_≡_, ap, _∙_, List, ℕ, take, needs}, specs.Lists.{same}, proofs.Parts.{take-min}}
 use Rattle.site_program.specs.Inputs.{script-word, is-script}
-use borrow.Author.Needs.{needs}
 use Rattle.site_program.proofs.kinds.is_script.Statement.{statement}
 use Rattle.site_program.proofs.kinds.is_script.Tie as tie
 

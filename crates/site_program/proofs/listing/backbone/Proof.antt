@@ -1,16 +1,10 @@
 -- `listing::backbone` meets its contract: the line is of the radios that the call lists.
-use mathlib.Core.Path.{refl}
-use mathlib.Core.List.{List}
-use Prim.Native.Nat.{ℕ}
-use borrow.Author.Needs.{needs}
+use Rattle.lists.specs.Kit.{refl, List, ℕ, needs}
 use Rattle.text.specs.Text.{bytes-of}
 use Rattle.mesh.specs.Sound.{sound}
-use Rattle.calls.specs.Contracts.{Backbone-contract}
-use Rattle.calls.specs.Outcomes.{backbone-outcome}
-use Rattle.site_program.specs.Texts.{radios-line}
-use Rattle.site_program.specs.Said.{Backbone-said}
-use Rattle.site_program.proofs.TextLaws.{by-listed}
-use Rattle.site_program.proofs.listing.backbone.Statement.{statement}
+use Rattle.calls.specs.{Contracts.{Backbone-contract}, Outcomes.{backbone-outcome}}
+use Rattle.site_program.specs.{Texts.{radios-line}, Said.{Backbone-said}}
+use Rattle.site_program.proofs.{TextLaws.{by-listed}, listing.backbone.Statement.{statement}}
 use Rattle.site_program.proofs.listing.backbone.Tie as tie
 
 returns : tie.Need-returns
@@ -21,6 +15,5 @@ returns c =
     by-listed (λ (rs : List ℕ). radios-line (bytes-of "backbone") rs) (λ (k : ℕ). k) _ _ _ _ _ _ _ _ _ refl (asked .backbone .ensures) (put .put-list .ensures)
 
 pub backbone-spec : {M : Type 1} → statement M
-backbone-spec =
-    tie.close (
-    tie.spec (λ c. search needs) (λ c κs. search needs) (λ c. search needs) (λ c. search needs) (λ c κs. search needs) (λ c. search needs) returns)
+backbone-spec = tie.close (tie.spec (λ c. search needs) (λ c κs. search needs) (λ c. search needs) (λ c. search needs) (λ c κs. search needs)
+    (λ c. search needs) returns)

@@ -1,10 +1,8 @@
 -- `listing::lift` meets its contract: the line is of the pair that the call answers.
-use borrow.Author.Needs.{needs}
-use Rattle.calls.specs.Contracts.{Lift-contract}
-use Rattle.calls.specs.LiftOutcome.{lift-outcome}
+use Rattle.lists.specs.Kit.{needs}
+use Rattle.calls.specs.{Contracts.{Lift-contract}, LiftOutcome.{lift-outcome}}
 use Rattle.site_program.specs.Said.{Lift-said}
-use Rattle.site_program.proofs.TextLaws.{by-pair}
-use Rattle.site_program.proofs.listing.lift.Statement.{statement}
+use Rattle.site_program.proofs.{TextLaws.{by-pair}, listing.lift.Statement.{statement}}
 use Rattle.site_program.proofs.listing.lift.Tie as tie
 
 returns : tie.Need-returns

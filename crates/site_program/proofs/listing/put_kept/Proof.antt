@@ -1,34 +1,16 @@
 -- `listing::put_kept` meets its contract: the lines are of the links that the reply counts, or the reply is a refusal.
-use mathlib.Core.Path.{_≡_, sym, refl, ap}
-use mathlib.Core.List.{List}
-use Prim.Native.Nat.{ℕ, _*_}
-use native.Mathlib.Omega.{arith}
-use lib.ListN.{take}
-use lib.Seq.{length-take-le}
-use borrow.Author.Needs.{needs}
+use Rattle.lists.specs.Kit.{_≡_, sym, refl, ap, List, ℕ, _*_, arith, take, length-take-le, needs}
 use Rattle.text.proofs.PrintLaws.{puts-as}
 use Rattle.site_program.specs.Texts.{pair-lines}
-use Rattle.site_program.proofs.TextLaws.{by-refused, by-put, take-least}
-use Rattle.site_program.proofs.listing.put_kept.Statement.{statement}
-use Rattle.site_program.proofs.listing.put_kept.Tie as tie
+use Rattle.site_program.proofs.{TextLaws.{by-refused, by-put, take-least}, listing.put_kept.{Statement.{statement}, Tie.{close, spec}}}
 
-returns : tie.Need-returns
-returns c = by-refused _ _ _ _ (omega arith) refl refl
-
-slice-aggregate-put-links : tie.Need-slice-aggregate-put-links
-slice-aggregate-put-links c = sym (length-take-le _ _ (omega (arith, c .before .before .least .ensures)))
-
-returns-2 : tie.Need-returns-2
-returns-2 c =
+pub put-kept-spec : {M : Type 1} → statement M
+put-kept-spec = close (spec (λ c. by-refused _ _ _ _ (omega arith) refl refl) (λ c. search needs) (λ c. search needs) (λ c κs. search needs)
+    (λ c. sym (length-take-le _ _ (omega (arith, c .before .before .least .ensures)))) (λ c κs. search needs) (λ c. search needs)
+    (λ c.
     let put = c .before .before in
     let counted = put .before .before .before in
     let call = counted .before .before .before .before .before .before .args in
     let front : take (counted .least .result) (call .table .now) ≡ take (2 * (call .reply .value)) (call .table .now)
     = take-least (2 * (call .reply .value)) _ _ (call .table .now) refl (counted .least .ensures) in
-    by-put _ _ _ _ _ (omega arith) refl (puts-as (ap (λ (k : List ℕ). pair-lines k) front) (put .put-links .ensures))
-
-pub put-kept-spec : {M : Type 1} → statement M
-put-kept-spec =
-    tie.close (
-    tie.spec returns (λ c. search needs) (λ c. search needs) (λ c κs. search needs) slice-aggregate-put-links (λ c κs. search needs) (λ c. search needs)
-    returns-2)
+    by-put _ _ _ _ _ (omega arith) refl (puts-as (ap (λ (k : List ℕ). pair-lines k) front) (put .put-links .ensures))))

@@ -1,7 +1,6 @@
 -- `listing::put_link` meets its contract: one text after another.
-use borrow.Author.Needs.{needs}
-use Rattle.text.specs.Text.{printed-line, further-fields}
-use Rattle.text.proofs.PrintLaws.{puts-append}
+use Rattle.lists.specs.Kit.{needs}
+use Rattle.text.{specs.Text.{printed-line, further-fields}, proofs.PrintLaws.{puts-append}}
 use Rattle.site_program.proofs.listing.put_link.Statement.{statement}
 use Rattle.site_program.proofs.listing.put_link.Tie as tie
 
@@ -15,6 +14,5 @@ returns c =
     (puts-append (first .put-field .ensures) (puts-append (second .put-field2 .ensures) (byte .put-byte .ensures)))
 
 pub put-link-spec : {M : Type 1} → statement M
-put-link-spec =
-    tie.close (
-    tie.spec (λ c. search needs) (λ c κs. search needs) (λ c κs. search needs) (λ c κs. search needs) (λ c κs. search needs) (λ c. search needs) returns)
+put-link-spec = tie.close (tie.spec (λ c. search needs) (λ c κs. search needs) (λ c κs. search needs) (λ c κs. search needs) (λ c κs. search needs)
+    (λ c. search needs) returns)

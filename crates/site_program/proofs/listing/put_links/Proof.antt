@@ -1,25 +1,18 @@
 -- `listing::put_links` meets its contract: the lines that are left take the buffer where all lines take the lent one. The measure is how
 -- many are left.
-use Prim.Native.Nat.{_≤_, _+_, _*_, _-_, _/_}
-use native.Mathlib.Omega.{arith}
-use lib.ListN.{length, drop}
-use borrow.Author.Needs.{needs}
-use Rattle.text.specs.Print.{buffer-at}
-use Rattle.text.proofs.PrintLaws.{Putting, putting-none, putting-piece, putting-end, length-putting}
+use Rattle.lists.specs.Kit.{_≤_, _*_, _-_, _/_, arith, length, drop, needs}
+use Rattle.text.{specs.Print.{buffer-at}, proofs.PrintLaws.{Putting, putting-none, putting-piece, putting-end, length-putting}}
 use Rattle.site_program.specs.Texts.{pair-lines}
-use Rattle.site_program.proofs.LineLaws.{pair-next, pair-end}
-use Rattle.site_program.proofs.listing.put_links.Statement.{statement}
-use Rattle.site_program.proofs.listing.put_links.Tie as tie
+use Rattle.site_program.proofs.{LineLaws.{pair-next, pair-end}, listing.put_links.{Statement.{statement}, Tie.{close, spec}}}
 
-abbrev Inv-loop : tie.InvT-loop
-Inv-loop out₀ table count place₀ i₀ out place i =
-    (i ≤ length table / 2) × Putting (buffer-at out₀ 0) (pair-lines table) (buffer-at out place) (pair-lines (drop (2 * i) table))
-
-abbrev μ-loop : tie.MeasureT-loop
-μ-loop out₀ table count place₀ i₀ out place i = length table / 2 - i
-
-loop-again : tie.Need-loop-again Inv-loop μ-loop
-loop-again c =
+pub put-links-spec : {M : Type 1} → statement M
+put-links-spec = close (spec
+    (λ out₀ table _ _ _ out place i. (i ≤ length table / 2) × Putting (buffer-at out₀ 0) (pair-lines table) (buffer-at out place)
+    (pair-lines (drop (2 * i) table)))
+    (λ _ table _ _ _ _ _ i. length table / 2 - i) (λ c. (omega arith, putting-none)) (λ c. omega arith) (λ c. omega arith) (λ c. omega arith)
+    (λ c κs. search needs) (λ c. omega arith) (λ c. omega arith) (λ c. omega arith) (λ c. omega arith) (λ c κs. search needs) (λ c κs. search needs)
+    (λ c. omega arith) (λ c. omega arith)
+    (λ c.
     let put = c .before .before in
     let second = put .before in
     let first = second .before .before in
@@ -29,17 +22,9 @@ loop-again c =
       omega arith,
       putting-piece _ _ (pair-next table i _ _ (omega arith) (first .wide .ensures) (second .wide2 .ensures)) (at-loop .loop .inv .1)
           (put .put-link .ensures),
-    )
-
-returns : tie.Need-returns Inv-loop μ-loop
-returns c =
+    ))
+    (λ c. length-putting (c .before .loop .inv .1))
+    (λ c.
     let at-loop = c .before in
     let table = at-loop .before .before .before .args .table .now in
-    putting-end (at-loop .loop .inv .1) (pair-end table (at-loop .loop .i) (omega arith))
-
-pub put-links-spec : {M : Type 1} → statement M
-put-links-spec =
-    tie.close (
-    tie.spec Inv-loop μ-loop (λ c. (omega arith, putting-none)) (λ c. omega arith) (λ c. omega arith) (λ c. omega arith) (λ c κs. search needs)
-    (λ c. omega arith) (λ c. omega arith) (λ c. omega arith) (λ c. omega arith) (λ c κs. search needs) (λ c κs. search needs) (λ c. omega arith)
-    (λ c. omega arith) loop-again (λ c. length-putting (c .before .loop .inv .1)) returns)
+    putting-end (at-loop .loop .inv .1) (pair-end table (at-loop .loop .i) (omega arith))))

@@ -1,24 +1,9 @@
 -- `listing::put_list` meets its contract: the word and the fields are the line, or the reply is a refusal.
-use mathlib.Core.Path.{_≡_, sym, refl, ap, _∙_}
-use mathlib.Core.List.{List}
-use Prim.Native.Nat.{ℕ}
-use native.Mathlib.Omega.{arith}
-use lib.ListN.{take}
-use lib.Seq.{length-take-le}
-use borrow.Author.Needs.{needs}
-use Rattle.lists.proofs.Parts.{take-min}
-use Rattle.text.specs.Text.{printed-line}
-use Rattle.text.proofs.PrintLaws.{puts-append, puts-as}
+use Rattle.lists.{specs.Kit.{_≡_, sym, refl, ap, _∙_, List, ℕ, arith, take, length-take-le, needs}, proofs.Parts.{take-min}}
+use Rattle.text.{specs.Text.{printed-line}, proofs.PrintLaws.{puts-append, puts-as}}
 use Rattle.site_program.specs.Texts.{radios-line}
-use Rattle.site_program.proofs.TextLaws.{by-refused, by-put}
-use Rattle.site_program.proofs.listing.put_list.Statement.{statement}
+use Rattle.site_program.proofs.{TextLaws.{by-refused, by-put}, listing.put_list.Statement.{statement}}
 use Rattle.site_program.proofs.listing.put_list.Tie as tie
-
-returns : tie.Need-returns
-returns c = by-refused _ _ _ _ (omega arith) refl refl
-
-slice-aggregate-put-radios : tie.Need-slice-aggregate-put-radios
-slice-aggregate-put-radios c = sym (length-take-le _ _ (omega (arith, c .before .before .before .before .before .before .least .ensures)))
 
 returns-2 : tie.Need-returns-2
 unfolding radios-line printed-line
@@ -33,7 +18,6 @@ returns-2 c =
     (puts-as (ap (λ (k : List ℕ). radios-line (call .word .now) k) front) (puts-append (told .put-text .ensures) (put .put-radios .ensures)))
 
 pub put-list-spec : {M : Type 1} → statement M
-put-list-spec =
-    tie.close (
-    tie.spec returns (λ c. search needs) (λ c κs. search needs) (λ c κs. search needs) slice-aggregate-put-radios (λ c κs. search needs) (λ c. search needs)
-    returns-2)
+put-list-spec = tie.close (tie.spec (λ c. by-refused _ _ _ _ (omega arith) refl refl) (λ c. search needs) (λ c κs. search needs) (λ c κs. search needs)
+    (λ c. sym (length-take-le _ _ (omega (arith, c .before .before .before .before .before .before .least .ensures)))) (λ c κs. search needs)
+    (λ c. search needs) returns-2)

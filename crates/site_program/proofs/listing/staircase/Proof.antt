@@ -1,15 +1,10 @@
 -- `listing::staircase` meets its contract: the lines are of the links that the call keeps.
-use mathlib.Core.List.{List}
-use Prim.Native.Nat.{ℕ, _*_}
-use borrow.Author.Needs.{needs}
+use Rattle.lists.specs.Kit.{List, ℕ, _*_, needs}
 use Rattle.mesh.specs.Sound.{sound}
-use Rattle.calls.specs.Contracts.{Staircase-contract}
-use Rattle.calls.specs.Outcomes.{staircase-outcome}
+use Rattle.calls.specs.{Contracts.{Staircase-contract}, Outcomes.{staircase-outcome}}
 use Rattle.forests.proofs.Tree.{length-link-entries}
-use Rattle.site_program.specs.Texts.{pair-lines}
-use Rattle.site_program.specs.Said.{Staircase-said}
-use Rattle.site_program.proofs.TextLaws.{by-listed}
-use Rattle.site_program.proofs.listing.staircase.Statement.{statement}
+use Rattle.site_program.specs.{Texts.{pair-lines}, Said.{Staircase-said}}
+use Rattle.site_program.proofs.{TextLaws.{by-listed}, listing.staircase.Statement.{statement}}
 use Rattle.site_program.proofs.listing.staircase.Tie as tie
 
 returns : tie.Need-returns
@@ -20,6 +15,4 @@ returns c =
     by-listed (λ (xs : List ℕ). pair-lines xs) (λ (k : ℕ). 2 * k) _ _ _ _ _ _ _ _ _ (length-link-entries _) (asked .staircase .ensures) (put .put-kept .ensures)
 
 pub staircase-spec : {M : Type 1} → statement M
-staircase-spec =
-    tie.close (
-    tie.spec (λ c. search needs) (λ c κs. search needs) (λ c. search needs) (λ c κs. search needs) (λ c. search needs) returns)
+staircase-spec = tie.close (tie.spec (λ c. search needs) (λ c κs. search needs) (λ c. search needs) (λ c κs. search needs) (λ c. search needs) returns)

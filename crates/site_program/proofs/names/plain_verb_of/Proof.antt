@@ -1,11 +1,8 @@
 -- `names::plain_verb_of` meets its contract: the names one after another.
-use borrow.Author.Needs.{needs}
-use Rattle.lists.specs.Lists.{same}
+use Rattle.lists.specs.{Kit.{needs}, Lists.{same}}
 use Rattle.text.specs.Text.{bytes-of}
-use Rattle.site_program.specs.declared.names.Verb.the-variants.{Help, Check, Numbers, Sheet, Script}
-use Rattle.site_program.specs.Names.{plain-verb-of}
-use Rattle.site_program.proofs.NameLaws.{or-next}
-use Rattle.site_program.proofs.names.plain_verb_of.Statement.{statement}
+use Rattle.site_program.specs.{declared.names.Verb.the-variants.{Help, Check, Numbers, Sheet, Script}, Names.{plain-verb-of}}
+use Rattle.site_program.proofs.{NameLaws.{or-next}, names.plain_verb_of.Statement.{statement}}
 use Rattle.site_program.proofs.names.plain_verb_of.Tie as tie
 
 returns : tie.Need-returns
@@ -24,7 +21,6 @@ returns c =
     or-next (same w (bytes-of "script")) Script (script .named2 .ensures) (image .named .ensures)))))
 
 pub plain-verb-of-spec : {M : Type 1} → statement M
-plain-verb-of-spec =
-    tie.close (
-    tie.spec (λ c. search needs) (λ c κs. search needs) (λ c. search needs) (λ c κs. search needs) (λ c. search needs) (λ c κs. search needs)
-    (λ c. search needs) (λ c κs. search needs) (λ c. search needs) (λ c κs. search needs) (λ c. search needs) (λ c κs. search needs) returns)
+plain-verb-of-spec = tie.close (tie.spec (λ c. search needs) (λ c κs. search needs) (λ c. search needs) (λ c κs. search needs) (λ c. search needs)
+    (λ c κs. search needs) (λ c. search needs) (λ c κs. search needs) (λ c. search needs) (λ c κs. search needs) (λ c. search needs) (λ c κs. search needs)
+    returns)

@@ -1,11 +1,8 @@
 -- `names::verb_of` meets its contract: the names one after another, then the plain ones.
-use borrow.Author.Needs.{needs}
-use Rattle.lists.specs.Lists.{same}
+use Rattle.lists.specs.{Kit.{needs}, Lists.{same}}
 use Rattle.text.specs.Text.{bytes-of}
-use Rattle.site_program.specs.declared.names.Verb.the-variants.{Backbone, Staircase, Tree, Core, Lift}
-use Rattle.site_program.specs.Names.{verb-of}
-use Rattle.site_program.proofs.NameLaws.{or-next}
-use Rattle.site_program.proofs.names.verb_of.Statement.{statement}
+use Rattle.site_program.specs.{declared.names.Verb.the-variants.{Backbone, Staircase, Tree, Core, Lift}, Names.{verb-of}}
+use Rattle.site_program.proofs.{NameLaws.{or-next}, names.verb_of.Statement.{statement}}
 use Rattle.site_program.proofs.names.verb_of.Tie as tie
 
 returns : tie.Need-returns
@@ -23,7 +20,5 @@ returns c =
     or-next (same w (bytes-of "lift")) Lift (lift .named .ensures) (lift .before .before .plain-verb-of .ensures)))))
 
 pub verb-of-spec : {M : Type 1} → statement M
-verb-of-spec =
-    tie.close (
-    tie.spec (λ c κs. search needs) (λ c. search needs) (λ c κs. search needs) (λ c. search needs) (λ c κs. search needs) (λ c. search needs)
-    (λ c κs. search needs) (λ c. search needs) (λ c κs. search needs) (λ c. search needs) (λ c κs. search needs) returns)
+verb-of-spec = tie.close (tie.spec (λ c κs. search needs) (λ c. search needs) (λ c κs. search needs) (λ c. search needs) (λ c κs. search needs)
+    (λ c. search needs) (λ c κs. search needs) (λ c. search needs) (λ c κs. search needs) (λ c. search needs) (λ c κs. search needs) returns)

@@ -1,7 +1,7 @@
 -- `refusals::put_file` meets its contract: one text after another.
+use Rattle.lists.specs.Kit.{needs}
 use Rattle.text.proofs.PrintLaws.{puts-append}
 use Rattle.site_program.specs.Errors.{file-words}
-use borrow.Author.Needs.{needs}
 use Rattle.site_program.proofs.refusals.put_file.Statement.{statement}
 use Rattle.site_program.proofs.refusals.put_file.Tie as tie
 
@@ -12,10 +12,9 @@ returns c =
     let at-put-text3 = at-put-text4 .before .before .before .before .before in
     let at-put-text2 = at-put-text3 .before .before .before .before in
     let at-put-text = at-put-text2 .before .before .before .before .before in
-    puts-append (at-put-text .put-text .ensures) (puts-append (at-put-text2 .put-text2 .ensures) (puts-append (at-put-text3 .put-text3 .ensures) (at-put-text4 .put-text4 .ensures)))
+    puts-append (at-put-text .put-text .ensures) (puts-append (at-put-text2 .put-text2 .ensures)
+    (puts-append (at-put-text3 .put-text3 .ensures) (at-put-text4 .put-text4 .ensures)))
 
 pub put-file-spec : {M : Type 1} → statement M
-put-file-spec =
-    tie.close (
-    tie.spec (λ c κs. search needs) (λ c. search needs) (λ c κs. search needs) (λ c κs. search needs) (λ c. search needs) (λ c κs. search needs) (λ c.
-    search needs) returns)
+put-file-spec = tie.close (tie.spec (λ c κs. search needs) (λ c. search needs) (λ c κs. search needs) (λ c κs. search needs) (λ c. search needs)
+    (λ c κs. search needs) (λ c. search needs) returns)

@@ -1,7 +1,7 @@
 -- `refusals::put_image` meets its contract: one text after another.
+use Rattle.lists.specs.Kit.{needs}
 use Rattle.text.proofs.PrintLaws.{puts-append}
 use Rattle.site_program.specs.Errors.{image-text}
-use borrow.Author.Needs.{needs}
 use Rattle.site_program.proofs.refusals.put_image.Statement.{statement}
 use Rattle.site_program.proofs.refusals.put_image.Tie as tie
 
@@ -17,7 +17,5 @@ returns c =
     (puts-append (at-put-text3 .put-text3 .ensures) (at-put-refused .put-refused .ensures))))
 
 pub put-image-spec : {M : Type 1} → statement M
-put-image-spec =
-    tie.close (
-    tie.spec (λ c. search needs) (λ c κs. search needs) (λ c κs. search needs) (λ c κs. search needs) (λ c. search needs) (λ c κs. search needs) (λ c κs.
-    search needs) (λ c. search needs) returns)
+put-image-spec = tie.close (tie.spec (λ c. search needs) (λ c κs. search needs) (λ c κs. search needs) (λ c κs. search needs) (λ c. search needs)
+    (λ c κs. search needs) (λ c κs. search needs) (λ c. search needs) returns)

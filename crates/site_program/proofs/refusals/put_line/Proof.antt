@@ -1,6 +1,5 @@
 -- `refusals::put_line` meets its contract: each number in turn.
-use borrow.Author.Needs.{needs}
-use borrow.Author.Tests.{eq-eqb, ne-eqb}
+use Rattle.lists.specs.Kit.{needs, eq-eqb, ne-eqb}
 use Rattle.site_program.specs.Errors.{line-words}
 use Rattle.site_program.proofs.refusals.put_line.Statement.{statement}
 use Rattle.site_program.proofs.refusals.put_line.Tie as tie
@@ -39,7 +38,6 @@ returns-4 c =
     rw (ne-eqb _ 1000 (at-if1 .if1 .left), ne-eqb _ 1001 (at-if2 .if2 .left), ne-eqb _ 1002 (at-if3 .if3 .left)) (at-put-refused .put-refused .ensures)
 
 pub put-line-spec : {M : Type 1} → statement M
-put-line-spec =
-    tie.close (
-    tie.spec (λ c. search needs) (λ c κs. search needs) (λ c. search needs) returns (λ c. search needs) (λ c κs. search needs) (λ c. search needs)
-    returns-2 (λ c. search needs) (λ c κs. search needs) (λ c. search needs) returns-3 (λ c κs. search needs) (λ c. search needs) returns-4)
+put-line-spec = tie.close (tie.spec (λ c. search needs) (λ c κs. search needs) (λ c. search needs) returns (λ c. search needs) (λ c κs. search needs)
+    (λ c. search needs) returns-2 (λ c. search needs) (λ c κs. search needs) (λ c. search needs) returns-3 (λ c κs. search needs) (λ c. search needs)
+    returns-4)

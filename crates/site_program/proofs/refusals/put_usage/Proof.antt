@@ -1,6 +1,5 @@
 -- `refusals::put_usage` meets its contract: each number in turn.
-use borrow.Author.Needs.{needs}
-use borrow.Author.Tests.{eq-eqb, ne-eqb}
+use Rattle.lists.specs.Kit.{needs, eq-eqb, ne-eqb}
 use Rattle.site_program.specs.Errors.{usage-words}
 use Rattle.site_program.proofs.refusals.put_usage.Statement.{statement}
 use Rattle.site_program.proofs.refusals.put_usage.Tie as tie
@@ -29,7 +28,5 @@ returns-3 c =
     rw (ne-eqb _ 0 (at-if1 .if1 .left), ne-eqb _ 1 (at-if2 .if2 .left)) (at-put-text3 .put-text3 .ensures)
 
 pub put-usage-spec : {M : Type 1} → statement M
-put-usage-spec =
-    tie.close (
-    tie.spec (λ c. search needs) (λ c κs. search needs) (λ c. search needs) returns (λ c. search needs) (λ c κs. search needs) (λ c. search needs)
-    returns-2 (λ c. search needs) (λ c κs. search needs) (λ c. search needs) returns-3)
+put-usage-spec = tie.close (tie.spec (λ c. search needs) (λ c κs. search needs) (λ c. search needs) returns (λ c. search needs) (λ c κs. search needs)
+    (λ c. search needs) returns-2 (λ c. search needs) (λ c κs. search needs) (λ c. search needs) returns-3)

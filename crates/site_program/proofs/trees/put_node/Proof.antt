@@ -1,7 +1,6 @@
 -- `trees::put_node` meets its contract: one text after another.
-use borrow.Author.Needs.{needs}
-use Rattle.text.specs.Text.{printed-line, further-fields}
-use Rattle.text.proofs.PrintLaws.{puts-append}
+use Rattle.lists.specs.Kit.{needs}
+use Rattle.text.{specs.Text.{printed-line, further-fields}, proofs.PrintLaws.{puts-append}}
 use Rattle.site_program.proofs.trees.put_node.Statement.{statement}
 use Rattle.site_program.proofs.trees.put_node.Tie as tie
 
@@ -16,7 +15,5 @@ returns c =
     (puts-append (first .put-field .ensures) (puts-append (second .put-field2 .ensures) (puts-append (third .put-field3 .ensures) (byte .put-byte .ensures))))
 
 pub put-node-spec : {M : Type 1} → statement M
-put-node-spec =
-    tie.close (
-    tie.spec (λ c. search needs) (λ c κs. search needs) (λ c κs. search needs) (λ c κs. search needs) (λ c κs. search needs) (λ c κs. search needs)
-    (λ c. search needs) returns)
+put-node-spec = tie.close (tie.spec (λ c. search needs) (λ c κs. search needs) (λ c κs. search needs) (λ c κs. search needs) (λ c κs. search needs)
+    (λ c κs. search needs) (λ c. search needs) returns)

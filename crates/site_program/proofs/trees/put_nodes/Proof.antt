@@ -1,26 +1,18 @@
 -- `trees::put_nodes` meets its contract: the lines that are left take the buffer where all lines take the lent one. The measure is how
 -- many are left.
-use Prim.Native.Nat.{_≤_, _+_, _-_}
-use native.Mathlib.Omega.{arith}
-use lib.ListN.{length, drop}
-use borrow.Author.Needs.{needs}
-use Rattle.text.specs.Print.{buffer-at}
-use Rattle.text.proofs.PrintLaws.{Putting, putting-none, putting-piece, putting-end, length-putting}
+use Rattle.lists.specs.Kit.{_≤_, _-_, arith, length, drop, needs}
+use Rattle.text.{specs.Print.{buffer-at}, proofs.PrintLaws.{Putting, putting-none, putting-piece, putting-end, length-putting}}
 use Rattle.site_program.specs.Texts.{node-lines}
-use Rattle.site_program.proofs.LineLaws.{node-next, node-end}
-use Rattle.site_program.proofs.trees.put_nodes.Statement.{statement}
-use Rattle.site_program.proofs.trees.put_nodes.Tie as tie
+use Rattle.site_program.proofs.{LineLaws.{node-next, node-end}, trees.put_nodes.{Statement.{statement}, Tie.{close, spec}}}
 
-abbrev Inv-loop : tie.InvT-loop
-Inv-loop out₀ names levels parents place₀ i₀ out place i =
-    (i ≤ length names)
-    × Putting (buffer-at out₀ 0) (node-lines names levels parents) (buffer-at out place) (node-lines (drop i names) (drop i levels) (drop i parents))
-
-abbrev μ-loop : tie.MeasureT-loop
-μ-loop out₀ names levels parents place₀ i₀ out place i = length names - i
-
-loop-again : tie.Need-loop-again Inv-loop μ-loop
-loop-again c =
+pub put-nodes-spec : {M : Type 1} → statement M
+put-nodes-spec = close (spec
+    (λ out₀ names levels parents _ _ out place i. (i ≤ length names) × Putting (buffer-at out₀ 0) (node-lines names levels parents) (buffer-at out place)
+    (node-lines (drop i names) (drop i levels) (drop i parents)))
+    (λ _ names _ _ _ _ _ _ i. length names - i) (λ c. (omega arith, putting-none)) (λ c. omega arith) (λ c. omega arith) (λ c κs. search needs)
+    (λ c. omega arith) (λ c. omega arith) (λ c κs. search needs) (λ c. omega arith) (λ c. omega arith) (λ c κs. search needs) (λ c κs. search needs)
+    (λ c. omega arith) (λ c. omega arith)
+    (λ c.
     let put = c .before .before in
     let third = put .before in
     let second = third .before .before in
@@ -31,18 +23,11 @@ loop-again c =
     let i = at-loop .loop .i in (
       omega arith,
       putting-piece _ _ (node-next (call .names .now) (call .levels .now) (call .parents .now) i _ _ _ (omega arith) (omega (arith, start .pre))
-          (omega (arith, start .pre)) (first .wide .ensures) (second .wide2 .ensures) (third .wide3 .ensures)) (at-loop .loop .inv .1) (put .put-node .ensures),
-    )
-
-returns : tie.Need-returns Inv-loop μ-loop
-returns c =
+          (omega (arith, start .pre)) (first .wide .ensures) (second .wide2 .ensures) (third .wide3 .ensures)) (at-loop .loop .inv .1)
+          (put .put-node .ensures),
+    ))
+    (λ c. length-putting (c .before .loop .inv .1))
+    (λ c.
     let at-loop = c .before in
     let call = at-loop .before .before .before .before .before .args in
-    putting-end (at-loop .loop .inv .1) (node-end (call .names .now) (call .levels .now) (call .parents .now) (at-loop .loop .i) (omega arith))
-
-pub put-nodes-spec : {M : Type 1} → statement M
-put-nodes-spec =
-    tie.close (
-    tie.spec Inv-loop μ-loop (λ c. (omega arith, putting-none)) (λ c. omega arith) (λ c. omega arith) (λ c κs. search needs) (λ c. omega arith)
-    (λ c. omega arith) (λ c κs. search needs) (λ c. omega arith) (λ c. omega arith) (λ c κs. search needs) (λ c κs. search needs) (λ c. omega arith)
-    (λ c. omega arith) loop-again (λ c. length-putting (c .before .loop .inv .1)) returns)
+    putting-end (at-loop .loop .inv .1) (node-end (call .names .now) (call .levels .now) (call .parents .now) (at-loop .loop .i) (omega arith))))

@@ -1,48 +1,9 @@
 -- `trees::put_tree` meets its contract: the nodes' lines and the line of the radios, or the reply is a refusal.
-use mathlib.Core.Path.{_≡_, sym, refl, ap, _∙_}
-use mathlib.Core.List.{List, _++_}
-use Prim.Native.Nat.{ℕ, _≤_}
-use native.Mathlib.Omega.{arith}
-use lib.ListN.{length, take}
-use lib.Seq.{length-take-le}
-use borrow.Author.Needs.{needs}
-use Rattle.text.specs.Text.{printed-line}
-use Rattle.text.proofs.PrintLaws.{puts-append, puts-as}
+use Rattle.lists.specs.Kit.{_≡_, sym, refl, _∙_, arith, length, take, length-take-le, needs}
+use Rattle.text.{specs.Text.{printed-line}, proofs.PrintLaws.{puts-append, puts-as}}
 use Rattle.site_program.specs.Texts.{radios-line, node-lines}
-use Rattle.site_program.proofs.TextLaws.{by-refused, by-put, take-least}
-use Rattle.site_program.proofs.trees.put_tree.Statement.{statement}
+use Rattle.site_program.proofs.{TextLaws.{by-refused, by-put, take-least}, trees.put_tree.Statement.{statement}}
 use Rattle.site_program.proofs.trees.put_tree.Tie as tie
-
-returns : tie.Need-returns
-returns c = by-refused _ _ _ _ (omega arith) refl refl
-
-slice-aggregate-put-nodes : tie.Need-slice-aggregate-put-nodes
-slice-aggregate-put-nodes c =
-    let counted = c .before .before in
-    let start = counted .before .before .before .before .before .before .before .before .before in
-    sym (length-take-le _ _ (omega (arith, counted .least .ensures, start .pre .0)))
-
-slice-aggregate-put-nodes-2 : tie.Need-slice-aggregate-put-nodes-2
-slice-aggregate-put-nodes-2 c =
-    let counted = c .before .before .before in
-    let start = counted .before .before .before .before .before .before .before .before .before in
-    sym (length-take-le _ _ (omega (arith, counted .least .ensures, start .pre .1)))
-
-slice-aggregate-put-nodes-3 : tie.Need-slice-aggregate-put-nodes-3
-slice-aggregate-put-nodes-3 c =
-    let counted = c .before .before .before .before in
-    let start = counted .before .before .before .before .before .before .before .before .before in
-    sym (length-take-le _ _ (omega (arith, counted .least .ensures, start .pre .2)))
-
-put-nodes-requires : tie.Need-put-nodes-requires
-put-nodes-requires c κs =
-    let counted = c .before .before .before .before in
-    let start = counted .before .before .before .before .before .before .before .before .before in
-    let k = counted .least .result in
-    let names : length (take k (start .args .names .now)) ≡ k = length-take-le k _ (omega (arith, counted .least .ensures, start .pre .0)) in
-    let levels : length (take k (start .args .levels .now)) ≡ k = length-take-le k _ (omega (arith, counted .least .ensures, start .pre .1)) in
-    let parents : length (take k (start .args .parents .now)) ≡ k = length-take-le k _ (omega (arith, counted .least .ensures, start .pre .2)) in
-    (levels ∙ sym names, parents ∙ sym names)
 
 returns-2 : tie.Need-returns-2
 unfolding radios-line printed-line
@@ -67,7 +28,25 @@ returns-2 c =
     (puts-append (puts-as same (nodes .put-nodes .ensures)) (puts-append (word .put-text .ensures) (put .put-radios .ensures)))
 
 pub put-tree-spec : {M : Type 1} → statement M
-put-tree-spec =
-    tie.close (
-    tie.spec returns (λ c. search needs) (λ c κs. search needs) slice-aggregate-put-nodes slice-aggregate-put-nodes-2 slice-aggregate-put-nodes-3
-    put-nodes-requires (λ c. search needs) (λ c κs. search needs) (λ c κs. search needs) (λ c. search needs) returns-2)
+put-tree-spec = tie.close (tie.spec (λ c. by-refused _ _ _ _ (omega arith) refl refl) (λ c. search needs) (λ c κs. search needs)
+    (λ c.
+    let counted = c .before .before in
+    let start = counted .before .before .before .before .before .before .before .before .before in
+    sym (length-take-le _ _ (omega (arith, counted .least .ensures, start .pre .0))))
+    (λ c.
+    let counted = c .before .before .before in
+    let start = counted .before .before .before .before .before .before .before .before .before in
+    sym (length-take-le _ _ (omega (arith, counted .least .ensures, start .pre .1))))
+    (λ c.
+    let counted = c .before .before .before .before in
+    let start = counted .before .before .before .before .before .before .before .before .before in
+    sym (length-take-le _ _ (omega (arith, counted .least .ensures, start .pre .2))))
+    (λ c κs.
+    let counted = c .before .before .before .before in
+    let start = counted .before .before .before .before .before .before .before .before .before in
+    let k = counted .least .result in
+    let names : length (take k (start .args .names .now)) ≡ k = length-take-le k _ (omega (arith, counted .least .ensures, start .pre .0)) in
+    let levels : length (take k (start .args .levels .now)) ≡ k = length-take-le k _ (omega (arith, counted .least .ensures, start .pre .1)) in
+    let parents : length (take k (start .args .parents .now)) ≡ k = length-take-le k _ (omega (arith, counted .least .ensures, start .pre .2)) in
+    (levels ∙ sym names, parents ∙ sym names))
+    (λ c. search needs) (λ c κs. search needs) (λ c κs. search needs) (λ c. search needs) returns-2)

@@ -1,18 +1,8 @@
 -- `trees::tree` meets its contract: the text is of the tables that the call fills.
-use mathlib.Core.Path.{sym, refl}
-use native.Mathlib.Omega.{arith}
-use lib.Seq.{length-take-le}
-use borrow.Author.Needs.{needs}
+use Rattle.lists.specs.Kit.{sym, refl, arith, length-take-le, needs}
 use Rattle.tree.specs.Trees.{places}
-use Rattle.site_program.proofs.TreeLaws.{tree-told}
-use Rattle.site_program.proofs.trees.tree.Statement.{statement}
+use Rattle.site_program.proofs.{TreeLaws.{tree-told}, trees.tree.Statement.{statement}}
 use Rattle.site_program.proofs.trees.tree.Tie as tie
-
-array-share-prefix-answer : tie.Need-array-share-prefix-answer
-array-share-prefix-answer c = omega (arith, c .before .before .before .least .ensures)
-
-slice-aggregate-put-tree-4 : tie.Need-slice-aggregate-put-tree-4
-slice-aggregate-put-tree-4 c = sym (length-take-le _ _ (omega (arith, c .before .before .before .before .least .ensures)))
 
 returns : tie.Need-returns
 unfolding places
@@ -23,8 +13,6 @@ returns c =
     tree-told _ _ _ _ _ _ _ _ _ refl refl (counted .least .ensures) (asked .shell-tree .ensures) (put .put-tree .ensures)
 
 pub tree-spec : {M : Type 1} → statement M
-tree-spec =
-    tie.close (
-    tie.spec (λ c. search needs) (λ c. search needs) (λ c. search needs) (λ c. search needs) (λ c κs. search needs) (λ c. search needs) (λ c κs. search needs)
-    (λ c. search needs) (λ c. search needs) (λ c. search needs) array-share-prefix-answer slice-aggregate-put-tree-4 (λ c κs. search needs) (λ c. search needs)
-    returns)
+tree-spec = tie.close (tie.spec (λ c. search needs) (λ c. search needs) (λ c. search needs) (λ c. search needs) (λ c κs. search needs) (λ c. search needs)
+    (λ c κs. search needs) (λ c. search needs) (λ c. search needs) (λ c. search needs) (λ c. omega (arith, c .before .before .before .least .ensures))
+    (λ c. sym (length-take-le _ _ (omega (arith, c .before .before .before .before .least .ensures)))) (λ c κs. search needs) (λ c. search needs) returns)

@@ -1,6 +1,5 @@
 -- `put_further_words` meets its contract: each number in turn.
-use borrow.Author.Needs.{needs}
-use borrow.Author.Tests.{eq-eqb, ne-eqb}
+use Rattle.lists.specs.Kit.{needs, eq-eqb, ne-eqb}
 use Rattle.site_program.specs.Words.{further-words}
 use Rattle.site_program.proofs.words.put_further_words.Statement.{statement}
 use Rattle.site_program.proofs.words.put_further_words.Tie as tie
@@ -37,7 +36,8 @@ returns-4 c =
     let at-if3 = at-if4 .before in
     let at-if2 = at-if3 .before in
     let at-if1 = at-if2 .before in
-    rw (ne-eqb _ 16 (at-if1 .if1 .left), ne-eqb _ 17 (at-if2 .if2 .left), ne-eqb _ 18 (at-if3 .if3 .left), eq-eqb _ 19 (at-if4 .if4 .taken)) (at-put-text4 .put-text4 .ensures)
+    rw (ne-eqb _ 16 (at-if1 .if1 .left), ne-eqb _ 17 (at-if2 .if2 .left), ne-eqb _ 18 (at-if3 .if3 .left), eq-eqb _ 19 (at-if4 .if4 .taken))
+    (at-put-text4 .put-text4 .ensures)
 
 returns-5 : tie.Need-returns-5
 unfolding further-words
@@ -48,7 +48,14 @@ returns-5 c =
     let at-if3 = at-if4 .before in
     let at-if2 = at-if3 .before in
     let at-if1 = at-if2 .before in
-    rw (ne-eqb _ 16 (at-if1 .if1 .left), ne-eqb _ 17 (at-if2 .if2 .left), ne-eqb _ 18 (at-if3 .if3 .left), ne-eqb _ 19 (at-if4 .if4 .left), eq-eqb _ 20 (at-if5 .if5 .taken)) (at-put-text5 .put-text5 .ensures)
+    rw (
+      ne-eqb _ 16 (at-if1 .if1 .left),
+      ne-eqb _ 17 (at-if2 .if2 .left),
+      ne-eqb _ 18 (at-if3 .if3 .left),
+      ne-eqb _ 19 (at-if4 .if4 .left),
+      eq-eqb _ 20
+          (at-if5 .if5 .taken),
+    ) (at-put-text5 .put-text5 .ensures)
 
 returns-6 : tie.Need-returns-6
 unfolding further-words
@@ -59,12 +66,17 @@ returns-6 c =
     let at-if3 = at-if4 .before in
     let at-if2 = at-if3 .before in
     let at-if1 = at-if2 .before in
-    rw (ne-eqb _ 16 (at-if1 .if1 .left), ne-eqb _ 17 (at-if2 .if2 .left), ne-eqb _ 18 (at-if3 .if3 .left), ne-eqb _ 19 (at-if4 .if4 .left), ne-eqb _ 20 (at-if5 .if5 .left)) (at-put-text6 .put-text6 .ensures)
+    rw (
+      ne-eqb _ 16 (at-if1 .if1 .left),
+      ne-eqb _ 17 (at-if2 .if2 .left),
+      ne-eqb _ 18 (at-if3 .if3 .left),
+      ne-eqb _ 19 (at-if4 .if4 .left),
+      ne-eqb _ 20
+          (at-if5 .if5 .left),
+    ) (at-put-text6 .put-text6 .ensures)
 
 pub put-further-words-spec : {M : Type 1} → statement M
-put-further-words-spec =
-    tie.close (
-    tie.spec (λ c. search needs) (λ c κs. search needs) (λ c. search needs) returns (λ c. search needs) (λ c κs. search needs) (λ c. search needs)
-    returns-2 (λ c. search needs) (λ c κs. search needs) (λ c. search needs) returns-3 (λ c. search needs) (λ c κs. search needs) (λ c. search needs)
-    returns-4 (λ c. search needs) (λ c κs. search needs) (λ c. search needs) returns-5 (λ c. search needs) (λ c κs. search needs) (λ c. search needs)
-    returns-6)
+put-further-words-spec = tie.close (tie.spec (λ c. search needs) (λ c κs. search needs) (λ c. search needs) returns (λ c. search needs) (λ c κs. search needs)
+    (λ c. search needs) returns-2 (λ c. search needs) (λ c κs. search needs) (λ c. search needs) returns-3 (λ c. search needs) (λ c κs. search needs)
+    (λ c. search needs) returns-4 (λ c. search needs) (λ c κs. search needs) (λ c. search needs) returns-5 (λ c. search needs) (λ c κs. search needs)
+    (λ c. search needs) returns-6)

@@ -1,6 +1,5 @@
 -- `put_image_words` meets its contract: each number in turn.
-use borrow.Author.Needs.{needs}
-use borrow.Author.Tests.{eq-eqb, ne-eqb}
+use Rattle.lists.specs.Kit.{needs, eq-eqb, ne-eqb}
 use Rattle.site_program.specs.Words.{image-words}
 use Rattle.site_program.proofs.words.put_image_words.Statement.{statement}
 use Rattle.site_program.proofs.words.put_image_words.Tie as tie
@@ -37,7 +36,8 @@ returns-4 c =
     let at-if3 = at-if4 .before in
     let at-if2 = at-if3 .before in
     let at-if1 = at-if2 .before in
-    rw (ne-eqb _ 9 (at-if1 .if1 .left), ne-eqb _ 10 (at-if2 .if2 .left), ne-eqb _ 11 (at-if3 .if3 .left), eq-eqb _ 15 (at-if4 .if4 .taken)) (at-put-text4 .put-text4 .ensures)
+    rw (ne-eqb _ 9 (at-if1 .if1 .left), ne-eqb _ 10 (at-if2 .if2 .left), ne-eqb _ 11 (at-if3 .if3 .left), eq-eqb _ 15 (at-if4 .if4 .taken))
+    (at-put-text4 .put-text4 .ensures)
 
 returns-5 : tie.Need-returns-5
 unfolding image-words
@@ -47,11 +47,10 @@ returns-5 c =
     let at-if3 = at-if4 .before in
     let at-if2 = at-if3 .before in
     let at-if1 = at-if2 .before in
-    rw (ne-eqb _ 9 (at-if1 .if1 .left), ne-eqb _ 10 (at-if2 .if2 .left), ne-eqb _ 11 (at-if3 .if3 .left), ne-eqb _ 15 (at-if4 .if4 .left)) (at-put-further-words .put-further-words .ensures)
+    rw (ne-eqb _ 9 (at-if1 .if1 .left), ne-eqb _ 10 (at-if2 .if2 .left), ne-eqb _ 11 (at-if3 .if3 .left), ne-eqb _ 15 (at-if4 .if4 .left))
+    (at-put-further-words .put-further-words .ensures)
 
 pub put-image-words-spec : {M : Type 1} → statement M
-put-image-words-spec =
-    tie.close (
-    tie.spec (λ c. search needs) (λ c κs. search needs) (λ c. search needs) returns (λ c. search needs) (λ c κs. search needs) (λ c. search needs)
-    returns-2 (λ c. search needs) (λ c κs. search needs) (λ c. search needs) returns-3 (λ c. search needs) (λ c κs. search needs) (λ c. search needs)
-    returns-4 (λ c κs. search needs) (λ c. search needs) returns-5)
+put-image-words-spec = tie.close (tie.spec (λ c. search needs) (λ c κs. search needs) (λ c. search needs) returns (λ c. search needs) (λ c κs. search needs)
+    (λ c. search needs) returns-2 (λ c. search needs) (λ c κs. search needs) (λ c. search needs) returns-3 (λ c. search needs) (λ c κs. search needs)
+    (λ c. search needs) returns-4 (λ c κs. search needs) (λ c. search needs) returns-5)

@@ -1,6 +1,5 @@
 -- `put_table_words` meets its contract: each number in turn.
-use borrow.Author.Needs.{needs}
-use borrow.Author.Tests.{eq-eqb, ne-eqb}
+use Rattle.lists.specs.Kit.{needs, eq-eqb, ne-eqb}
 use Rattle.site_program.specs.Words.{table-words}
 use Rattle.site_program.proofs.words.put_table_words.Statement.{statement}
 use Rattle.site_program.proofs.words.put_table_words.Tie as tie
@@ -37,7 +36,8 @@ returns-4 c =
     let at-if3 = at-if4 .before in
     let at-if2 = at-if3 .before in
     let at-if1 = at-if2 .before in
-    rw (ne-eqb _ 1 (at-if1 .if1 .left), ne-eqb _ 2 (at-if2 .if2 .left), ne-eqb _ 3 (at-if3 .if3 .left), eq-eqb _ 12 (at-if4 .if4 .taken)) (at-put-text4 .put-text4 .ensures)
+    rw (ne-eqb _ 1 (at-if1 .if1 .left), ne-eqb _ 2 (at-if2 .if2 .left), ne-eqb _ 3 (at-if3 .if3 .left), eq-eqb _ 12 (at-if4 .if4 .taken))
+    (at-put-text4 .put-text4 .ensures)
 
 returns-5 : tie.Need-returns-5
 unfolding table-words
@@ -48,7 +48,14 @@ returns-5 c =
     let at-if3 = at-if4 .before in
     let at-if2 = at-if3 .before in
     let at-if1 = at-if2 .before in
-    rw (ne-eqb _ 1 (at-if1 .if1 .left), ne-eqb _ 2 (at-if2 .if2 .left), ne-eqb _ 3 (at-if3 .if3 .left), ne-eqb _ 12 (at-if4 .if4 .left), eq-eqb _ 13 (at-if5 .if5 .taken)) (at-put-text5 .put-text5 .ensures)
+    rw (
+      ne-eqb _ 1 (at-if1 .if1 .left),
+      ne-eqb _ 2 (at-if2 .if2 .left),
+      ne-eqb _ 3 (at-if3 .if3 .left),
+      ne-eqb _ 12 (at-if4 .if4 .left),
+      eq-eqb _ 13
+          (at-if5 .if5 .taken),
+    ) (at-put-text5 .put-text5 .ensures)
 
 returns-6 : tie.Need-returns-6
 unfolding table-words
@@ -60,7 +67,15 @@ returns-6 c =
     let at-if3 = at-if4 .before in
     let at-if2 = at-if3 .before in
     let at-if1 = at-if2 .before in
-    rw (ne-eqb _ 1 (at-if1 .if1 .left), ne-eqb _ 2 (at-if2 .if2 .left), ne-eqb _ 3 (at-if3 .if3 .left), ne-eqb _ 12 (at-if4 .if4 .left), ne-eqb _ 13 (at-if5 .if5 .left), eq-eqb _ 14 (at-if6 .if6 .taken)) (at-put-text6 .put-text6 .ensures)
+    rw (
+      ne-eqb _ 1 (at-if1 .if1 .left),
+      ne-eqb _ 2 (at-if2 .if2 .left),
+      ne-eqb _ 3 (at-if3 .if3 .left),
+      ne-eqb _ 12 (at-if4 .if4 .left),
+      ne-eqb _ 13
+          (at-if5 .if5 .left),
+      eq-eqb _ 14 (at-if6 .if6 .taken),
+    ) (at-put-text6 .put-text6 .ensures)
 
 returns-7 : tie.Need-returns-7
 unfolding table-words
@@ -72,12 +87,18 @@ returns-7 c =
     let at-if3 = at-if4 .before in
     let at-if2 = at-if3 .before in
     let at-if1 = at-if2 .before in
-    rw (ne-eqb _ 1 (at-if1 .if1 .left), ne-eqb _ 2 (at-if2 .if2 .left), ne-eqb _ 3 (at-if3 .if3 .left), ne-eqb _ 12 (at-if4 .if4 .left), ne-eqb _ 13 (at-if5 .if5 .left), ne-eqb _ 14 (at-if6 .if6 .left)) (at-put-image-words .put-image-words .ensures)
+    rw (
+      ne-eqb _ 1 (at-if1 .if1 .left),
+      ne-eqb _ 2 (at-if2 .if2 .left),
+      ne-eqb _ 3 (at-if3 .if3 .left),
+      ne-eqb _ 12 (at-if4 .if4 .left),
+      ne-eqb _ 13
+          (at-if5 .if5 .left),
+      ne-eqb _ 14 (at-if6 .if6 .left),
+    ) (at-put-image-words .put-image-words .ensures)
 
 pub put-table-words-spec : {M : Type 1} → statement M
-put-table-words-spec =
-    tie.close (
-    tie.spec (λ c. search needs) (λ c κs. search needs) (λ c. search needs) returns (λ c. search needs) (λ c κs. search needs) (λ c. search needs)
-    returns-2 (λ c. search needs) (λ c κs. search needs) (λ c. search needs) returns-3 (λ c. search needs) (λ c κs. search needs) (λ c. search needs)
-    returns-4 (λ c. search needs) (λ c κs. search needs) (λ c. search needs) returns-5 (λ c. search needs) (λ c κs. search needs) (λ c. search needs)
-    returns-6 (λ c κs. search needs) (λ c. search needs) returns-7)
+put-table-words-spec = tie.close (tie.spec (λ c. search needs) (λ c κs. search needs) (λ c. search needs) returns (λ c. search needs) (λ c κs. search needs)
+    (λ c. search needs) returns-2 (λ c. search needs) (λ c κs. search needs) (λ c. search needs) returns-3 (λ c. search needs) (λ c κs. search needs)
+    (λ c. search needs) returns-4 (λ c. search needs) (λ c κs. search needs) (λ c. search needs) returns-5 (λ c. search needs) (λ c κs. search needs)
+    (λ c. search needs) returns-6 (λ c κs. search needs) (λ c. search needs) returns-7)

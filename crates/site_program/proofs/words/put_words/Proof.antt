@@ -1,6 +1,5 @@
 -- `put_words` meets its contract: each number in turn.
-use borrow.Author.Needs.{needs}
-use borrow.Author.Tests.{eq-eqb, ne-eqb}
+use Rattle.lists.specs.Kit.{needs, eq-eqb, ne-eqb}
 use Rattle.site_program.specs.Words.{words-of}
 use Rattle.site_program.proofs.words.put_words.Statement.{statement}
 use Rattle.site_program.proofs.words.put_words.Tie as tie
@@ -37,7 +36,8 @@ returns-4 c =
     let at-if3 = at-if4 .before in
     let at-if2 = at-if3 .before in
     let at-if1 = at-if2 .before in
-    rw (ne-eqb _ 4 (at-if1 .if1 .left), ne-eqb _ 5 (at-if2 .if2 .left), ne-eqb _ 6 (at-if3 .if3 .left), eq-eqb _ 7 (at-if4 .if4 .taken)) (at-put-text4 .put-text4 .ensures)
+    rw (ne-eqb _ 4 (at-if1 .if1 .left), ne-eqb _ 5 (at-if2 .if2 .left), ne-eqb _ 6 (at-if3 .if3 .left), eq-eqb _ 7 (at-if4 .if4 .taken))
+    (at-put-text4 .put-text4 .ensures)
 
 returns-5 : tie.Need-returns-5
 unfolding words-of
@@ -48,7 +48,14 @@ returns-5 c =
     let at-if3 = at-if4 .before in
     let at-if2 = at-if3 .before in
     let at-if1 = at-if2 .before in
-    rw (ne-eqb _ 4 (at-if1 .if1 .left), ne-eqb _ 5 (at-if2 .if2 .left), ne-eqb _ 6 (at-if3 .if3 .left), ne-eqb _ 7 (at-if4 .if4 .left), eq-eqb _ 8 (at-if5 .if5 .taken)) (at-put-text5 .put-text5 .ensures)
+    rw (
+      ne-eqb _ 4 (at-if1 .if1 .left),
+      ne-eqb _ 5 (at-if2 .if2 .left),
+      ne-eqb _ 6 (at-if3 .if3 .left),
+      ne-eqb _ 7 (at-if4 .if4 .left),
+      eq-eqb _ 8
+          (at-if5 .if5 .taken),
+    ) (at-put-text5 .put-text5 .ensures)
 
 returns-6 : tie.Need-returns-6
 unfolding words-of
@@ -59,11 +66,17 @@ returns-6 c =
     let at-if3 = at-if4 .before in
     let at-if2 = at-if3 .before in
     let at-if1 = at-if2 .before in
-    rw (ne-eqb _ 4 (at-if1 .if1 .left), ne-eqb _ 5 (at-if2 .if2 .left), ne-eqb _ 6 (at-if3 .if3 .left), ne-eqb _ 7 (at-if4 .if4 .left), ne-eqb _ 8 (at-if5 .if5 .left)) (at-put-table-words .put-table-words .ensures)
+    rw (
+      ne-eqb _ 4 (at-if1 .if1 .left),
+      ne-eqb _ 5 (at-if2 .if2 .left),
+      ne-eqb _ 6 (at-if3 .if3 .left),
+      ne-eqb _ 7 (at-if4 .if4 .left),
+      ne-eqb _ 8
+          (at-if5 .if5 .left),
+    ) (at-put-table-words .put-table-words .ensures)
 
 pub put-words-spec : {M : Type 1} → statement M
-put-words-spec =
-    tie.close (
-    tie.spec (λ c. search needs) (λ c κs. search needs) (λ c. search needs) returns (λ c. search needs) (λ c κs. search needs) (λ c. search needs)
-    returns-2 (λ c. search needs) (λ c κs. search needs) (λ c. search needs) returns-3 (λ c. search needs) (λ c κs. search needs) (λ c. search needs)
-    returns-4 (λ c. search needs) (λ c κs. search needs) (λ c. search needs) returns-5 (λ c κs. search needs) (λ c. search needs) returns-6)
+put-words-spec = tie.close (tie.spec (λ c. search needs) (λ c κs. search needs) (λ c. search needs) returns (λ c. search needs) (λ c κs. search needs)
+    (λ c. search needs) returns-2 (λ c. search needs) (λ c κs. search needs) (λ c. search needs) returns-3 (λ c. search needs) (λ c κs. search needs)
+    (λ c. search needs) returns-4 (λ c. search needs) (λ c κs. search needs) (λ c. search needs) returns-5 (λ c κs. search needs) (λ c. search needs)
+    returns-6)

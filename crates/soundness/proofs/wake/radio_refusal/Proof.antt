@@ -1,29 +1,20 @@
 -- `wake::radio_refusal` meets its contract: questions 1 to 3, and 4 after them.
-use borrow.Author.Needs.{needs}
-use Rattle.mesh.specs.Sound.{sound}
-use Rattle.mesh.specs.Tables.{tables}
+use Rattle.lists.specs.Kit.{needs}
+use Rattle.mesh.specs.{Sound.{sound}, Tables.{tables}}
 use Rattle.calls.specs.Questions.{lengths-of}
-use Rattle.soundness.proofs.RadioLaws.{radio-no, radio-four, radio-none}
-use Rattle.soundness.proofs.wake.radio_refusal.Statement.{statement}
-use Rattle.soundness.proofs.wake.radio_refusal.Tie as tie
-
-returns : tie.Need-returns
-returns c =
-    let call = c .before .before .before .before .before .args in
-    let t = tables (call .links .now) (call .numbers .now) (call .order .now) in
-    radio-no (call .n) (call .v) (lengths-of t) (sound (call .n) t) _ (c .before .refusal .ensures) (c .if1 .taken)
-
-returns-2 : tie.Need-returns-2
-returns-2 c =
-    let call = c .before .before .before .before .before .before .args in
-    let t = tables (call .links .now) (call .numbers .now) (call .order .now) in
-    radio-four (call .n) (call .v) (lengths-of t) (sound (call .n) t) _ (c .before .before .refusal .ensures) (c .before .if1 .left) (c .if2 .taken)
-
-returns-3 : tie.Need-returns-3
-returns-3 c =
-    let call = c .before .before .before .before .before .before .args in
-    let t = tables (call .links .now) (call .numbers .now) (call .order .now) in
-    radio-none (call .n) (call .v) (lengths-of t) (sound (call .n) t) _ (c .before .before .refusal .ensures) (c .before .if1 .left) (c .if2 .left)
+use Rattle.soundness.proofs.{RadioLaws.{radio-no, radio-four, radio-none}, wake.radio_refusal.{Statement.{statement}, Tie.{close, spec}}}
 
 pub radio-refusal-spec : {M : Type 1} → statement M
-radio-refusal-spec = tie.close (tie.spec (λ c κs. search needs) returns returns-2 returns-3)
+radio-refusal-spec = close (spec (λ c κs. search needs)
+    (λ c.
+    let call = c .before .before .before .before .before .args in
+    let t = tables (call .links .now) (call .numbers .now) (call .order .now) in
+    radio-no (call .n) (call .v) (lengths-of t) (sound (call .n) t) _ (c .before .refusal .ensures) (c .if1 .taken))
+    (λ c.
+    let call = c .before .before .before .before .before .before .args in
+    let t = tables (call .links .now) (call .numbers .now) (call .order .now) in
+    radio-four (call .n) (call .v) (lengths-of t) (sound (call .n) t) _ (c .before .before .refusal .ensures) (c .before .if1 .left) (c .if2 .taken))
+    (λ c.
+    let call = c .before .before .before .before .before .before .args in
+    let t = tables (call .links .now) (call .numbers .now) (call .order .now) in
+    radio-none (call .n) (call .v) (lengths-of t) (sound (call .n) t) _ (c .before .before .refusal .ensures) (c .before .if1 .left) (c .if2 .left)))

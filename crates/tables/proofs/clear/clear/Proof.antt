@@ -1,11 +1,9 @@
 -- `clear::clear` meets its contract: a refusal touches nothing, and an accepted call fills each table to its length, which is the
 -- one that question 2 wants.
-use mathlib.Core.Path.{sym, _∙_}
-use borrow.Author.Needs.{needs}
+use Rattle.lists.specs.Kit.{sym, _∙_, needs}
 use Rattle.mesh.specs.Tables.{tables}
 use Rattle.calls.specs.Questions.{lengths-of}
-use Rattle.tables.proofs.ClearLaws.{clear-refused, clear-accepted}
-use Rattle.tables.proofs.clear.clear.Statement.{statement}
+use Rattle.tables.proofs.{ClearLaws.{clear-refused, clear-accepted}, clear.clear.Statement.{statement}}
 use Rattle.tables.proofs.clear.clear.Tie as tie
 
 returns : tie.Need-returns
@@ -29,7 +27,5 @@ returns-2 c =
     (linked .fill8 .ensures) (numbered .fill82 .ensures) (ordered .index16 .ensures)
 
 pub clear-spec : {M : Type 1} → statement M
-clear-spec =
-    tie.close (
-    tie.spec (λ c κs. search needs) returns (λ c κs. search needs) (λ c κs. search needs) (λ c κs. search needs) (λ c. search needs) (λ c. search needs)
-    (λ c. search needs) returns-2)
+clear-spec = tie.close (tie.spec (λ c κs. search needs) returns (λ c κs. search needs) (λ c κs. search needs) (λ c κs. search needs) (λ c. search needs)
+    (λ c. search needs) (λ c. search needs) returns-2)

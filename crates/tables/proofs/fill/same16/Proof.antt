@@ -1,33 +1,16 @@
 -- `fill::same16` meets its contract: the entries passed are equal, so what is left decides. The measure is what is left of a.
-use mathlib.Core.Path.{sym}
-use Prim.Native.Nat.{_-_}
-use native.Mathlib.Omega.{arith}
-use lib.ListN.{length}
-use borrow.Author.Needs.{needs}
+use Rattle.lists.{specs.Kit.{sym, _-_, arith, length, needs}, proofs.All.{same-lengths}}
 use Rattle.tables.proofs.WidthLaws.{Comparing, comparing-none, comparing-turn, comparing-differ, comparing-end}
-use Rattle.lists.proofs.All.{same-lengths}
-use Rattle.tables.proofs.fill.same16.Statement.{statement}
-use Rattle.tables.proofs.fill.same16.Tie as tie
-
-abbrev Inv-loop : tie.InvT-loop
-Inv-loop a b i₀ i = Comparing a b i
-
-abbrev μ-loop : tie.MeasureT-loop
-μ-loop a b i₀ i = length a - i
-
-returns-2 : tie.Need-returns-2 Inv-loop μ-loop
-returns-2 c =
-    let at-loop = c .before .before .before .before in
-    sym (comparing-differ _ _ (at-loop .loop .i) (at-loop .loop .inv) (omega arith) (c .if2 .taken))
-
-loop-again : tie.Need-loop-again Inv-loop μ-loop
-loop-again c =
-    let at-loop = c .before .before .before .before in
-    comparing-turn _ _ (at-loop .loop .i) (at-loop .loop .inv) (omega arith) (c .if2 .left)
+use Rattle.tables.proofs.fill.same16.{Statement.{statement}, Tie.{close, spec}}
 
 pub same16-spec : {M : Type 1} → statement M
-same16-spec =
-    tie.close (
-    tie.spec Inv-loop μ-loop (λ c. sym (same-lengths _ _ (c .if1 .taken))) (λ c. comparing-none _ _ (c .if1 .left)) (λ c. search needs) (λ c. search needs)
-    (λ c. search needs) (λ c. search needs) returns-2 (λ c. search needs) (λ c. search needs) loop-again
+same16-spec = close (spec (λ a b _ i. Comparing a b i) (λ a _ _ i. length a - i) (λ c. sym (same-lengths _ _ (c .if1 .taken)))
+    (λ c. comparing-none _ _ (c .if1 .left)) (λ c. search needs) (λ c. search needs) (λ c. search needs) (λ c. search needs)
+    (λ c.
+    let at-loop = c .before .before .before .before in
+    sym (comparing-differ _ _ (at-loop .loop .i) (at-loop .loop .inv) (omega arith) (c .if2 .taken)))
+    (λ c. search needs) (λ c. search needs)
+    (λ c.
+    let at-loop = c .before .before .before .before in
+    comparing-turn _ _ (at-loop .loop .i) (at-loop .loop .inv) (omega arith) (c .if2 .left))
     (λ c. sym (comparing-end _ _ _ (c .before .loop .inv) (omega arith))))

@@ -1,6 +1,5 @@
 -- `sizes::are_lengths` meets its contract: each test is one table's, and 64 times 32 bits fit the product.
-use borrow.Author.Needs.{needs}
-use borrow.Author.Tests.{eq-eqb, ne-eqb}
+use Rattle.lists.specs.Kit.{needs, eq-eqb, ne-eqb}
 use Rattle.calls.specs.Questions.{site-lengths}
 use Rattle.tables.proofs.sizes.are_lengths.Statement.{statement}
 use Rattle.tables.proofs.sizes.are_lengths.Tie as tie

@@ -1,5 +1,5 @@
 -- `sizes::is_size` meets its contract: the second test is the answer where the first is passed.
-use borrow.Author.Tests.{lt-leb, le-leb}
+use Rattle.lists.specs.Kit.{lt-leb, le-leb}
 use Rattle.calls.specs.Questions.{size-good}
 use Rattle.tables.proofs.sizes.is_size.Statement.{statement}
 use Rattle.tables.proofs.sizes.is_size.Tie as tie

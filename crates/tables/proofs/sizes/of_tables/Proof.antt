@@ -1,5 +1,5 @@
 -- `sizes::of_tables` meets its contract: no further table is asked for.
-use borrow.Author.Needs.{needs}
+use Rattle.lists.specs.Kit.{needs}
 use Rattle.calls.specs.Questions.{tables-refusal}
 use Rattle.tables.proofs.sizes.of_tables.Statement.{statement}
 use Rattle.tables.proofs.sizes.of_tables.Tie as tie

@@ -1,6 +1,5 @@
 -- `sizes::with_others` meets its contract: each test is a question of the chain, and its "no" the number.
-use borrow.Author.Needs.{needs}
-use borrow.Author.Tests.{not-true, not-false}
+use Rattle.lists.specs.Kit.{needs, not-true, not-false}
 use Rattle.calls.specs.Questions.{ask, lent-refusal}
 use Rattle.tables.proofs.sizes.with_others.Statement.{statement}
 use Rattle.tables.proofs.sizes.with_others.Tie as tie
@@ -37,6 +36,4 @@ returns-4 c =
     (rw (not-false (long .result) (c .before .if2 .left), not-false others (c .if3 .left)))
 
 pub with-others-spec : {M : Type 1} → statement M
-with-others-spec =
-    tie.close (
-    tie.spec (λ c κs. search needs) returns (λ c κs. search needs) returns-2 returns-3 returns-4)
+with-others-spec = tie.close (tie.spec (λ c κs. search needs) returns (λ c κs. search needs) returns-2 returns-3 returns-4)

@@ -1,9 +1,6 @@
 -- `steps::step_at` meets its contract: it writes the stepped number, or there is no entry to write.
-use mathlib.Core.Path.{sym, ap, _∙_}
+use Rattle.lists.specs.Kit.{sym, ap, _∙_, getD, set, set-out, needs}
 use mir.Facts.{toZ-ofZ}
-use lib.ListN.{getD, set}
-use lib.Seq.{set-out}
-use borrow.Author.Needs.{needs}
 use Rattle.tables.specs.Steps.{stepped, step-at}
 use Rattle.tables.proofs.steps.step_at.Statement.{statement}
 use Rattle.tables.proofs.steps.step_at.Tie as tie
@@ -20,6 +17,4 @@ unfolding step-at
 returns-2 c = sym (set-out _ _ _ (c .if1 .left))
 
 pub step-at-spec : {M : Type 1} → statement M
-step-at-spec =
-    tie.close (
-    tie.spec (λ c. search needs) (λ c κs. search needs) (λ c. search needs) (λ c. search needs) returns returns-2)
+step-at-spec = tie.close (tie.spec (λ c. search needs) (λ c κs. search needs) (λ c. search needs) (λ c. search needs) returns returns-2)

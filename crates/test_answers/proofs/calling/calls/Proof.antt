@@ -3,17 +3,9 @@ use mathlib.Core.Path.{_≡_, refl}
 use Prim.Native.Nat.{_-_}
 use lib.ListN.{length}
 use borrow.Author.Needs.{needs}
-use Rattle.test_answers.proofs.calling.calls.Statement.{statement}
-use Rattle.test_answers.proofs.calling.calls.Tie as tie
-
-abbrev Inv-loop : tie.InvT-loop
-Inv-loop fd links numbers order answer₀ count u₀ i₀ answer u i = length answer ≡ length answer₀
-
-abbrev μ-loop : tie.MeasureT-loop
-μ-loop fd links numbers order answer₀ count u₀ i₀ answer u i = count - i
+use Rattle.test_answers.proofs.calling.calls.{Statement.{statement}, Tie.{close, spec}}
 
 pub calls-spec : {M : Type 1} → statement M
-calls-spec =
-    tie.close (
-    tie.spec Inv-loop μ-loop (λ c κs. search needs) (λ c. refl) (λ c κs. search needs) (λ c. search needs) (λ c. search needs) (λ c. search needs)
-    (λ c. search needs) (λ c. search needs))
+calls-spec = close (spec (λ _ _ _ _ answer₀ _ _ _ answer _ _. length answer ≡ length answer₀) (λ _ _ _ _ _ count _ _ _ _ i. count - i)
+    (λ c κs. search needs) (λ c. refl) (λ c κs. search needs) (λ c. search needs) (λ c. search needs) (λ c. search needs) (λ c. search needs)
+    (λ c. search needs))

@@ -2,10 +2,8 @@
 use mathlib.Core.Path.{sym}
 use lib.Seq.{length-take-le}
 use borrow.Author.Needs.{needs}
-use Rattle.test_edges.proofs.pictures.say_image.Statement.{statement}
-use Rattle.test_edges.proofs.pictures.say_image.Tie as tie
+use Rattle.test_edges.proofs.pictures.say_image.{Statement.{statement}, Tie.{close, spec}}
 
 pub say-image-spec : {M : Type 1} → statement M
-say-image-spec =
-    tie.close (
-    tie.spec (λ c κs. search needs) (λ c. search needs) (λ c. sym (length-take-le _ _ (search needs))) (λ c κs. search needs) (λ c. search needs))
+say-image-spec = close (spec (λ c κs. search needs) (λ c. search needs) (λ c. sym (length-take-le _ _ (search needs))) (λ c κs. search needs)
+    (λ c. search needs))

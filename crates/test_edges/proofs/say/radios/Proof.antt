@@ -2,17 +2,8 @@
 use Prim.Native.Nat.{_-_}
 use lib.ListN.{length}
 use borrow.Author.Needs.{needs}
-use Rattle.test_edges.proofs.say.radios.Statement.{statement}
-use Rattle.test_edges.proofs.say.radios.Tie as tie
-
-abbrev Inv-loop : tie.InvT-loop
-Inv-loop text s i₀ i = Unit
-
-abbrev μ-loop : tie.MeasureT-loop
-μ-loop text s i₀ i = length s - i
+use Rattle.test_edges.proofs.say.radios.{Statement.{statement}, Tie.{close, spec}}
 
 pub radios-spec : {M : Type 1} → statement M
-radios-spec =
-    tie.close (
-    tie.spec Inv-loop μ-loop (λ c κs. search needs) (λ c. search needs) (λ c. search needs) (λ c. search needs) (λ c κs. search needs) (λ c. search needs)
-    (λ c. search needs) (λ c. search needs) (λ c κs. search needs) (λ c. search needs))
+radios-spec = close (spec (λ _ _ _ _. Unit) (λ _ s _ i. length s - i) (λ c κs. search needs) (λ c. search needs) (λ c. search needs)
+    (λ c. search needs) (λ c κs. search needs) (λ c. search needs) (λ c. search needs) (λ c. search needs) (λ c κs. search needs) (λ c. search needs))

@@ -2,12 +2,9 @@
 use mathlib.Core.Path.{sym}
 use lib.Seq.{length-take-le}
 use borrow.Author.Needs.{needs}
-use Rattle.test_histories.proofs.engine.is_sound.Statement.{statement}
-use Rattle.test_histories.proofs.engine.is_sound.Tie as tie
+use Rattle.test_histories.proofs.engine.is_sound.{Statement.{statement}, Tie.{close, spec}}
 
 pub is-sound-spec : {M : Type 1} → statement M
-is-sound-spec =
-    tie.close (
-    tie.spec (λ c. search needs) (λ c κs. search needs) (λ c κs. search needs) (λ c κs. search needs) (λ c. sym (length-take-le _ _ (search needs)))
-    (λ c. sym (length-take-le _ _ (search needs))) (λ c. sym (length-take-le _ _ (search needs))) (λ c κs. search needs) (λ c. search needs)
-    (λ c. search needs))
+is-sound-spec = close (spec (λ c. search needs) (λ c κs. search needs) (λ c κs. search needs) (λ c κs. search needs)
+    (λ c. sym (length-take-le _ _ (search needs))) (λ c. sym (length-take-le _ _ (search needs))) (λ c. sym (length-take-le _ _ (search needs)))
+    (λ c κs. search needs) (λ c. search needs) (λ c. search needs))

@@ -1,17 +1,8 @@
 -- `play::all_calls` is safe and ends: the measure is how many turns are left.
 use Prim.Native.Nat.{_-_}
 use borrow.Author.Needs.{needs}
-use Rattle.test_histories.proofs.play.all_calls.Statement.{statement}
-use Rattle.test_histories.proofs.play.all_calls.Tie as tie
-
-abbrev Inv-loop : tie.InvT-loop
-Inv-loop plan links₀ numbers₀ order₀ answer₀ model₀ counts₀ x₀ i₀ links numbers order answer model counts x i = Unit
-
-abbrev μ-loop : tie.MeasureT-loop
-μ-loop plan links₀ numbers₀ order₀ answer₀ model₀ counts₀ x₀ i₀ links numbers order answer model counts x i = (plan .calls) - i
+use Rattle.test_histories.proofs.play.all_calls.{Statement.{statement}, Tie.{close, spec}}
 
 pub all-calls-spec : {M : Type 1} → statement M
-all-calls-spec =
-    tie.close (
-    tie.spec Inv-loop μ-loop (λ c. search needs) (λ c κs. search needs) (λ c. search needs) (λ c. search needs) (λ c. search needs)
-    (λ c. search needs))
+all-calls-spec = close (spec (λ _ _ _ _ _ _ _ _ _ _ _ _ _ _ _ _ _. Unit) (λ plan _ _ _ _ _ _ _ _ _ _ _ _ _ _ _ i. (plan .calls) - i)
+    (λ c. search needs) (λ c κs. search needs) (λ c. search needs) (λ c. search needs) (λ c. search needs) (λ c. search needs))

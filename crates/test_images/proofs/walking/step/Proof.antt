@@ -2,23 +2,17 @@
 use native.Mathlib.Omega.{arith}
 use borrow.Author.Needs.{needs}
 use Rattle.block_reader.proofs.StepLaws.{block-inside}
-use Rattle.test_images.proofs.walking.step.Statement.{statement}
-use Rattle.test_images.proofs.walking.step.Tie as tie
-
-add-end : tie.Need-add-end
-add-end c =
-    let asked = c .before .before in
-    let s = asked .before .before .args in
-    omega (arith, block-inside (s .image .now) (s .walk .next) (asked .block .result) (asked .block .ensures))
-
-part-part-end : tie.Need-part-part-end
-part-part-end c =
-    let asked = c .before .before in
-    let s = asked .before .before .args in
-    omega (arith, block-inside (s .image .now) (s .walk .next) (asked .block .result) (asked .block .ensures))
+use Rattle.test_images.proofs.walking.step.{Statement.{statement}, Tie.{close, spec}}
 
 pub step-spec : {M : Type 1} → statement M
-step-spec =
-    tie.close (
-    tie.spec (λ c κs. search needs) (λ c κs. search needs) add-end (λ c. search needs) (λ c. search needs) part-part-end (λ c κs. search needs)
-    (λ c κs. search needs) (λ c κs. search needs) (λ c. search needs))
+step-spec = close (spec (λ c κs. search needs) (λ c κs. search needs)
+    (λ c.
+    let asked = c .before .before in
+    let s = asked .before .before .args in
+    omega (arith, block-inside (s .image .now) (s .walk .next) (asked .block .result) (asked .block .ensures)))
+    (λ c. search needs) (λ c. search needs)
+    (λ c.
+    let asked = c .before .before in
+    let s = asked .before .before .args in
+    omega (arith, block-inside (s .image .now) (s .walk .next) (asked .block .result) (asked .block .ensures)))
+    (λ c κs. search needs) (λ c κs. search needs) (λ c κs. search needs) (λ c. search needs))

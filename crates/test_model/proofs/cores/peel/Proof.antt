@@ -1,17 +1,8 @@
 -- `cores::peel` is safe and ends: the measure is how many turns are left.
 use Prim.Native.Nat.{_-_}
 use borrow.Author.Needs.{needs}
-use Rattle.test_model.proofs.cores.peel.Statement.{statement}
-use Rattle.test_model.proofs.cores.peel.Tie as tie
-
-abbrev Inv-loop : tie.InvT-loop
-Inv-loop model₀ n k₀ model k = Unit
-
-abbrev μ-loop : tie.MeasureT-loop
-μ-loop model₀ n k₀ model k = 42 - k
+use Rattle.test_model.proofs.cores.peel.{Statement.{statement}, Tie.{close, spec}}
 
 pub peel-spec : {M : Type 1} → statement M
-peel-spec =
-    tie.close (
-    tie.spec Inv-loop μ-loop (λ c κs. search needs) (λ c κs. search needs) (λ c. search needs) (λ c κs. search needs) (λ c. search needs)
-    (λ c. search needs) (λ c. search needs) (λ c. search needs))
+peel-spec = close (spec (λ _ _ _ _ _. Unit) (λ _ _ _ _ k. 42 - k) (λ c κs. search needs) (λ c κs. search needs) (λ c. search needs)
+    (λ c κs. search needs) (λ c. search needs) (λ c. search needs) (λ c. search needs) (λ c. search needs))

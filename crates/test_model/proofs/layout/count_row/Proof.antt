@@ -1,17 +1,8 @@
 -- `layout::count_row` is safe and ends: the measure is how many turns are left.
 use Prim.Native.Nat.{_-_}
 use borrow.Author.Needs.{needs}
-use Rattle.test_model.proofs.layout.count_row.Statement.{statement}
-use Rattle.test_model.proofs.layout.count_row.Tie as tie
-
-abbrev Inv-loop : tie.InvT-loop
-Inv-loop model n v t sum₀ u₀ sum u = Unit
-
-abbrev μ-loop : tie.MeasureT-loop
-μ-loop model n v t sum₀ u₀ sum u = n - u
+use Rattle.test_model.proofs.layout.count_row.{Statement.{statement}, Tie.{close, spec}}
 
 pub count-row-spec : {M : Type 1} → statement M
-count-row-spec =
-    tie.close (
-    tie.spec Inv-loop μ-loop (λ c. search needs) (λ c κs. search needs) (λ c. search needs) (λ c κs. search needs) (λ c. search needs)
-    (λ c. search needs) (λ c. search needs) (λ c. search needs))
+count-row-spec = close (spec (λ _ _ _ _ _ _ _ _. Unit) (λ _ n _ _ _ _ _ u. n - u) (λ c. search needs) (λ c κs. search needs) (λ c. search needs)
+    (λ c κs. search needs) (λ c. search needs) (λ c. search needs) (λ c. search needs) (λ c. search needs))

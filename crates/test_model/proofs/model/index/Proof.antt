@@ -1,17 +1,8 @@
 -- `model::index` is safe and ends: the measure is how many turns are left.
 use Prim.Native.Nat.{_-_}
 use borrow.Author.Needs.{needs}
-use Rattle.test_model.proofs.model.index.Statement.{statement}
-use Rattle.test_model.proofs.model.index.Tie as tie
-
-abbrev Inv-loop : tie.InvT-loop
-Inv-loop model₀ n i₀ model i = Unit
-
-abbrev μ-loop : tie.MeasureT-loop
-μ-loop model₀ n i₀ model i = n - i
+use Rattle.test_model.proofs.model.index.{Statement.{statement}, Tie.{close, spec}}
 
 pub index-spec : {M : Type 1} → statement M
-index-spec =
-    tie.close (
-    tie.spec Inv-loop μ-loop (λ c. search needs) (λ c. search needs) (λ c κs. search needs) (λ c. search needs) (λ c. search needs)
-    (λ c. search needs) (λ c. search needs))
+index-spec = close (spec (λ _ _ _ _ _. Unit) (λ _ n _ _ i. n - i) (λ c. search needs) (λ c. search needs) (λ c κs. search needs) (λ c. search needs)
+    (λ c. search needs) (λ c. search needs) (λ c. search needs))

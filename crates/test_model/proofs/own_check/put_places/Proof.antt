@@ -1,18 +1,9 @@
 -- `own_check::put_places` is safe and ends: the measure is how many turns are left.
 use Prim.Native.Nat.{_-_}
 use borrow.Author.Needs.{needs}
-use Rattle.test_model.proofs.own_check.put_places.Statement.{statement}
-use Rattle.test_model.proofs.own_check.put_places.Tie as tie
-
-abbrev Inv-loop : tie.InvT-loop
-Inv-loop n order places₀ i₀ places i = Unit
-
-abbrev μ-loop : tie.MeasureT-loop
-μ-loop n order places₀ i₀ places i = n - i
+use Rattle.test_model.proofs.own_check.put_places.{Statement.{statement}, Tie.{close, spec}}
 
 pub put-places-spec : {M : Type 1} → statement M
-put-places-spec =
-    tie.close (
-    tie.spec Inv-loop μ-loop (λ c κs. search needs) (λ c. search needs) (λ c κs. search needs) (λ c. search needs) (λ c. search needs)
-    (λ c κs. search needs) (λ c. search needs) (λ c. search needs) (λ c κs. search needs) (λ c. search needs) (λ c. search needs) (λ c. search needs)
-    (λ c. search needs))
+put-places-spec = close (spec (λ _ _ _ _ _ _. Unit) (λ n _ _ _ _ i. n - i) (λ c κs. search needs) (λ c. search needs) (λ c κs. search needs)
+    (λ c. search needs) (λ c. search needs) (λ c κs. search needs) (λ c. search needs) (λ c. search needs) (λ c κs. search needs) (λ c. search needs)
+    (λ c. search needs) (λ c. search needs) (λ c. search needs))

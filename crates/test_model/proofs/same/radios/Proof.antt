@@ -1,17 +1,8 @@
 -- `same::radios` is safe and ends: the measure is how many turns are left.
 use Prim.Native.Nat.{_-_}
 use borrow.Author.Needs.{needs}
-use Rattle.test_model.proofs.same.radios.Statement.{statement}
-use Rattle.test_model.proofs.same.radios.Tie as tie
-
-abbrev Inv-loop : tie.InvT-loop
-Inv-loop s model section i₀ i = Unit
-
-abbrev μ-loop : tie.MeasureT-loop
-μ-loop s model section i₀ i = 513 - i
+use Rattle.test_model.proofs.same.radios.{Statement.{statement}, Tie.{close, spec}}
 
 pub radios-spec : {M : Type 1} → statement M
-radios-spec =
-    tie.close (
-    tie.spec Inv-loop μ-loop (λ c. search needs) (λ c κs. search needs) (λ c κs. search needs) (λ c. search needs) (λ c. search needs)
-    (λ c. search needs) (λ c. search needs) (λ c. search needs))
+radios-spec = close (spec (λ _ _ _ _ _. Unit) (λ _ _ _ _ i. 513 - i) (λ c. search needs) (λ c κs. search needs) (λ c κs. search needs)
+    (λ c. search needs) (λ c. search needs) (λ c. search needs) (λ c. search needs) (λ c. search needs))

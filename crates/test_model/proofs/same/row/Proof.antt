@@ -1,17 +1,8 @@
 -- `same::row` is safe and ends: the measure is how many turns are left.
 use Prim.Native.Nat.{_-_}
 use borrow.Author.Needs.{needs}
-use Rattle.test_model.proofs.same.row.Statement.{statement}
-use Rattle.test_model.proofs.same.row.Tie as tie
-
-abbrev Inv-loop : tie.InvT-loop
-Inv-loop links model a b₀ b = Unit
-
-abbrev μ-loop : tie.MeasureT-loop
-μ-loop links model a b₀ b = 512 - b
+use Rattle.test_model.proofs.same.row.{Statement.{statement}, Tie.{close, spec}}
 
 pub row-spec : {M : Type 1} → statement M
-row-spec =
-    tie.close (
-    tie.spec Inv-loop μ-loop (λ c. search needs) (λ c κs. search needs) (λ c κs. search needs) (λ c. search needs) (λ c. search needs)
-    (λ c. search needs) (λ c. search needs) (λ c. search needs))
+row-spec = close (spec (λ _ _ _ _ _. Unit) (λ _ _ _ _ b. 512 - b) (λ c. search needs) (λ c κs. search needs) (λ c κs. search needs)
+    (λ c. search needs) (λ c. search needs) (λ c. search needs) (λ c. search needs) (λ c. search needs))

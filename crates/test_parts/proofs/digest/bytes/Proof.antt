@@ -3,17 +3,8 @@ use mathlib.Core.Path.{_≡_}
 use Prim.Native.Nat.{_-_}
 use lib.ListN.{length}
 use borrow.Author.Needs.{needs}
-use Rattle.test_parts.proofs.digest.bytes.Statement.{statement}
-use Rattle.test_parts.proofs.digest.bytes.Tie as tie
-
-abbrev Inv-loop : tie.InvT-loop
-Inv-loop h s d₀ i₀ i-end d i = i-end ≡ length s
-
-abbrev μ-loop : tie.MeasureT-loop
-μ-loop h s d₀ i₀ i-end d i = length s - i
+use Rattle.test_parts.proofs.digest.bytes.{Statement.{statement}, Tie.{close, spec}}
 
 pub bytes-spec : {M : Type 1} → statement M
-bytes-spec =
-    tie.close (
-    tie.spec Inv-loop μ-loop (λ c. search needs) (λ c. search needs) (λ c κs. search needs) (λ c. search needs) (λ c. search needs) (λ c. search needs)
-    (λ c. search needs))
+bytes-spec = close (spec (λ _ s _ _ i-end _ _. i-end ≡ length s) (λ _ s _ _ _ _ i. length s - i) (λ c. search needs) (λ c. search needs)
+    (λ c κs. search needs) (λ c. search needs) (λ c. search needs) (λ c. search needs) (λ c. search needs))

@@ -2,13 +2,10 @@
 use mathlib.Core.Path.{sym}
 use lib.Seq.{length-take-le}
 use borrow.Author.Needs.{needs}
-use Rattle.test_scripts.proofs.site.run.Statement.{statement}
-use Rattle.test_scripts.proofs.site.run.Tie as tie
+use Rattle.test_scripts.proofs.site.run.{Statement.{statement}, Tie.{close, spec}}
 
 pub run-spec : {M : Type 1} → statement M
-run-spec =
-    tie.close (
-    tie.spec (λ c. search needs) (λ c κs. search needs) (λ c κs. search needs) (λ c. search needs) (λ c. search needs)
+run-spec = close (spec (λ c. search needs) (λ c κs. search needs) (λ c κs. search needs) (λ c. search needs) (λ c. search needs)
     (λ c. sym (length-take-le _ _ (search needs))) (λ c. search needs) (λ c. sym (length-take-le _ _ (search needs))) (λ c. search needs)
     (λ c. sym (length-take-le _ _ (search needs))) (λ c. search needs) (λ c. sym (length-take-le _ _ (search needs))) (λ c κs. search needs)
     (λ c. search needs))

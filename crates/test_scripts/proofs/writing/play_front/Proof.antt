@@ -2,9 +2,7 @@
 use mathlib.Core.Path.{sym}
 use lib.Seq.{length-take-le}
 use borrow.Author.Needs.{needs}
-use Rattle.test_scripts.proofs.writing.play_front.Statement.{statement}
-use Rattle.test_scripts.proofs.writing.play_front.Tie as tie
+use Rattle.test_scripts.proofs.writing.play_front.{Statement.{statement}, Tie.{close, spec}}
 
 pub play-front-spec : {M : Type 1} → statement M
-play-front-spec =
-    tie.close (tie.spec (λ c κs. search needs) (λ c. sym (length-take-le _ _ (search needs))) (λ c κs. search needs) (λ c. search needs))
+play-front-spec = close (spec (λ c κs. search needs) (λ c. sym (length-take-le _ _ (search needs))) (λ c κs. search needs) (λ c. search needs))

@@ -2,17 +2,8 @@
 use Prim.Native.Nat.{_-_}
 use lib.ListN.{length}
 use borrow.Author.Needs.{needs}
-use Rattle.test_site.proofs.cases.end_of.Statement.{statement}
-use Rattle.test_site.proofs.cases.end_of.Tie as tie
-
-abbrev Inv-loop : tie.InvT-loop
-Inv-loop text from i₀ i = Unit
-
-abbrev μ-loop : tie.MeasureT-loop
-μ-loop text from i₀ i = length text - i
+use Rattle.test_site.proofs.cases.end_of.{Statement.{statement}, Tie.{close, spec}}
 
 pub end-of-spec : {M : Type 1} → statement M
-end-of-spec =
-    tie.close (
-    tie.spec Inv-loop μ-loop (λ c. search needs) (λ c. search needs) (λ c κs. search needs) (λ c. search needs) (λ c. search needs) (λ c. search needs)
-    (λ c. search needs) (λ c. search needs))
+end-of-spec = close (spec (λ _ _ _ _. Unit) (λ text _ _ i. length text - i) (λ c. search needs) (λ c. search needs) (λ c κs. search needs)
+    (λ c. search needs) (λ c. search needs) (λ c. search needs) (λ c. search needs) (λ c. search needs))

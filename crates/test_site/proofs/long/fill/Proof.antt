@@ -4,17 +4,9 @@ use Prim.Native.Nat.{_-_}
 use native.Mathlib.Omega.{arith}
 use lib.ListN.{length, length-set}
 use borrow.Author.Needs.{needs}
-use Rattle.test_site.proofs.long.fill.Statement.{statement}
-use Rattle.test_site.proofs.long.fill.Tie as tie
-
-abbrev Inv-loop : tie.InvT-loop
-Inv-loop chunk₀ seed x₀ i₀ chunk x i = length chunk ≡ length chunk₀
-
-abbrev μ-loop : tie.MeasureT-loop
-μ-loop chunk₀ seed x₀ i₀ chunk x i = length chunk - i
+use Rattle.test_site.proofs.long.fill.{Statement.{statement}, Tie.{close, spec}}
 
 pub fill-spec : {M : Type 1} → statement M
-fill-spec =
-    tie.close (
-    tie.spec Inv-loop μ-loop (λ c. refl) (λ c κs. search needs) (λ c. search needs) (λ c. search needs) (λ c. omega arith)
-    (λ c. simp length-set (omega arith)) (λ c. simp length-set (omega arith)) (λ c. search needs) (λ c. search needs))
+fill-spec = close (spec (λ chunk₀ _ _ _ chunk _ _. length chunk ≡ length chunk₀) (λ _ _ _ _ chunk _ i. length chunk - i) (λ c. refl)
+    (λ c κs. search needs) (λ c. search needs) (λ c. search needs) (λ c. omega arith) (λ c. simp length-set (omega arith))
+    (λ c. simp length-set (omega arith)) (λ c. search needs) (λ c. search needs))

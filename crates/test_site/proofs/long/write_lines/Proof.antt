@@ -2,16 +2,8 @@
 use Prim.Native.Nat.{_-_, _≤_}
 use native.Mathlib.Omega.{arith}
 use borrow.Author.Needs.{needs}
-use Rattle.test_site.proofs.long.write_lines.Statement.{statement}
-use Rattle.test_site.proofs.long.write_lines.Tie as tie
-
-abbrev Inv-loop : tie.InvT-loop
-Inv-loop fd chunks i₀ i = i ≤ chunks
-
-abbrev μ-loop : tie.MeasureT-loop
-μ-loop fd chunks i₀ i = chunks - i
+use Rattle.test_site.proofs.long.write_lines.{Statement.{statement}, Tie.{close, spec}}
 
 pub write-lines-spec : {M : Type 1} → statement M
-write-lines-spec =
-    tie.close (
-    tie.spec Inv-loop μ-loop (λ c. omega arith) (λ c κs. search needs) (λ c. search needs) (λ c. omega arith) (λ c. omega arith) (λ c. search needs))
+write-lines-spec = close (spec (λ _ chunks _ i. i ≤ chunks) (λ _ chunks _ i. chunks - i) (λ c. omega arith) (λ c κs. search needs) (λ c. search needs)
+    (λ c. omega arith) (λ c. omega arith) (λ c. search needs))

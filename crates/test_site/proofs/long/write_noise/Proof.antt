@@ -2,16 +2,8 @@
 use Prim.Native.Nat.{_-_, _≤_}
 use native.Mathlib.Omega.{arith}
 use borrow.Author.Needs.{needs}
-use Rattle.test_site.proofs.long.write_noise.Statement.{statement}
-use Rattle.test_site.proofs.long.write_noise.Tie as tie
-
-abbrev Inv-loop : tie.InvT-loop
-Inv-loop fd chunks x₀ i₀ x i = i ≤ chunks
-
-abbrev μ-loop : tie.MeasureT-loop
-μ-loop fd chunks x₀ i₀ x i = chunks - i
+use Rattle.test_site.proofs.long.write_noise.{Statement.{statement}, Tie.{close, spec}}
 
 pub write-noise-spec : {M : Type 1} → statement M
-write-noise-spec =
-    tie.close (
-    tie.spec Inv-loop μ-loop (λ c. omega arith) (λ c κs. search needs) (λ c. search needs) (λ c. omega arith) (λ c. omega arith) (λ c. search needs))
+write-noise-spec = close (spec (λ _ chunks _ _ _ i. i ≤ chunks) (λ _ chunks _ _ _ i. chunks - i) (λ c. omega arith) (λ c κs. search needs)
+    (λ c. search needs) (λ c. omega arith) (λ c. omega arith) (λ c. search needs))

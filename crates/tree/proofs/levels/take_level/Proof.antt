@@ -1,70 +1,59 @@
 -- `levels::take_level` meets its contract: before radio v, the lowest of the level that the set still has, the set and the lists are right
 -- if they were so at the level's start (`Levelling`). The measure is what is left of the radios.
-use mathlib.Core.Path.{_≡_, _∙_}
-use Prim.Native.Nat.{_-_, min}
-use native.Mathlib.Omega.{arith}
-use lib.ListN.{length}
-use borrow.Author.Needs.{needs}
+use Rattle.lists.specs.{Kit.{_≡_, refl, _∙_, _-_, min, arith, length, needs}, Lists.{head-or}}
 use Rattle.mesh.specs.Limits.{max-radios}
-use Rattle.lists.specs.Lists.{head-or}
 use Rattle.rows.specs.Sets.{common}
-use Rattle.tree.specs.Trees.{lists}
-use Rattle.tree.proofs.ShellSets.{takes-none}
-use Rattle.tree.proofs.LevelLoop.{Levelling, levelling-none, levelling-to, levelling-later, levelling-next, levelling-end}
-use Rattle.tree.proofs.levels.take_level.Statement.{statement}
-use Rattle.tree.proofs.levels.take_level.Tie as tie
+use Rattle.tree.specs.Trees.{lists, stand}
+use Rattle.tree.proofs.{ShellSets.{takes-none}, LevelLoop.{Levelling, levelling-none, levelling-to, levelling-later, levelling-next, levelling-end}}
+use Rattle.tree.proofs.levels.take_level.{Statement.{statement}, Tie.{close, spec}}
 
-abbrev Inv-loop : tie.InvT-loop
-Inv-loop links numbers level shell set₀ queue₀ names₀ levels₀ parents₀ answer₀ count c₀ v₀ set queue names levels parents answer c v =
-    (v ≡ head-or max-radios (common shell set))
-    × Levelling links numbers level set₀ queue₀ (lists names₀ levels₀ parents₀ answer₀) count (min v (length numbers)) set queue (lists names levels parents answer) c
-
-abbrev μ-loop : tie.MeasureT-loop
-μ-loop links numbers level shell set₀ queue₀ names₀ levels₀ parents₀ answer₀ count c₀ v₀ set queue names levels parents answer c v =
-    length numbers - v
-
-loop-holds : tie.Need-loop-holds Inv-loop μ-loop
-loop-holds c =
+pub take-level-spec : {M : Type 1} → statement M
+take-level-spec = close (spec
+    (λ links numbers level shell set₀ queue₀ names₀ levels₀ parents₀ answer₀ count _ _ set queue names levels parents answer c v.
+    (v ≡ head-or max-radios (common shell set)) × (length queue ≡ length queue₀) × Levelling links numbers level
+    (stand set₀ (lists names₀ levels₀ parents₀ answer₀) count) (min v (length numbers)) (stand set (lists names levels parents answer) c))
+    (λ _ numbers _ _ _ _ _ _ _ _ _ _ _ _ _ _ _ _ _ _ v. length numbers - v)
+    (λ c κs.
+    let ready = c .before .before .before .before .before .before .before .before .before .before .pre in
+    (ready .own .long, ready .words))
+    (λ c. search needs)
+    (λ c.
     let start = c .before .before .before .before .before .before .before .before .before .before .before in
     let ready = start .pre in (
       c .first-common .ensures,
-      levelling-to (start .args .links .now) (start .args .numbers .now) (start .args .level) (start .args .set .now) (start .args .queue .now) _ _ 0 (c .first-common .result) _ _ _ _ (ready .positive)
-          (omega arith) (omega arith) (takes-none (start .args .links .now) _ _ (start .args .shell .now) (ready .own) _ (ready .words) (c .first-common .result) (c .first-common .ensures))
-          (levelling-none _ _ _ _ _ _ _),
-    )
-
-cast-take-node : tie.Need-cast-take-node Inv-loop μ-loop
-cast-take-node c = omega (arith, c .loop-test .taken, c .before .before .before .before .before .before .before .before .before .before .before .before .before .pre .small)
-
-take-node-requires : tie.Need-take-node-requires Inv-loop μ-loop
-take-node-requires c κs =
+      refl,
+      levelling-to (start .args .links .now) (start .args .numbers .now) _ _ (ready .positive) 0 (c .first-common .result) _ (omega arith) (omega arith)
+          (takes-none (start .args .links .now) _ _ (start .args .shell .now) (ready .own) _ (ready .words) (c .first-common .result)
+          (c .first-common .ensures))
+          (levelling-none _ _ _ _),
+    ))
+    (λ c.
+    omega (
+      arith,
+      c .loop-test .taken,
+      c .before .before .before .before .before .before .before .before .before .before
+          .before .before .before .pre .small,
+    ))
+    (λ c κs.
     let test = c .before .before .before .before .before .before in
     let at-loop = test .before in
     let ready = at-loop .before .before .before .before .before .before .before .before .before .before .before .before .pre in
-    let inv = at-loop .loop .inv .1 in (
+    let inv = at-loop .loop .inv .2 in (
       record {
         radio = omega (arith, test .loop-test .taken, ready .small);
         words = inv .set-long ∙ ready .words;
-        room = omega (arith, ready .room, inv .queue-long);
+        room = omega (arith, ready .room, at-loop .loop .inv .1);
       },
       omega (arith, test .loop-test .taken, ready .named, inv .lengths .answer),
       omega (arith, test .loop-test .taken, ready .small, ready .few, inv .few),
-    )
-
-first-common-requires : tie.Need-first-common-requires Inv-loop μ-loop
-first-common-requires c κs =
-    let ready = c .before .before .before .before .before .before .before .before .before .before .pre in
-    (ready .own .long, ready .words)
-
-first-common-requires-2 : tie.Need-first-common-requires-2 Inv-loop μ-loop
-first-common-requires-2 c κs =
+    ))
+    (λ c κs.
     let set-at = c .before .before .before .before .before .before .before .before .before .before .before .before in
     let at-loop = set-at .before .before .before .before .before .before .before .before .before in
     let ready = at-loop .before .before .before .before .before .before .before .before .before .before .before .before .pre in
-    (ready .own .long, set-at .set .given ∙ at-loop .loop .inv .1 .set-long ∙ ready .words)
-
-loop-less : tie.Need-loop-less Inv-loop μ-loop
-loop-less c =
+    (ready .own .long, set-at .set .given ∙ at-loop .loop .inv .2 .set-long ∙ ready .words))
+    (λ c. search needs)
+    (λ c.
     let visited = c .before .before .before .before .before .before .before .before .before .before .before .before .before .before in
     let test = visited .before .before .before .before .before .before .before in
     let at-loop = test .before in
@@ -73,39 +62,37 @@ loop-less c =
     omega (
       arith,
       test .loop-test .taken,
-      levelling-later (start .args .links .now) (start .args .numbers .now) (start .args .level) (start .args .shell .now) (ready .own) (start .args .set .now) (start .args .queue .now) _ _ (at-loop .loop .v) _ _ _ _
-          (ready .positive) (ready .words) (ready .small) (test .loop-test .taken) (at-loop .loop .inv .0) (at-loop .loop .inv .1) _ _ _ _ (c .before .before .before .before .before .before .before .before .before .before .before .before .before .set .given)
+      levelling-later (start .args .links .now) (start .args .numbers .now) _ _ (ready .positive) (start .args .shell .now) (ready .own) (at-loop .loop .v) _
+          (ready .words) (ready .small) (test .loop-test .taken) (at-loop .loop .inv .0) (at-loop .loop .inv .2) _ _
+          (c .before .before .before .before .before .before .before .before .before .before .before .before .before .set .given)
           (visited .take-node .ensures) (c .first-common2 .ensures),
-    )
-
-loop-again : tie.Need-loop-again Inv-loop μ-loop
-loop-again c =
+    ))
+    (λ c.
     let visited = c .before .before .before .before .before .before .before .before .before .before .before .before .before .before in
     let test = visited .before .before .before .before .before .before .before in
     let at-loop = test .before in
     let start = at-loop .before .before .before .before .before .before .before .before .before .before .before .before in
     let ready = start .pre in (
       c .first-common2 .ensures,
-      levelling-next (start .args .links .now) (start .args .numbers .now) (start .args .level) (start .args .shell .now) (ready .own) (start .args .set .now) (start .args .queue .now) _ _ (at-loop .loop .v) _ _ _ _
-          (ready .positive) (ready .words) (ready .small) (test .loop-test .taken) (at-loop .loop .inv .0) (at-loop .loop .inv .1) _ _ _ _ (c .before .before .before .before .before .before .before .before .before .before .before .before .before .set .given)
-          (visited .take-node .ensures) (c .first-common2 .ensures) _ (c .before .before .before .before .before .before .before .before .before .before .before .queue .given)
-          (record { names = c .before .before .before .before .before .before .before .before .before .names .given; levels = c .before .before .before .before .before .before .before .levels .given; parents = c .before .before .before .before .before .parents .given; answer = c .before .before .before .answer .given }),
-    )
-
-returns : tie.Need-returns Inv-loop μ-loop
-returns c =
+      c .before .before .before .before .before .before .before .before .before .before .before .queue .given ∙ at-loop .loop .inv .1,
+      levelling-next (start .args .links .now) (start .args .numbers .now) _ _ (ready .positive) (start .args .shell .now) (ready .own) (at-loop .loop .v) _
+          (ready .words) (ready .small) (test .loop-test .taken) (at-loop .loop .inv .0) (at-loop .loop .inv .2) _ _
+          (c .before .before .before .before .before .before .before .before .before .before .before .before .before .set .given)
+          (visited .take-node .ensures) (c .first-common2 .ensures)
+          (record {
+            names = c .before .before .before .before .before .before .before .before .before .names .given;
+            levels = c .before .before .before .before .before .before .before .levels .given;
+            parents = c .before .before .before .before .before .parents .given;
+            answer = c .before .before .before .answer .given;
+          }),
+    ))
+    (λ c. c .before .loop .inv .2 .set-long) (λ c. c .before .loop .inv .1) (λ c. c .before .loop .inv .2 .lengths .names)
+    (λ c. c .before .loop .inv .2 .lengths .levels) (λ c. c .before .loop .inv .2 .lengths .parents) (λ c. c .before .loop .inv .2 .lengths .answer)
+    (λ c.
     let at-loop = c .before in
     let start = at-loop .before .before .before .before .before .before .before .before .before .before .before .before in
     let ready = start .pre in (
-      omega (arith, ready .small, ready .few, at-loop .loop .inv .1 .within, at-loop .loop .inv .1 .few),
-      levelling-end (start .args .links .now) (start .args .numbers .now) (start .args .level) (start .args .set .now) _ _ _ (at-loop .loop .v) _ _ _ _ (ready .positive) (ready .words)
-          (ready .level) (c .loop-test .left) (at-loop .loop .inv .1),
-    )
-
-pub take-level-spec : {M : Type 1} → statement M
-take-level-spec =
-    tie.close (
-    tie.spec Inv-loop μ-loop first-common-requires (λ c. search needs) loop-holds cast-take-node take-node-requires first-common-requires-2
-    (λ c. search needs) loop-less loop-again (λ c. c .before .loop .inv .1 .set-long) (λ c. c .before .loop .inv .1 .queue-long)
-    (λ c. c .before .loop .inv .1 .lengths .names) (λ c. c .before .loop .inv .1 .lengths .levels) (λ c. c .before .loop .inv .1 .lengths .parents)
-    (λ c. c .before .loop .inv .1 .lengths .answer) returns)
+      omega (arith, ready .small, ready .few, at-loop .loop .inv .2 .within, at-loop .loop .inv .2 .few),
+      levelling-end (start .args .links .now) (start .args .numbers .now) _ _ (ready .positive) (at-loop .loop .v) _ (ready .words) (ready .level)
+          (c .loop-test .left) (at-loop .loop .inv .2),
+    )))

@@ -1,10 +1,6 @@
 -- `nodes::name_all` meets its contract: what is left of the list gives what all of it gives (`Folding`). The measure is what is
 -- left of the list.
-use Prim.Native.Nat.{_-_}
-use native.Mathlib.Omega.{arith}
-use lib.ListN.{take, set, length-set}
-use borrow.Author.Needs.{needs}
-use Rattle.lists.proofs.Loops.{Folding, folding-none, folding-front, folding-front-end, folding-long}
+use Rattle.lists.{specs.Kit.{_-_, arith, take, set, length-set, needs}, proofs.Loops.{Folding, folding-none, folding-front, folding-front-end, folding-long}}
 use Rattle.tree.specs.Trees.{entries-set}
 use Rattle.tree.proofs.nodes.name_all.Statement.{statement}
 use Rattle.tree.proofs.nodes.name_all.Tie as tie
@@ -15,19 +11,6 @@ Inv-loop list k x answer₀ i₀ answer i = Folding (λ w now. set now w x) (tak
 abbrev μ-loop : tie.MeasureT-loop
 μ-loop list k x answer₀ i₀ answer i = k - i
 
-cast-put16 : tie.Need-cast-put16 Inv-loop μ-loop
-cast-put16 c = omega (arith, c .shared-slice-known2 .given (c .before .before .before .loop .i))
-
-loop-again : tie.Need-loop-again Inv-loop μ-loop
-loop-again c =
-    let at-loop = c .before .before .before .before .before .before in
-    let start = at-loop .before .before .before in
-    folding-front _ (start .args .list .now) (start .args .k) (start .args .answer .now) (at-loop .loop .answer) _ (at-loop .loop .i) (start .pre)
-    (c .before .before .before .before .before .loop-test .taken) (c .before .before .put16 .ensures) (at-loop .loop .inv)
-
-same-length : tie.Need-same-length Inv-loop μ-loop
-same-length c = folding-long _ (λ w now. length-set now w _) _ _ _ _ (c .before .loop .inv)
-
 returns : tie.Need-returns Inv-loop μ-loop
 unfolding entries-set
 returns c =
@@ -36,7 +19,11 @@ returns c =
     (c .before .loop .inv)
 
 pub name-all-spec : {M : Type 1} → statement M
-name-all-spec =
-    tie.close (
-    tie.spec Inv-loop μ-loop (λ c. folding-none _ _ _) (λ c. search needs) (λ c. search needs) cast-put16 (λ c κs. search needs) (λ c. search needs)
-    (λ c. search needs) loop-again same-length returns)
+name-all-spec = tie.close (tie.spec Inv-loop μ-loop (λ c. folding-none _ _ _) (λ c. search needs) (λ c. search needs)
+    (λ c. omega (arith, c .shared-slice-known2 .given (c .before .before .before .loop .i))) (λ c κs. search needs) (λ c. search needs) (λ c. search needs)
+    (λ c.
+    let at-loop = c .before .before .before .before .before .before in
+    let start = at-loop .before .before .before in
+    folding-front _ (start .args .list .now) (start .args .k) (start .args .answer .now) (at-loop .loop .answer) _ (at-loop .loop .i) (start .pre)
+    (c .before .before .before .before .before .loop-test .taken) (c .before .before .put16 .ensures) (at-loop .loop .inv))
+    (λ c. folding-long _ (λ w now. length-set now w _) _ _ _ _ (c .before .loop .inv)) returns)
