@@ -8,6 +8,7 @@ Expected values come from `reference`, which is written from document 01 alone.
 Seeds are fixed: the same file comes out each time.
 """
 
+import re
 import sys
 from pathlib import Path
 
@@ -174,10 +175,10 @@ HEAD = """-- Link histories from cleared sites, with every answer and what they 
 -- whose expected values come from document 01 alone, by all sets of radios; not to be changed by hand.
 INDEX--   histories       all of them, TOTAL rows
 -- That every row is right is `histories-right` in proofs/Histories.antt. Definitions only.
-use mathlib.Core.Bool.{true, false}
-use mathlib.Core.List.{List, [], _∷_, _++_}
+use Rattle.lists.specs.Kit.{true, false, List, [], _∷_, _++_}
 use Rattle.mesh.specs.Tree.{root-name, node, root}
-use Rattle.calls.specs.Worked.{Row, row, up, down, risen, fallen, unchanged, refused, last-answers, all-numbers, whole-order, shell-tree, connected-core, backbone-radios, image-checks, printed, put, soundness, image-reading}
+use Rattle.calls.specs.Worked.{Row, row, up, down, risen, fallen, unchanged, refused, last-answers, all-numbers, whole-order, shell-tree, connected-core}
+use Rattle.calls.specs.Worked.{backbone-radios, image-checks, printed, put, soundness, image-reading}
 """
 
 
@@ -191,9 +192,14 @@ def text():
             out += row_text(what, n, calls, "∷ " if i else "", wanted)
         out += "    ∷ []\n"
     names = [name for name, _, _, _ in GROUPS]
-    joined = " ++ (".join(names[:-1]) + " ++ " + names[-1] + ")" * (len(names) - 2)
+    joined = " ++ (".join(names[:4]) + " ++\n    (" + " ++ (".join(names[4:-1]) + " ++ " + names[-1] + ")" * (len(names) - 2)
     out += f"\nunfoldable pub histories : List Row\nhistories = {joined}\n"
-    return out
+    return "\n".join(map(narrow, out.split("\n")))
+
+
+def narrow(line):
+    """A line that passes 160 columns has its last word on a line of its own."""
+    return re.sub(r" (\[\]\)|\()$", r"\n    \1", line) if len(line) > 160 else line
 
 
 def main(words):
