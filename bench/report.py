@@ -2,7 +2,7 @@
 
   python3 bench/report.py [FILE]           print the tables of a run, by default that of bench/results.txt, single ratios too
   python3 bench/report.py FILE --write     and keep the run as bench/results.txt, put the tables without single ratios into docs/BENCHMARKS.md,
-                                           a summary into README.md, the plot into docs/benchmarks.svg
+                                           a summary into README.md, costs by call into docs/USING.md, the plot into docs/benchmarks.svg
   python3 bench/report.py --check          say where these are not those of bench/results.txt
 """
 
@@ -184,9 +184,47 @@ def summary(run):
     return textwrap.fill(" ".join(said), 132) + "\n"
 
 
+def micro(time):
+    return f"{time:.2f}" if time < 0.05 else f"{time:.1f}" if time < 1 else f"{time:,.0f}"
+
+
+def costs(run):
+    """A table for docs/USING.md: of each call the time on sparse sites of 16 and of 512 radios, on the worst kind of 512, and the stack."""
+    def cost(title, *calls, parts=1):
+        small, large = (max(run.engine(call, n, "sparse") for call in calls) / parts for n in (16, 512))
+        most = max(run.engine(call, 512, site) for call in calls for site in run.sites) / parts
+        return [title, micro(small), micro(large), micro(most), f"{max(run.stack[call] for call in calls):,}"]
+
+    def single(title, call):
+        most = max(run.change_by(site, "engine") for site in run.change)
+        return [title, *(micro(run.engine("down+up", n, "sparse") / 2) for n in (16, 512)), micro(most), f"{run.stack[call]:,}"]
+
+    def removed(n, site):
+        return run.engine("remove+set", n, site) - run.engine("mark_set", n, site)
+
+    heard = {site: call for site, (_, call, _) in run.heard.items()}
+    return table(["call", "16 radios, sparse", "512, sparse", "512, worst", "stack, bytes"], [
+        cost("clear", "clear"),
+        cost("check, number, neighbours, linked, first, later_of", "check", "number", "neighbours", "linked", "first", "later_of"),
+        single("link_up, link_down, the mean of both", "new"),
+        single("ask_up, ask_down, likewise", "ask+link"),
+        single("commit_up, commit_down, likewise", "ask+commit"),
+        cost("link_batch, of up to 100 links, with a clear", "batch"),
+        cost("hear, 100 links down or up", "hear", parts=2),
+        ["hear, all links of the site down and others up", "", f"{heard['sparse']:,}", f"{max(heard.values()):,}", f"{run.stack['hear']:,}"],
+        *(cost(call, call) for call in ("core", "backbone", "tree", "staircase", "sheet")),
+        cost("script_length, script_write", "script_write"),
+        cost("image_write", "image_write"),
+        cost("image_read", "image_read", "image_other"),
+        cost("image_block", "image_block"),
+        cost("mark_set, mark_return, in a full store", "mark_set", "mark_return"),
+        ["mark_remove, in a full store", micro(removed(16, "sparse")), micro(removed(512, "sparse")),
+         micro(max(removed(512, site) for site in run.sites)), f"{run.stack['remove+set']:,}"]])
+
+
 def pages(run):
     """Each file that a run is put into, with the text that it has then."""
-    for page, text in (TOP / "docs/BENCHMARKS.md", report(run)), (TOP / "README.md", summary(run)):
+    for page, text in (TOP / "docs/BENCHMARKS.md", report(run)), (TOP / "README.md", summary(run)), (TOP / "docs/USING.md", costs(run)):
         before, rest = page.read_text().split(START)
         yield page, before + START + "\n" + text + "\n" + END + rest.split(END, 1)[1]
     yield PLOT, plot(run)
