@@ -6,6 +6,7 @@ use Rattle.lists.proofs.{Tests.{and_left, and_right, and_both, never, bool_cases
 
 pub all_in : (f : ℕ → Bool) (xs : List ℕ) → all f xs ≡ true → (v : ℕ) → In v xs → f v ≡ true
 unfolding all
+all_in f [] h v x'' = elim x'' [ ]
 all_in f (x ∷ xs) h v (inl e) = rw (← e) (and_left (f x) (all f xs) h)
 all_in f (x ∷ xs) h v (inr m) = all_in f xs (and_right (f x) (all f xs) h) v m
 

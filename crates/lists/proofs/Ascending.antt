@@ -34,6 +34,7 @@ rising_cong num new (x ∷ xs) h r =
 
 pub head_or_lowest : (d v : ℕ) (xs : List ℕ) → Ascending xs → In v xs → head_or d xs ≤ v
 unfolding head_or
+head_or_lowest d v [] a x'' = elim x'' [ ]
 head_or_lowest d v (x ∷ xs) a (inl e) = omega arith
 head_or_lowest d v (x ∷ xs) a (inr m) = omega (arith, a.0 v m)
 
@@ -46,6 +47,7 @@ ascending_below_one n v l =
     (in_member v (v ∷ []) (inl refl)) (λ w p. only w (member_in w (v ∷ []) p)))
   where
     only : (w : ℕ) → In w (v ∷ []) → w ≡ v
+    only w (inr x') = elim x' [ ]
     only w (inl e) = sym e
 
 pub ascending_below_distinct : (n : ℕ) (xs : List ℕ) → AscendingBelow n xs → Distinct xs
@@ -89,6 +91,7 @@ rising_index num i (x ∷ xs) h = (
     later w j l e = omega (arith, h 0 (omega arith), h (suc j) (omega arith), ap num e)
 
 pub rising_before : (num : ℕ → ℕ) (x : ℕ) (ps qs : List ℕ) → Rising num (ps ++ x ∷ qs) → (w : ℕ) → In w ps → num w ≤ num x
+rising_before num x [] qs h w x3 = elim x3 [ ]
 rising_before num x (p ∷ ps) qs h w (inl e) = rw (← e) (h.0 x (after ps))
   where
     after : (zs : List ℕ) → In x (zs ++ x ∷ qs)

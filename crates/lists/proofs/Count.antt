@@ -14,6 +14,7 @@ pub count_less :
     (f g : ℕ → Bool) (b : ℕ) (xs : List ℕ) → In b xs → f b ≡ false → g b ≡ true → ((x : ℕ) → In x xs → f x ≡ true → g x ≡ true) →
     count f xs < count g xs
 unfolding count
+count_less f g b [] x4 h k sub = elim x4 [ ]
 count_less f g b (x ∷ xs) (inl e) h k sub =
     omega (arith, bit_false (f x) (ap f e ∙ h), bit_true (g x) (ap g e ∙ k), count_mono f g xs (λ y m. sub y (inr m)))
 count_less f g b (x ∷ xs) (inr i) h k sub =
@@ -72,6 +73,7 @@ count_both f g (x ∷ xs) = rw (and_comm (f x) (g x), count_both f g xs)
 
 pub count_pos : (f : ℕ → Bool) (v : ℕ) (xs : List ℕ) → In v xs → f v ≡ true → 1 ≤ count f xs
 unfolding count
+count_pos f v [] x'' h = elim x'' [ ]
 count_pos f v (x ∷ xs) (inl e) h = omega (arith, bit_true (f x) (rw e h))
 count_pos f v (x ∷ xs) (inr m) h = omega (arith, count_pos f v xs m h)
 

@@ -11,6 +11,7 @@ distinct_end (x ∷ xs) b d h = (λ m. other (in_cases x xs (b ∷ []) m), disti
   where
     other : In x xs ⊎ In x (b ∷ []) → ⊥
     other (inl m) = d.0 m
+    other (inr (inr x5)) = elim x5 [ ]
     other (inr (inl e)) = h (inl (sym e))
 
 -- a list whose entries tell their own places has no repeats
@@ -83,6 +84,7 @@ distinct_right [] ys d = d
 distinct_right (x ∷ xs) ys d = distinct_right xs ys d.1
 
 pub distinct_apart : (xs ys : List ℕ) → Distinct (xs ++ ys) → (v : ℕ) → In v xs → In v ys → ⊥
+distinct_apart [] ys d v x3 m = elim x3 [ ]
 distinct_apart (x ∷ xs) ys d v (inl e) m = d.0 (in_right x xs ys (rw (← e) at m))
 distinct_apart (x ∷ xs) ys d v (inr p) m = distinct_apart xs ys d.1 v p m
 

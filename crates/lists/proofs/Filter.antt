@@ -3,6 +3,7 @@ use Rattle.lists.specs.Kit.{◌≡◌, sym, ap, ◌∙◌, refl, ◌⊎◌, inl,
 use Rattle.lists.specs.Kit.{arith, length, ⊎_elim}
 use Rattle.lists.specs.{Lists.{filter, In, member, count, range}, Facts.{Distinct}}
 use Rattle.lists.proofs.{Tests.{bool_cases, never}, Member.{in_member, not_member}, Range.{range_in, range_append}, Count.{count_le_length}}
+use Rattle.lists.specs.Kit.{subst}
 
 pub filter_none : (f : ℕ → Bool) (xs : List ℕ) → ((v : ℕ) → In v xs → f v ≡ false) → filter f xs ≡ []
 unfolding filter
@@ -12,6 +13,7 @@ filter_none f (x ∷ xs) h = rw (h x (inl refl)) (filter_none f xs (λ v m. h v 
 -- the one entry that passes the test
 pub filter_one : (f : ℕ → Bool) (v : ℕ) (xs : List ℕ) → Distinct xs → In v xs → f v ≡ true → ((w : ℕ) → f w ≡ true → w ≡ v) → filter f xs ≡ v ∷ []
 unfolding filter
+filter_one f v [] d x4 h u = elim x4 [ ]
 filter_one f v (x ∷ xs) d (inl e) h u =
     rw (e, h) (ap {B = List ℕ} (λ ys. v ∷ ys) (filter_none f xs (λ w m. other w m (bool_cases (f w)))))
   where
@@ -19,7 +21,7 @@ filter_one f v (x ∷ xs) d (inl e) h u =
     other w m (inl p) = absurd (d.0 (rw (u w p ∙ sym e) at m))
     other w m (inr p) = p
 filter_one f v (x ∷ xs) d (inr m) h u = let rec = filter_one f v xs d.1 m h u in
-    ⊎_elim (λ p. absurd (d.0 (rw (sym (u x p)) at m))) (λ p. rw p rec) (bool_cases (f x))
+    ⊎_elim (λ p. absurd (d.0 (subst (λ (y : ℕ). In y xs) (sym (u x p)) m))) (λ p. rw p rec) (bool_cases (f x))
 
 pub in_filter : (f : ℕ → Bool) (xs : List ℕ) (v : ℕ) → In v (filter f xs) → In v xs × (f v ≡ true)
 unfolding filter

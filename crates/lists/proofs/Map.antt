@@ -24,6 +24,7 @@ mem_map f x [] m = absurd (List·Memᴰ·not-nil m)
 mem_map f x (y ∷ ys) m = let rec = mem_map f x ys in ⊎_elim (λ e. (y, inl refl, e)) (λ n. let r = rec n in (r.0, inr r.1, r.2)) (List·Memᴰ·cases-cons m)
 
 pub map_mem : {A : Type 0} (f : ℕ → A) (x : A) (v : ℕ) (xs : List ℕ) → In v xs → x ≡ f v → ListAsMemᴰ x (map f xs)
+map_mem {A = A} f x v [] x3 e = elim x3 [ ]
 map_mem f x v (y ∷ ys) (inl q) e = List·Memᴰ·head (e ∙ ap f (sym q))
 map_mem f x v (y ∷ ys) (inr m) e = List·Memᴰ·tail (map_mem f x v ys m e)
 
@@ -35,6 +36,7 @@ mem_flat_map f x (k ∷ ks) m = let rec = mem_flat_map f x ks in
 
 pub flat_map_mem : {A : Type 0} (f : ℕ → List A) (x : A) (k : ℕ) (ks : List ℕ) → In k ks → ListAsMemᴰ x (f k) → ListAsMemᴰ x (flat_map f ks)
 unfolding flat_map
+flat_map_mem {A = A} f x k [] x3 m = elim x3 [ ]
 flat_map_mem f x k (j ∷ js) (inl e) m = Memᴰ·append-left (flat_map f js) (rw (← e) at m)
 flat_map_mem f x k (j ∷ js) (inr i) m = Memᴰ·append-right (f j) (flat_map_mem f x k js i m)
 
@@ -47,6 +49,7 @@ tail_eq x y xs ys e = ap (drop 1) e
 
 -- numbers that agree along a list agree at each of its radios
 pub map_eq_in : (f h : ℕ → ℕ) (xs : List ℕ) → map f xs ≡ map h xs → (v : ℕ) → In v xs → f v ≡ h v
+map_eq_in f h [] e v x'' = elim x'' [ ]
 map_eq_in f h (x ∷ xs) e v (inl q) = rw (← q) (head_eq (f x) (h x) (map f xs) (map h xs) e)
 map_eq_in f h (x ∷ xs) e v (inr m) = map_eq_in f h xs (tail_eq (f x) (h x) (map f xs) (map h xs) e) v m
 

@@ -27,13 +27,16 @@ head_or_below d (x ∷ xs) l = inl refl
 
 pub head_or_in : (d v : ℕ) (xs : List ℕ) → In v xs → In (head_or d xs) xs
 unfolding head_or
+head_or_in d v [] m = elim m [ ]
 head_or_in d v (x ∷ xs) m = inl refl
 
 pub head_or_any : (c d v : ℕ) (xs : List ℕ) → In v xs → head_or c xs ≡ head_or d xs
 unfolding head_or
+head_or_any c d v [] m = elim m [ ]
 head_or_any c d v (x ∷ xs) m = refl
 
 pub in_left : (v : ℕ) (xs ys : List ℕ) → In v xs → In v (xs ++ ys)
+in_left v [] ys x' = elim x' [ ]
 in_left v (x ∷ xs) ys (inl e) = inl e
 in_left v (x ∷ xs) ys (inr m) = inr (in_left v xs ys m)
 
@@ -57,6 +60,7 @@ member_in v (x ∷ xs) h = go (member_in v xs) (eqb x v) refl h
 
 pub in_member : (v : ℕ) (xs : List ℕ) → In v xs → member v xs ≡ true
 unfolding member
+in_member v [] x' = elim x' [ ]
 in_member v (x ∷ xs) (inl e) = rw (eq-eqb x v e)
 in_member v (x ∷ xs) (inr m) = rw (in_member v xs m) (or-true (eqb x v))
 
@@ -65,6 +69,7 @@ not_member v xs h = ⊎_elim (λ e. absurd (h (member_in v xs e))) (λ e. e) (bo
 
 -- an entry, with what stands before and after it
 pub split_in : (v : ℕ) (xs : List ℕ) → In v xs → (ps : List ℕ) × (qs : List ℕ) × (xs ≡ ps ++ v ∷ qs)
+split_in v [] x' = elim x' [ ]
 split_in v (x ∷ xs) (inl e) = ([], xs, ap {B = List ℕ} (λ y. y ∷ xs) e)
 split_in v (x ∷ xs) (inr m) =
     let r = split_in v xs m in (x ∷ r.0, r.1, ap {B = List ℕ} (λ ys. x ∷ ys) r.2)
@@ -78,5 +83,6 @@ in_drop y x ps qs ne m = go (in_cases y ps (x ∷ qs) m)
     go (inr (inr b)) = in_right y ps qs b
 
 pub get_d_of_in : (v : ℕ) (xs : List ℕ) → In v xs → (i : ℕ) × (i < length xs) × (get_or xs i 0 ≡ v)
+get_d_of_in v [] x' = elim x' [ ]
 get_d_of_in v (x ∷ xs) (inl e) = (0, omega arith, e)
 get_d_of_in v (x ∷ xs) (inr m) = let r = get_d_of_in v xs m in (suc r.0, omega (arith, r.1), r.2)

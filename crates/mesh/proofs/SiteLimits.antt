@@ -2,9 +2,9 @@
 -- contract, the number of specs/Limits.antt, and each contract is met.
 use Rattle.lists.specs.Kit.{◌≡◌, refl}
 use seplogic.Ra.Ura.{Ura}
-use prog.Wp.{Heap}
+use types.Logic.{Logic}
+use contract.Monad.{fact}
 use Rattle.mesh.specs.Limits.{max_radios, max_neighbours, row_bytes}
-use contract.Notation
 use Rattle.mesh.specs.contracts.Site.radio_limit as radio_limit
 use Rattle.mesh.proofs.Site.radio_limit.Met as radio_limit_proof
 use Rattle.mesh.proofs.Site.radio_limit.Statement as radio_limit_statement
@@ -15,20 +15,16 @@ use Rattle.mesh.specs.contracts.Site.row_length as row_length
 use Rattle.mesh.proofs.Site.row_length.Met as row_length_proof
 use Rattle.mesh.proofs.Site.row_length.Statement as row_length_statement
 
-module _ {M : Type 1} (𝓤 : Ura M) (H : Heap 𝓤) where
-  abbrev 𝓛 : Notation.Connectives 𝓤
-  𝓛 = Notation.connectives 𝓤
+module _ {M : Type 1} {𝓤 : Ura M} (𝓛 : Logic 𝓤) where
 
-  open 𝓛 use {⌜◌⌝}
+  pub radios_say : (κs : _) (A : _) (run : _) (r : _) → radio_limit.ensures-1 𝓛 κs A run r ≡ fact 𝓤 (r ≡ max_radios)
+  radios_say κs A run r = refl
 
-  pub radios_say : (κs : _) (A : _) (mem : _) (run : _) (r : _) → radio_limit.ensures-1 𝓤 H κs A mem run r ≡ ⌜ r ≡ max_radios ⌝
-  radios_say κs A mem run r = refl
+  pub neighbours_say : (κs : _) (A : _) (run : _) (r : _) → neighbour_limit.ensures-1 𝓛 κs A run r ≡ fact 𝓤 (r ≡ max_neighbours)
+  neighbours_say κs A run r = refl
 
-  pub neighbours_say : (κs : _) (A : _) (mem : _) (run : _) (r : _) → neighbour_limit.ensures-1 𝓤 H κs A mem run r ≡ ⌜ r ≡ max_neighbours ⌝
-  neighbours_say κs A mem run r = refl
-
-  pub rows_say : (κs : _) (A : _) (mem : _) (run : _) (r : _) → row_length.ensures-1 𝓤 H κs A mem run r ≡ ⌜ r ≡ row_bytes ⌝
-  rows_say κs A mem run r = refl
+  pub rows_say : (κs : _) (A : _) (run : _) (r : _) → row_length.ensures-1 𝓛 κs A run r ≡ fact 𝓤 (r ≡ row_bytes)
+  rows_say κs A run r = refl
 
 -- all three contracts are met
 pub record LimitsMet (M : Type 1) : Type 2 where

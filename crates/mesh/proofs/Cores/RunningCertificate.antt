@@ -20,6 +20,7 @@ module _ (f : ℕ → ℕ → Bool) (num : ℕ → ℕ) where
       (here, tail_eq (num x) top (map num xs) (running_maxima f top xs) e ∙ ap (λ (k : ℕ). running_maxima f k xs) (sym here))
 
   running_above : (m : ℕ) (xs : List ℕ) → map num xs ≡ running_maxima f m xs → (v : ℕ) → In v xs → m ≤ num v
+  running_above m [] e v x'' = elim x'' [ ]
   running_above m (x ∷ xs) e v (inl q) = rw (← q) (omega (arith, (running_cons m x xs e).0))
   running_above m (x ∷ xs) e v (inr i) =
       let r = running_cons m x xs e in omega (arith, r.0, running_above (num x) xs r.1 v i)

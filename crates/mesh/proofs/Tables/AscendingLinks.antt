@@ -9,6 +9,7 @@ use Rattle.mesh.proofs.GraphLaws.{Ends, ends_of, of_ends, joins, joins_link, lin
 -- ---- membership of links
 
 pub in_links_left : (m : Link) (ls ms : List Link) → InLinks m ls → InLinks m (ls ++ ms)
+in_links_left m [] ms x' = elim x' [ ]
 in_links_left m (l ∷ ls) ms (inl e) = inl e
 in_links_left m (l ∷ ls) ms (inr i) = inr (in_links_left m ls ms i)
 
@@ -22,6 +23,7 @@ in_links_cases m (l ∷ ls) ms (inl e) = inl (inl e)
 in_links_cases m (l ∷ ls) ms (inr i) = ⊎_elim (λ a. inl (inr a)) (λ b. inr b) (in_links_cases m ls ms i)
 
 pub in_links_proper : (n : ℕ) (ls : List Link) (m : Link) → Proper n ls → InLinks m ls → (m.low < m.high) × (m.high < n)
+in_links_proper n [] m p x'' = elim x'' [ ]
 in_links_proper n (l ∷ ls) m p (inl e) =
     let a : l.low ≡ m.low = ap (λ (x : Link). x.low) e in
     let b : l.high ≡ m.high = ap (λ (x : Link). x.high) e in (omega (arith, p.0), omega (arith, p.1))
@@ -152,6 +154,7 @@ link_of l v w h (inl e) = link_eq l (record { low = v; high = w }) (sym e.0) (sy
 link_of l v w h (inr e) = link_eq l (record { low = w; high = v }) (sym e.1) (sym e.0) ∙ sym (link_more v w (omega (arith, e.0, e.1)))
 
 pub in_linked : (ls : List Link) (v w : ℕ) → InLinks (link v w) ls → linked_by ls v w ≡ true
+in_linked [] v w i = elim i [ ]
 in_linked (l ∷ ls) v w i = linked_by_cons l ls v w ∙ go (in_linked ls v w) i
   where
     go : (InLinks (link v w) ls → linked_by ls v w ≡ true) → InLinks (link v w) (l ∷ ls) → (joins l v w || linked_by ls v w) ≡ true

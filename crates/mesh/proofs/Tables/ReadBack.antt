@@ -16,6 +16,7 @@ use Rattle.mesh.proofs.Tables.AscendingLinks.{Sorted, sorted_of, of_sorted, sort
 
 flat_map_in : (f : ℕ → List Link) (xs : List ℕ) (a : ℕ) (m : Link) → In a xs → InLinks m (f a) → InLinks m (flat_map f xs)
 unfolding flat_map
+flat_map_in f [] a m x'' k = elim x'' [ ]
 flat_map_in f (x ∷ xs) a m (inl e) k = in_links_left m (f x) (flat_map f xs) (rw e k)
 flat_map_in f (x ∷ xs) a m (inr i) k = in_links_right m (f x) (flat_map f xs) (flat_map_in f xs a m i k)
 
@@ -30,10 +31,12 @@ abbrev links_to : (a : ℕ) → List ℕ → List Link
 links_to a xs = map (λ b. record { low = a; high = b }) xs
 
 links_to_in : (a b : ℕ) (xs : List ℕ) → In b xs → InLinks (record { low = a; high = b }) (links_to a xs)
+links_to_in a b [] x' = elim x' [ ]
 links_to_in a b (x ∷ xs) (inl e) = inl (ap {B = Link} (λ y. record { low = a; high = y }) e)
 links_to_in a b (x ∷ xs) (inr i) = inr (links_to_in a b xs i)
 
 in_links_to : (a : ℕ) (xs : List ℕ) (m : Link) → InLinks m (links_to a xs) → (m.low ≡ a) × In m.high xs
+in_links_to a [] m x' = elim x' [ ]
 in_links_to a (x ∷ xs) m (inl e) = (sym (ap (λ (l : Link). l.low) e), inl (ap (λ (l : Link). l.high) e))
 in_links_to a (x ∷ xs) m (inr i) = let r = in_links_to a xs m i in (r.0, inr r.1)
 

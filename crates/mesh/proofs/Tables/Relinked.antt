@@ -14,6 +14,7 @@ use Rattle.mesh.proofs.{Tables.AscendingLinks.{linked_in}}
 
 in_with : (l : Link) (ls : List Link) (x : Link) → InLinks x (with_link l ls) → (l ≡ x) ⊎ InLinks x ls
 unfolding with_link
+in_with l [] x (inr x4) = elim x4 [ ]
 in_with l [] x (inl e) = inl e
 in_with l (m ∷ ms) x i = go (in_with l ms x) (link_before l m) i
   where
@@ -47,6 +48,7 @@ sorted_with l (m ∷ ms) s ne = go (sorted_with l ms s.1 (λ i. ne (inr i))) (li
 
 in_without : (l : Link) (ls : List Link) (x : Link) → InLinks x (without_link l ls) → InLinks x ls
 unfolding without_link
+in_without l [] x i = elim i [ ]
 in_without l (m ∷ ms) x i = go (in_without l ms x) (same_link m l) i
   where
     go : (InLinks x (without_link l ms) → InLinks x ms) → (t : Bool) → InLinks x (cond t ms (m ∷ without_link l ms)) → InLinks x (m ∷ ms)
@@ -71,6 +73,7 @@ eq_same_link l m e = and_both (eqb l.low m.low) (eqb l.high m.high)
 -- in a sorted list a link stands once
 not_in_without : (l : Link) (ls : List Link) → Sorted ls → InLinks l (without_link l ls) → ⊥
 unfolding without_link
+not_in_without l [] s i = elim i [ ]
 not_in_without l (m ∷ ms) s i = go (not_in_without l ms s.1) (same_link m l) refl i
   where
     go : (InLinks l (without_link l ms) → ⊥) → (t : Bool) → same_link m l ≡ t → InLinks l (cond t ms (m ∷ without_link l ms)) → ⊥

@@ -43,6 +43,7 @@ greatest_le (x ∷ xs) m h = omega (arith, h 0 (omega arith), greatest_le xs m (
 -- the same of numbers by radio
 pub number_le_greatest : (f : ℕ → ℕ) (xs : List ℕ) (w : ℕ) → In w xs → f w ≤ greatest (map f xs)
 unfolding greatest
+number_le_greatest f [] w x' = elim x' [ ]
 number_le_greatest f (x ∷ xs) w (inl e) = omega (arith, ap f e)
 number_le_greatest f (x ∷ xs) w (inr m) = omega (arith, number_le_greatest f xs w m)
 

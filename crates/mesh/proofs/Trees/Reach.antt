@@ -161,6 +161,7 @@ module _ (g : Graph) (over : ℕ → Bool) where
       )
     where
       start : (x : ℕ) → In x (v ∷ []) → Reachable g over v x
+      start x (inr x'') = elim x'' [ ]
       start x (inl e) = rw (← e) here
 
 -- ---- connected cores
