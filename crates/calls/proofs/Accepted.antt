@@ -1,18 +1,19 @@
 -- Property 2, of the outcomes: what a caller has after an accepted call. The definitions are in specs/Results.antt.
---   check-right          the check answers 1 exactly for proper rows, core numbers and a k-order
---   link-right           numbers and order are right after a link call, for the graph in the new links table
---   ask-right            asking lists exactly the radios whose core number would differ
---   commit-right         numbers and order are right after a committing
---   number-right         the number answered is the core number by the largest group
---   later-right          the later neighbours are counted, and the first is the first
---   core-right, backbone-right   the radios listed are exactly the connected core, the backbone
+--   check_right          the check answers 1 exactly for proper rows, core numbers and a k-order
+--   link_right           numbers and order are right after a link call, for the graph in the new links table
+--   ask_right            asking lists exactly the radios whose core number would differ
+--   commit_right         numbers and order are right after a committing
+--   number_right         the number answered is the core number by the largest group
+--   later_right          the later neighbours are counted, and the first is the first
+--   core_right, backbone_right   the radios listed are exactly the connected core, the backbone
 --   tree_right_listed    the nodes are the shell tree, and each radio has its node's name
---   sheet-right          the page is the sheet, column by column, with each radio's core number
---   write-right          the bytes written are the image of the tables, and of sound tables
+--   sheet_right          the page is the sheet, column by column, with each radio's core number
+--   write_right          the bytes written are the image of the tables, and of sound tables
 --   read_right           the tables of an accepted image are sound, and written again they give the same bytes
 --   read_what_was_written   sound tables, written and read, are the same tables
---   block-right          what a step of the block reader gives
-use Rattle.lists.{specs.Kit.{◌≡◌, refl, sym, ap, subst, ◌∙◌, ◌⊎◌, inl, inr, ◌↔◌, Bool, true, false, not, cond, List, ℕ, ◌/◌, ◌<◌, arith, ltb, eqb, ℤ, length}}
+--   block_right          what a step of the block reader gives
+use Rattle.std.specs.Prelude.{◌≡◌, ◌⊎◌, ◌↔◌, ◌/◌, ◌<◌}
+use Rattle.lists.{specs.Kit.{refl, sym, ap, subst, ◌∙◌, inl, inr, Bool, true, false, not, cond, List, ℕ, arith, ltb, eqb, ℤ, length}}
 use Rattle.lists.{specs.Kit.{get_or, take, drop, List·getD-append, ext_get_or, ltb-true, ltb-false, eq-eqb, ne_eqb, not-true}, specs.Lists.{range, filter, member}}
 use Rattle.lists.{specs.Lists.{overwrite, In, Ascending, EntriesBelow}, proofs.Tests.{never}, proofs.Map.{length-map, get_d_map_range}}
 use Rattle.lists.{proofs.Filter.{member_filter}, proofs.Range.{length_range, in_range, once_below}, proofs.Overwrite.{take_overwrite, drop_overwrite}}
@@ -20,7 +21,7 @@ use Rattle.mesh.{specs.Limits.{max_neighbours}, specs.Graph.{Graph, linked, radi
 use Rattle.mesh.{specs.Orders.{is_k_order, nobody}, specs.Levels.{changed}, specs.Tables.{Tables, graph_in, tables_of, TablesOfSize}, specs.Sound.{sound}}
 use Rattle.mesh.{specs.Connected.{InCore, InBackbone, core_of, backbone}, specs.Tree.{tree, node_name, node_names}, specs.Image.{block_bytes, image_of}}
 use Rattle.mesh.{specs.Image.{image_graph, image_order}}
-use Rattle.mesh.{specs.Image.{is_image, payload_at}, specs.declared.Node.{Node}, proofs.Cores.Peeling.{number_core, number_unique, length_numbers}}
+use Rattle.mesh.{specs.Image.{payload_at}, specs.declared.Node.{Node}, proofs.Cores.Peeling.{number_core, number_unique, length_numbers}}
 use Rattle.mesh.{proofs.Cores.Peeling.{get_d_numbers}, proofs.Cores.KOrders.{k_order_certificate}, proofs.Cores.Later.{first_is_first, nobody_none}}
 use Rattle.mesh.{proofs.Tables.ReadBack.{graph_in_links_table}, proofs.Tables.Soundness.{sound_iff, valid_sound}, proofs.Tables.Sites.{image_valid}}
 use Rattle.mesh.{proofs.Trees.Reach.{core_of_iff}, proofs.Trees.Unique.{tree_iff, node_name_iff}, proofs.Trees.Listed.{changed_ascending, core_ascending}}
@@ -38,7 +39,6 @@ use Rattle.calls.proofs.{ContractLaws.{asking_is, accepted_is, by_zero}, ChainLa
 use Rattle.calls.proofs.{ChainLaws.{write_zero, read_zero, read_yes, sheet_zero}, SheetLaws.{sheet_fits, length_sheet, columns_front, columns_by}}
 use Rattle.calls.specs.Chains.{core_refusal, backbone_refusal, write_refusal, sheet_refusal}
 use Rattle.calls.specs.declared.Reply.{Reply}
-use Rattle.calls.specs.Chains.{link_refusal}
 
 -- ---- a list in front of a lent list
 

@@ -1,5 +1,6 @@
 -- Worked batches, computed from the definitions, on four radios without links.
-use Rattle.lists.specs.{Kit.{◌≡◌, refl, true, false, List, [], ◌∷◌, ℕ}, Lists.{range, count, member}}
+use Rattle.std.specs.Prelude.{◌≡◌, ◌∷◌}
+use Rattle.lists.specs.{Kit.{refl, true, false, List, [], ℕ}, Lists.{range, count, member}}
 use Rattle.mesh.specs.Graph.{radios, other_ends, linked, neighbours_among, degree, link, link_before, with_link, new_links}
 use Rattle.calls.specs.{Questions.{ask, is_radio, are_radios, ends_differ, can_switch, has_room, ends_refusal}, Switches.{switch}, Batches.{list_length}}
 use Rattle.calls.specs.{Batches.{batch_switches, batch_stop}}

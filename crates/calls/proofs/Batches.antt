@@ -1,12 +1,13 @@
 -- What a batch comes to.
---   batch-allowed     questions 4 to 7 of each link that it takes up got yes, in turn
+--   batch_allowed     questions 4 to 7 of each link that it takes up got yes, in turn
 --   BatchLeft        what is left of a batch gives what the whole gives: for the loop that takes the links up one by one
---   batch-first, batch-next, batch-ended, batch-halted   so it is before the first link, after a link, at the end, at a refusal
+--   batch_first, batch_next, batch_ended, batch_halted   so it is before the first link, after a link, at the end, at a refusal
 --   batch-stopped     a batch that stops: the links before are up, and its number is that of the next one
---   batch-all         a batch that does not stop takes every link up
---   batch-single      a batch of one link is the single call
---   batch-right       numbers are core numbers and the order is a k-order of what the links done make of the site
-use Rattle.lists.specs.Kit.{◌≡◌, refl, sym, ap, subst, ◌∙◌, ◌⊎◌, inl, inr, Bool, true, false, cond, List, [], ◌∷◌, ℕ, zero, suc, ◌+◌, ◌*◌, ◌≤◌, ◌<◌, ◌%◌, arith}
+--   batch_all         a batch that does not stop takes every link up
+--   batch_single      a batch of one link is the single call
+--   batch_right       numbers are core numbers and the order is a k-order of what the links done make of the site
+use Rattle.std.specs.Prelude.{◌≡◌, ◌⊎◌, ◌∷◌, ◌+◌, ◌*◌, ◌≤◌, ◌<◌, ◌%◌}
+use Rattle.lists.specs.Kit.{refl, sym, ap, subst, ◌∙◌, inl, inr, Bool, true, false, cond, List, [], ℕ, zero, suc, arith}
 use Rattle.lists.specs.Kit.{length, get_or, take, eqb-true, ne_eqb}
 use Rattle.mesh.{specs.Limits.{max_neighbours}, specs.Graph.{Link, Graph, graph, link_before, with_link, relinked, new_links}, specs.Tables.{Tables, graph_in}}
 use Rattle.mesh.{specs.Sound.{sound}, proofs.Tables.DegreeSum.{links_most}}

@@ -1,7 +1,8 @@
 -- Outcomes on tables that hold the book's pairs: questions 1 to 3 get yes, and the rest is what the graph of the pairs gives.
---   link-asked                       what the questions of a link call come to
+--   link_asked                       what the questions of a link call come to
 --   core_by_pairs .. tree_by_pairs   the outcome of each other call that a worked case makes
-use Rattle.lists.specs.{Kit.{◌≡◌, refl, ap, ◌∙◌, Bool, true, ◌&&◌, List, ℕ, ◌+◌, ◌*◌, ◌≤◌, length}, Lists.{overwrite}}
+use Rattle.std.specs.Prelude.{◌≡◌, ◌&&◌, ◌+◌, ◌*◌, ◌≤◌}
+use Rattle.lists.specs.{Kit.{refl, ap, ◌∙◌, Bool, true, List, ℕ, length}, Lists.{overwrite}}
 use Rattle.mesh.{specs.Limits.{max_neighbours, row_bytes}, specs.Graph.{Link, Graph, graph}, specs.Tables.{Tables, graph_in, tables_of}, specs.Sound.{sound}}
 use Rattle.mesh.{specs.Connected.{core_of, backbone}, specs.Tree.{tree, node_names}, specs.Image.{image_of}, specs.Staircase.{staircase, link_entries}}
 use Rattle.mesh.{specs.declared.Node.{Node}, proofs.Cores.Peeling.{length_numbers}, proofs.Tables.Laws.{length_links_table}, proofs.Images.Sites.{length_order}}
@@ -10,7 +11,7 @@ use Rattle.calls.specs.{Outcomes.{listing, value, listing_outcome, core_outcome,
 use Rattle.calls.specs.{Outcomes.{staircase_outcome}}
 use Rattle.calls.proofs.{QuestionLaws.{SiteLengths, ask_yes, true_answer_length, true_nodes_length, true_holds_image}, ChainLaws.{site_yes}}
 use Rattle.calls.proofs.{Holds.{Holds, read_back, is_sound}}
-use Rattle.calls.specs.Chains.{level_refusal, core_refusal, backbone_refusal, tree_refusal, write_refusal, staircase_refusal}
+use Rattle.calls.specs.Chains.{level_refusal}
 use Rattle.calls.specs.Questions.{by_number}
 use Rattle.calls.specs.Chains.{nodes_length, holds_image, link_refusal, staircase_length}
 

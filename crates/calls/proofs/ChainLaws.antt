@@ -5,7 +5,8 @@
 --   ..-zero       a chain that is 0: what was asked holds
 --   ..-yes        the way back
 -- Questions 4 to 7 are `Allowed` of mesh. In order: parts of chains, then the chain of each call.
-use Rattle.lists.{specs.Kit.{◌≡◌, ◌∙◌, ap, refl, Bool, true, ◌&&◌, not, false, List, ℕ, ◌≤◌, ◌<◌, arith, ℤ}, proofs.Tests.{and_left, and_right}}
+use Rattle.std.specs.Prelude.{◌≡◌, ◌&&◌, ◌≤◌, ◌<◌}
+use Rattle.lists.{specs.Kit.{◌∙◌, ap, refl, Bool, true, not, false, List, ℕ, arith, ℤ}, proofs.Tests.{and_left, and_right}}
 use Rattle.mesh.{specs.Limits.{max_radios, max_neighbours}, specs.Graph.{Graph, Allowed}, specs.Cores.{number}, specs.Image.{whole_blocks, checks_good}}
 use Rattle.mesh.{specs.Image.{other_size, is_image}, proofs.Images.OtherSize.{is_image_not_other}, specs.Sound.{sound}}
 use Rattle.calls.specs.{Questions.{ask, Lengths, size_good, site_lengths, answer_length, are_radios, is_radio, ends_differ, can_switch, has_room}}
@@ -16,7 +17,7 @@ use Rattle.calls.proofs.QuestionLaws.{ask_yes, ask_zero, ask_later, size_good_tr
 use Rattle.calls.proofs.QuestionLaws.{is_radio_true, true_is_radio, are_radios_true, true_are_radios, ends_differ_true, true_ends_differ}
 use Rattle.calls.proofs.QuestionLaws.{can_switch_true, true_can_switch, has_room_true, true_has_room, has_level_true, true_has_level, holds_image_true}
 use Rattle.calls.proofs.QuestionLaws.{true_holds_image, holds_sheet_true, true_holds_sheet}
-use Rattle.calls.specs.Chains.{core_refusal, level_refusal, write_refusal, sheet_refusal}
+use Rattle.calls.specs.Chains.{core_refusal, write_refusal, sheet_refusal}
 use Rattle.calls.specs.Chains.{holds_image, link_refusal, source_refusal, holds_sheet}
 
 -- ---- 1 and 2

@@ -1,14 +1,15 @@
 -- Laws of outcomes, for the functions that meet the contracts and for their callers. A contract is an equation with an outcome by the
 -- number R that the call's questions give: accepted where R is 0, else refused by R.
 --   number_by                 the number of an outcome is the one that the questions give
---   by-accepted, by-refused   how a contract is met
---   by_zero, by-other         what a contract says where R is 0, and where it is not
+--   by_accepted, by_refused   how a contract is met
+--   by_zero, by_other         what a contract says where R is 0, and where it is not
 --   by_cases                  what it says of any R
---   accepted-is, refused-is   what it says where the result has the number 0, which is no refusal, and where it has another
---   value-refused, value-answered       a contract that answers a value, met
---   listing-refused, listing-answered   a contract that lists into a lent table, met
---   asking-is                 asking by the number that its questions give
-use Rattle.lists.specs.{Kit.{◌≡◌, refl, sym, ap, ◌∙◌, ◌⊎◌, inl, inr, Bool, List, ℕ, zero, suc, pos, length, arith}, Lists.{overwrite}}
+--   accepted_is, refused_is   what it says where the result has the number 0, which is no refusal, and where it has another
+--   value_refused, value_answered       a contract that answers a value, met
+--   listing_refused, listing_answered   a contract that lists into a lent table, met
+--   asking_is                 asking by the number that its questions give
+use Rattle.std.specs.Prelude.{◌≡◌, ◌⊎◌}
+use Rattle.lists.specs.{Kit.{refl, sym, ap, ◌∙◌, inl, inr, Bool, List, ℕ, zero, suc, pos, length, arith}, Lists.{overwrite}}
 use Rattle.mesh.specs.{Levels.{changed, step_of}, Tables.{Tables, graph_in}, Sound.{sound}}
 use Rattle.calls.specs.{Questions.{by_number, lengths_of}, Chains.{link_refusal}, declared.Reply.{Reply}}
 use Rattle.calls.specs.Outcomes.{reply, value, Linked, listing, value_outcome, listing_outcome, link_outcome, ask_outcome}

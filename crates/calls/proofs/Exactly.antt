@@ -1,6 +1,7 @@
 -- In any run, an accepted link call lists exactly the radios whose core number by the largest group differs between the book's pairs
 -- before and after. From `demand_3`; the number by peeling is not in the statement.
-use Rattle.lists.{specs.Kit.{◌≡◌, refl, sym, subst, ◌∙◌, ◌↔◌, ◌⊎◌, inl, inr, Bool, true, false, List, [], ◌∷◌, ◌++◌, ℕ, ◌<◌, arith, length, take}}
+use Rattle.std.specs.Prelude.{◌≡◌, ◌↔◌, ◌⊎◌, ◌∷◌, ◌++◌, ◌<◌}
+use Rattle.lists.{specs.Kit.{refl, sym, subst, ◌∙◌, inl, inr, Bool, true, false, List, [], ℕ, arith, length, take}}
 use Rattle.lists.{specs.Lists.{member}, proofs.Tests.{bool_cases}}
 use Rattle.mesh.{specs.Graph.{Link, graph}, specs.Cores.{Core}, specs.Tables.{Tables}, specs.Sound.{number_in}, proofs.Cores.Certificate.{core_unique}}
 use Rattle.calls.specs.{Book.{Call, linking, Answer, book_after}, Outcomes.{link_outcome}, Runs.{did, answer_of, done, Event, event, events, after}}

@@ -1,10 +1,11 @@
 -- What a hearing comes to, on any sound tables, whoever wrote them.
---   hear-zero        its questions got yes
+--   hear_zero        its questions got yes
 --   one_sided_marked, one_sided_bits   the bits of the further table, and their number
---   hear-links       afterwards the links are exactly the agreed ones
---   hear-right       what a caller has after an accepted hearing (property 2)
---   hear-same        a table that hears what is linked changes nothing
-use Rattle.lists.{specs.Kit.{◌≡◌, refl, sym, ap, ap₂, ◌∙◌, ◌⊎◌, inl, inr, Bool, true, false, ◌&&◌, not, List, [], ◌++◌, map, ℕ, suc, ◌*◌, ◌-◌, ◌≤◌, ◌<◌, arith}}
+--   hear_links       afterwards the links are exactly the agreed ones
+--   hear_right       what a caller has after an accepted hearing (property 2)
+--   hear_same        a table that hears what is linked changes nothing
+use Rattle.std.specs.Prelude.{◌≡◌, ◌⊎◌, ◌&&◌, ◌++◌, ◌*◌, ◌-◌, ◌≤◌, ◌<◌}
+use Rattle.lists.{specs.Kit.{refl, sym, ap, ap₂, ◌∙◌, inl, inr, Bool, true, false, not, List, [], map, ℕ, suc, arith}}
 use Rattle.lists.{specs.Kit.{ltb, eqb, length, ltb-true, ltb-false, eqb-true}, specs.Lists.{range, count, total}, proofs.Tests.{bool_cases, and_left}}
 use Rattle.lists.{proofs.Tests.{and_right}, proofs.Range.{range_in}, proofs.Filter.{filter_none}, proofs.Map.{flat_map_none}}
 use Rattle.lists.{proofs.Sums.{total_cong}}

@@ -1,13 +1,14 @@
 -- Links that both ends hear: the single calls are allowed in turn, and lead to the agreed links.
 --   Told n f          the test f of two radios below n does not ask which is named first, and no radio passes it with itself
---   graph-where n f   the graph whose links pass such a test
---   where-switches    the single calls of the links that pass a test
---   agreed-links      the agreed links
---   hear-allowed      questions 4 to 7 of each single call get yes
---   middle-linked     what is linked after the downs
---   hear-pairs        the pairs after all of them are the agreed links
-use Rattle.lists.{specs.Kit.{◌≡◌, refl, sym, ap, ap₂, ◌∙◌, Bool, true, false, ◌&&◌, not, cond, and_comm, List, [], ◌∷◌, ◌++◌, map, flat_map, ℕ, zero, suc, ◌+◌}}
-use Rattle.lists.{specs.Kit.{◌-◌, ◌≤◌, ◌<◌, arith, leb, leb-true}, specs.Lists.{range, filter, count}, proofs.Tests.{never, and_left, and_right}}
+--   graph_where n f   the graph whose links pass such a test
+--   where_switches    the single calls of the links that pass a test
+--   agreed_links      the agreed links
+--   hear_allowed      questions 4 to 7 of each single call get yes
+--   middle_linked     what is linked after the downs
+--   hear_pairs        the pairs after all of them are the agreed links
+use Rattle.std.specs.Prelude.{◌≡◌, ◌&&◌, ◌∷◌, ◌++◌, ◌+◌, ◌-◌, ◌≤◌, ◌<◌}
+use Rattle.lists.{specs.Kit.{refl, sym, ap, ap₂, ◌∙◌, Bool, true, false, not, cond, and_comm, List, [], map, flat_map, ℕ, zero, suc}}
+use Rattle.lists.{specs.Kit.{arith, leb, leb-true}, specs.Lists.{range, filter, count}, proofs.Tests.{never, and_left, and_right}}
 use Rattle.lists.{proofs.Range.{range_in}, proofs.Filter.{filter_ext}, proofs.Count.{count_ext}, proofs.All.{all_below}}
 use Rattle.mesh.{specs.Limits.{max_radios, max_neighbours}, specs.Graph.{Link, Graph, graph, link_of, InLinks, radios, linked, neighbours_among, degree}}
 use Rattle.mesh.{specs.Tables.{marked, bit_table, row_links, graph_in}, specs.Sound.{irreflexive}, proofs.GraphLaws.{linked_sym, linked_self, proper_of}}

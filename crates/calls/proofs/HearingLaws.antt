@@ -1,17 +1,18 @@
 -- A hearing carried out row by row: each switch is allowed, and what is left after it.
---   left-first, left-next, left-done    before the first switch, after one, after the last
---   rows-first        before the first row of the downs
+--   left-first, left_next, left_done    before the first switch, after one, after the last
+--   rows_first        before the first row of the downs
 --   row_first         the start of a row: a list of radios above it with a test that tells the ones to be switched
---   row-skip          a radio that the test leaves out
+--   row_skip          a radio that the test leaves out
 --   row_next          a radio that it tells: questions 4 to 7 get yes, and the rest is left
---   row-end           the row is done
---   downs-end, ups-end   all rows are done
---   downs-row, ups-row   which radios of a row are switched, by the rows as they are then
-use Rattle.lists.{specs.Kit.{◌≡◌, refl, sym, ap, ap₂, subst, ◌∙◌, inl, inr, Bool, true, false, ◌&&◌, not, cond, List, [], ◌∷◌, ◌++◌, map, flat_map}}
-use Rattle.lists.{specs.Kit.{append_assoc, append-nil, ℕ, suc, ◌-◌, ◌≤◌, ◌<◌, arith, length, take, length-append, take-append_seam}, specs.Lists.{range}}
+--   row_end           the row is done
+--   downs_end, ups_end   all rows are done
+--   downs_row, ups_row   which radios of a row are switched, by the rows as they are then
+use Rattle.std.specs.Prelude.{◌≡◌, ◌&&◌, ◌∷◌, ◌++◌, ◌-◌, ◌≤◌, ◌<◌}
+use Rattle.lists.{specs.Kit.{refl, sym, ap, ap₂, subst, ◌∙◌, inl, inr, Bool, true, false, not, cond, List, [], map, flat_map}}
+use Rattle.lists.{specs.Kit.{append_assoc, append-nil, ℕ, suc, arith, length, take, length-append, take-append_seam}, specs.Lists.{range}}
 use Rattle.lists.{specs.Lists.{filter, In, Ascending}, proofs.Tests.{and_left, and_right}, proofs.Range.{range_in}, proofs.Filter.{filter_ext, filter_filter}}
 use Rattle.mesh.{specs.Limits.{max_neighbours}, specs.Graph.{Link, Graph, graph, linked, relinked, new_links}, specs.Tables.{Tables, marked, graph_in}}
-use Rattle.mesh.{specs.Sound.{sound, symmetric, irreflexive, few, rows_proper}, proofs.GraphLaws.{Ends, ends, ends_of}, proofs.Tables.Laws.{marked_put_link}}
+use Rattle.mesh.{specs.Sound.{sound, symmetric, irreflexive, rows_proper}, proofs.GraphLaws.{Ends, ends, ends_of}, proofs.Tables.Laws.{marked_put_link}}
 use Rattle.mesh.{proofs.Tables.ReadBack.{proper_graph_in, ascending_graph_in, linked_graph_in}, proofs.Tables.Soundness.{sound_certificate}}
 use Rattle.calls.specs.{Questions.{lengths_of, ends_refusal}, Switches.{Switch, switch, pairs_after, switched, tables_after, AllAllowed}, Heard.{agreed}}
 use Rattle.calls.specs.{Heard.{agreed_few, heard_proper, row_switches, switches_where, goes_down, comes_up, heard_switches}, Hearing.{Left, Phase}}

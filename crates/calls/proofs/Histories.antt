@@ -1,10 +1,11 @@
 -- The link history makes the tables and the book's pairs, and so does the history at which each mark was set: coming back to a mark that
--- holds what was set gives that history (W211).
+-- holds what was set gives that history (W-211).
 --   Traced n h ps t    the history h makes the tables t, and the pairs ps, which the tables hold
 --   PastHolds         so does the link history, and the history of each mark some tables
---   past-step          one call keeps it
---   past-kept          so does every run
-use Rattle.lists.{specs.Kit.{◌≡◌, refl, sym, ap, ap₂, subst, ◌∙◌, Bool, true, false, ◌&&◌, cond, List, [], ◌∷◌, Option, none, some, ℕ}, specs.Lists.{same}}
+--   past_step          one call keeps it
+--   past_kept          so does every run
+use Rattle.std.specs.Prelude.{◌≡◌, ◌&&◌, ◌∷◌}
+use Rattle.lists.{specs.Kit.{refl, sym, ap, ap₂, subst, ◌∙◌, Bool, true, false, cond, List, [], Option, none, some, ℕ}, specs.Lists.{same}}
 use Rattle.lists.{proofs.All.{same_eq}, proofs.Tests.{and_right}}
 use Rattle.mesh.{specs.Graph.{Link, Graph, graph}, specs.Tables.{Tables, tables_of, graph_in}, specs.Image.{image_of, image_graph, image_order}}
 use Rattle.mesh.{proofs.Images.Sites.{read_written_graph, read_written_order}}

@@ -1,8 +1,9 @@
--- Coming back to a mark gives back the link history at the moment when it was set (W211).
---   history-restored   an accepted set, calls none of which sets or removes that name, an accepted coming back to the image that was
+-- Coming back to a mark gives back the link history at the moment when it was set (W-211).
+--   history_restored   an accepted set, calls none of which sets or removes that name, an accepted coming back to the image that was
 --                      set: the history, with the clearing or read image that it began from, is the one at the setting
-use Rattle.lists.{specs.Kit.{◌≡◌, refl, sym, ap, ap₂, subst, ◌∙◌, Bool, true, false, ◌&&◌, ◌||◌, not, cond, List, [], ◌∷◌, ◌++◌, Option, none, some, ℕ, zero}}
-use Rattle.lists.{specs.Kit.{suc, ◌≤◌, arith}, specs.Lists.{same}, proofs.All.{same_refl, same_eq}, proofs.Tests.{and_left, and_right, never}}
+use Rattle.std.specs.Prelude.{◌≡◌, ◌&&◌, ◌||◌, ◌∷◌, ◌++◌, ◌≤◌}
+use Rattle.lists.{specs.Kit.{refl, sym, ap, ap₂, subst, ◌∙◌, Bool, true, false, not, cond, List, [], Option, none, some, ℕ, zero}}
+use Rattle.lists.{specs.Kit.{suc, arith}, specs.Lists.{same}, proofs.All.{same_refl, same_eq}, proofs.Tests.{and_left, and_right, never}}
 use Rattle.mesh.{specs.Limits.{max_radios}, specs.Graph.{Link, Graph}, specs.Tables.{Tables, tables_of, graph_in}, specs.Image.{image_of, image_graph}}
 use Rattle.mesh.{specs.Image.{image_order}, proofs.Tables.ReadBack.{graph_in_links_table}, proofs.Tables.Sites.{image_valid}}
 use Rattle.mesh.{proofs.Images.Sites.{written_read}}

@@ -1,9 +1,10 @@
 -- Tables that hold the book's pairs, and what links taken up or down one after the other keep of that.
 --   Holds n ps t      the tables t hold n radios, the pairs ps and some k-order of them
---   clear-holds, read-holds   so they do after an accepted clearing or reading
---   site-asked        question 3 gets yes of them, and later questions are put to the book's pairs
---   all-holds, all-switching   where links are allowed in turn, the tables hold the pairs after them, and each keeps what a link call keeps
-use Rattle.lists.specs.{Kit.{◌≡◌, refl, ap, sym, subst, ◌∙◌, Bool, true, List, [], ◌∷◌, ◌++◌, ℕ, ◌≤◌, length}, Lists.{range}}
+--   clear_holds, read_holds   so they do after an accepted clearing or reading
+--   site_asked        question 3 gets yes of them, and later questions are put to the book's pairs
+--   all_holds, all_switching   where links are allowed in turn, the tables hold the pairs after them, and each keeps what a link call keeps
+use Rattle.std.specs.Prelude.{◌≡◌, ◌∷◌, ◌++◌, ◌≤◌}
+use Rattle.lists.specs.{Kit.{refl, ap, sym, subst, ◌∙◌, Bool, true, List, [], ℕ, length}, Lists.{range}}
 use Rattle.mesh.{specs.Limits.{max_radios, max_neighbours}, specs.Graph.{Link, Graph, graph, relinked, new_links, Allowed}, specs.Levels.{changed, new_order}}
 use Rattle.mesh.{specs.Tables.{Tables, graph_in, tables_of}, specs.Sound.{sound}, specs.Image.{image_graph, image_links, image_order}}
 use Rattle.mesh.{proofs.Cores.Peeling.{length_numbers}, proofs.Tables.Laws.{links_table_cleared}, proofs.Tables.ReadBack.{graph_in_links_table}}
@@ -113,13 +114,13 @@ pub all_holds : (n : ℕ) (ps : List Link) (ss : List Switch) (t : Tables) → H
     (tables_after n ss t)
 unfolding AllAllowed pairs_after tables_after
 all_holds n ps [] t k ok = k
-all_holds n ps (s ∷ ss) t k ok = all_holds n _ ss (switched n s t) (switched_holds n ps t k s ok.0) ok.1
+all_holds n ps (s ∷ ss) t k ok = all_holds n (new_links s.up s.a s.b ps) ss (switched n s t) (switched_holds n ps t k s ok.0) ok.1
 
 pub all_switching : (n : ℕ) (ps : List Link) (ss : List Switch) (t : Tables) → Holds n ps t → AllAllowed n ps ss → Switching n ps ss t (tables_after n ss t)
 unfolding AllAllowed tables_after
 all_switching n ps [] t k ok = ended
 all_switching n ps (s ∷ ss) t k ok =
-    next (switched_kept n ps t k s ok.0) (all_switching n _ ss (switched n s t) (switched_holds n ps t k s ok.0) ok.1)
+    next (switched_kept n ps t k s ok.0) (all_switching n (new_links s.up s.a s.b ps) ss (switched n s t) (switched_holds n ps t k s ok.0) ok.1)
 
 pub pairs_after_append : (ss ts : List Switch) (ps : List Link) → pairs_after (ss ++ ts) ps ≡ pairs_after ts (pairs_after ss ps)
 unfolding pairs_after
@@ -135,4 +136,4 @@ pub all_allowed_append :
     (n : ℕ) (ps : List Link) (ss ts : List Switch) → AllAllowed n ps ss → AllAllowed n (pairs_after ss ps) ts → AllAllowed n ps (ss ++ ts)
 unfolding AllAllowed pairs_after
 all_allowed_append n ps [] ts p q = q
-all_allowed_append n ps (s ∷ ss) ts p q = (p.0, all_allowed_append n _ ss ts p.1 q)
+all_allowed_append n ps (s ∷ ss) ts p q = (p.0, all_allowed_append n (new_links s.up s.a s.b ps) ss ts p.1 q)

@@ -1,8 +1,9 @@
 -- The number that an image gets where questions 1, 2, 9 and 10 got yes: 0, 15 or 11.
---   image-answered   the image of sound tables with this n, with another n, or of none
---   eleven-iff       11 is the answer to bytes that are the image of no sound tables, and to no others
---   read-eleven      so it is of the number that reading answers
-use Rattle.lists.{specs.Kit.{◌≡◌, refl, subst, ◌∙◌, ◌↔◌, ◌⊎◌, inl, inr, Bool, true, false, not, List, ℕ, arith, eqb, eqb-true, eqb-false}}
+--   image_answered   the image of sound tables with this n, with another n, or of none
+--   eleven_iff       11 is the answer to bytes that are the image of no sound tables, and to no others
+--   read_eleven      so it is of the number that reading answers
+use Rattle.std.specs.Prelude.{◌≡◌, ◌↔◌, ◌⊎◌}
+use Rattle.lists.{specs.Kit.{refl, subst, ◌∙◌, inl, inr, Bool, true, false, not, List, ℕ, arith, eqb, eqb-true, eqb-false}}
 use Rattle.lists.{proofs.Tests.{bool_cases, never}}
 use Rattle.mesh.{specs.Tables.{Tables}, specs.Image.{whole_blocks, checks_good, is_image, other_size, TablesImage, ImageOfNone}}
 use Rattle.mesh.{proofs.Images.Tables.{is_image_tables}, proofs.Images.OtherSize.{other_size_iff, is_image_not_other}}

@@ -1,7 +1,8 @@
 -- The question for one link that lifts a radio: how its contract is met.
---   lift-zero, lift-twenty         when the chain gives 0, and when 20
---   lift-refused, lift-unanswered, lift-answered   refused by 1 to 4; by 20; the first pair
-use Rattle.lists.specs.Kit.{◌≡◌, refl, sym, ap, ◌∙◌, Bool, true, false, ◌&&◌, [], ℕ, ◌<◌, arith}
+--   lift_zero, lift_twenty         when the chain gives 0, and when 20
+--   lift_refused, lift_unanswered, lift_answered   refused by 1 to 4; by 20; the first pair
+use Rattle.std.specs.Prelude.{◌≡◌, ◌&&◌, ◌<◌}
+use Rattle.lists.specs.Kit.{refl, sym, ap, ◌∙◌, Bool, true, false, [], ℕ, arith}
 use Rattle.mesh.specs.{Graph.{link_of, Graph}, Tables.{Tables, graph_in}, Sound.{sound}}
 use Rattle.calls.specs.{Questions.{Lengths, lengths_of, ask, is_radio, size_good, site_lengths, lent_refusal, site_refusal, radio_refusal}}
 use Rattle.calls.specs.{Lift.{lifting, first_pair, is_lifted}, LiftOutcome.{pair, lift_outcome}, CallContracts.{LiftContract}}

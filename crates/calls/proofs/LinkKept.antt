@@ -1,5 +1,6 @@
 -- What an accepted link call on a valid site keeps, as demand 3 states it: the theory of mesh, said of tables.
-use Rattle.lists.{specs.Kit.{◌≡◌, refl, sym, ◌∙◌, ◌⊎◌, inl, inr, Bool, true, false, List, ℕ, suc, ◌≤◌, ◌<◌, arith, ltb, length, List·getD-eq-default, ltb-true}}
+use Rattle.std.specs.Prelude.{◌≡◌, ◌⊎◌, ◌≤◌, ◌<◌}
+use Rattle.lists.{specs.Kit.{refl, sym, ◌∙◌, inl, inr, Bool, true, false, List, ℕ, suc, arith, ltb, length, List·getD-eq-default, ltb-true}}
 use Rattle.lists.{specs.Kit.{ltb-false}, specs.Lists.{member}, proofs.Tests.{bool_cases}}
 use Rattle.mesh.{specs.Limits.{max_radios, max_neighbours}, specs.Graph.{Graph, relinked, Allowed}, specs.Cores.{number, numbers}, specs.Levels.{changed}}
 use Rattle.mesh.{specs.Levels.{lower_level, new_order}, specs.Tables.{tables_of}, specs.Sound.{number_in}, proofs.Cores.Peeling.{length_numbers, get_d_numbers}}

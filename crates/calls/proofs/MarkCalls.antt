@@ -1,14 +1,15 @@
 -- What an accepted call on marks keeps, and that coming back restores what was set.
 --   MarkAsked        1, 2, 3 and 17 got yes
 --   ..-zero           a chain that is 0: what was asked holds
---   set-right, removed-right   the store after an accepted call: it keeps the rules again
---   set-others, removed-others, other-marks   other marks are unaffected, whatever the call answers
---   mark_is_image, mark-read   a mark that the store has holds an image of sound tables, which reading takes
---   return-right      after an accepted coming back: what reading the mark's image leaves
---   return-restores   coming back to a mark restores links, numbers and order as they were when it was set
-use Rattle.lists.{specs.Kit.{◌≡◌, refl, sym, ap, ◌∙◌, ◌⊎◌, inl, inr, Bool, true, false, ◌||◌, cond, List, [], ◌∷◌, ℕ, zero, suc, ◌+◌, ◌≤◌, arith, ltb, length}}
+--   set_right, removed_right   the store after an accepted call: it keeps the rules again
+--   set_others, removed_others, other_marks   other marks are unaffected, whatever the call answers
+--   mark_is_image, mark_read   a mark that the store has holds an image of sound tables, which reading takes
+--   return_right      after an accepted coming back: what reading the mark's image leaves
+--   return_restores   coming back to a mark restores links, numbers and order as they were when it was set
+use Rattle.std.specs.Prelude.{◌≡◌, ◌⊎◌, ◌||◌, ◌∷◌, ◌+◌, ◌≤◌}
+use Rattle.lists.{specs.Kit.{refl, sym, ap, ◌∙◌, inl, inr, Bool, true, false, cond, List, [], ℕ, zero, suc, arith, ltb, length}}
 use Rattle.lists.{specs.Kit.{eqb-true, ltb-true}, specs.Lists.{same, EntriesBelow}, proofs.Tests.{and_left, and_right, or_cases, never}}
-use Rattle.mesh.{specs.Limits.{max_radios}, specs.Cores.{numbers}, specs.Tables.{Tables, tables_of, graph_in, TablesOfSize}, specs.Sound.{sound}}
+use Rattle.mesh.{specs.Limits.{max_radios}, specs.Tables.{Tables, tables_of, graph_in, TablesOfSize}, specs.Sound.{sound}}
 use Rattle.mesh.{specs.Image.{image_of, image_graph, image_order, is_image, whole_blocks, checks_good}, proofs.Images.Of.{whole_blocks_image_of}}
 use Rattle.mesh.{proofs.Images.Of.{checks_good_image_of}, proofs.Images.Sites.{written_read}, specs.Marks.{places, store_bytes, before, is_name, is_store}}
 use Rattle.mesh.{specs.Marks.{name_in, image_in, place_of, marks_in, store_of, has_mark, found, with_mark, without_mark}, proofs.Images.Tables.{is_image_sound}}

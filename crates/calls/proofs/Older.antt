@@ -1,10 +1,11 @@
 -- Calls on tables and images from before the limit on neighbours was raised.
---   older-call     a link call on formerly sound tables: accepted then, the same now; refused by 7 then, taken now
---   older-read     an image that was read is read as it was
---   older-other    an older image with another n gets 15, where it got 11
+--   older_call     a link call on formerly sound tables: accepted then, the same now; refused by 7 then, taken now
+--   older_read     an image that was read is read as it was
+--   older_other    an older image with another n gets 15, where it got 11
 --   older          all calls
 -- In order: a chain whose last question gets another answer, link calls, images, calls that only read.
-use Rattle.lists.specs.Kit.{◌≡◌, refl, sym, ◌∙◌, Bool, true, false, not, List, ℕ, arith, length}
+use Rattle.std.specs.Prelude.{◌≡◌}
+use Rattle.lists.specs.Kit.{refl, sym, ◌∙◌, Bool, true, false, not, List, ℕ, arith, length}
 use Rattle.mesh.{specs.Limits.{max_neighbours, former_neighbours}, specs.Graph.{Graph}, specs.Tables.{Tables, graph_in}, specs.Sound.{sound}}
 use Rattle.mesh.{specs.Image.{other_size, is_image_within, is_image}, proofs.Tables.Older.{sound_within_more, older_image}}
 use Rattle.mesh.{proofs.Images.Tables.{valid_graph_in, is_image_within_sound, is_image_tables}, proofs.Images.OtherSize.{other_size_iff, is_image_not_other}}

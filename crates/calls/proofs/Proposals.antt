@@ -1,11 +1,12 @@
--- A link call in two steps (document 02, W210).
---   proposal-iff       question 16 gets yes exactly where step and list are what asking gives
+-- A link call in two steps (document 02, W-210).
+--   proposal_iff       question 16 gets yes exactly where step and list are what asking gives
 --   two_steps          asking that is accepted, then committing its answer: the single call's reply, tables and answer table
---   refused-step       asking that is refused: the single call's refusal
---   commit-iff         committing is accepted exactly if asking now would be, with this step and this list
---   commit-number      what it is refused by: the number that asking would get, else 16
+--   refused_step       asking that is refused: the single call's refusal
+--   commit_iff         committing is accepted exactly if asking now would be, with this step and this list
+--   commit_number      what it is refused by: the number that asking would get, else 16
 -- Asking and committing see the tables as they now are, so a proposal made before other calls is good exactly if it is still true.
-use Rattle.lists.{specs.Kit.{◌≡◌, refl, sym, ap, ◌∙◌, ◌⊎◌, inl, inr, ◌↔◌, Bool, true, false, ◌&&◌, List, ℕ, ◌≤◌, arith, ℤ, pos, negsuc, length, take, eqb-true}}
+use Rattle.std.specs.Prelude.{◌≡◌, ◌⊎◌, ◌↔◌, ◌&&◌, ◌≤◌}
+use Rattle.lists.{specs.Kit.{refl, sym, ap, ◌∙◌, inl, inr, Bool, true, false, List, ℕ, arith, ℤ, pos, negsuc, length, take, eqb-true}}
 use Rattle.lists.{specs.Kit.{eq-eqb}, specs.Lists.{same, overwrite}, proofs.All.{same_refl, same_eq}, proofs.Overwrite.{take_overwrite}}
 use Rattle.lists.{proofs.Tests.{bool_cases, never, and_left, and_right, and_both}}
 use Rattle.mesh.specs.{Limits.{max_radios, max_neighbours}, Graph.{Graph}, Levels.{changed, step_of}, Tables.{Tables, graph_in}, Sound.{sound}}

@@ -1,6 +1,7 @@
 -- Laws of the questions: one question of a chain, then each question as what it asks, both ways; 1 is in mesh. Chains are in
 -- ChainLaws.antt.
-use Rattle.lists.{specs.Kit.{◌≡◌, refl, Bool, true, false, ◌&&◌, not, ℕ, suc, ◌+◌, ◌*◌, ◌≤◌, ◌<◌, arith, ltb, eqb, ltb-true, leb-true, eqb-true, eqb-false}}
+use Rattle.std.specs.Prelude.{◌≡◌, ◌&&◌, ◌+◌, ◌*◌, ◌≤◌, ◌<◌}
+use Rattle.lists.{specs.Kit.{refl, Bool, true, false, not, ℕ, suc, arith, ltb, eqb, ltb-true, leb-true, eqb-true, eqb-false}}
 use Rattle.lists.{specs.Kit.{lt-ltb, le-leb, eq-eqb, ne_eqb, not-true}, proofs.Tests.{never, and_left, and_right, and_both}}
 use Rattle.mesh.specs.{Limits.{row_bytes}, Graph.{Graph, linked, degree}, Cores.{number}}
 use Rattle.calls.specs.{Sheet.{sheet_length}, Questions.{ask, Lengths, site_lengths, answer_length, is_radio, are_radios, ends_differ}}

@@ -1,10 +1,11 @@
--- Document 02, W203: the links of a site, taken up in their order from a cleared one, rebuild it, and none is refused.
+-- Document 02, W-203: the links of a site, taken up in their order from a cleared one, rebuild it, and none is refused.
 --   ups ls             the links ls, taken up in turn
---   ups-allowed        links that are wanted and down come up, where no radio has more than 40 wanted links
---   ups-pairs          the pairs after links came up in their order
+--   ups_allowed        links that are wanted and down come up, where no radio has more than 40 wanted links
+--   ups_pairs          the pairs after links came up in their order
 --   rebuilt            from a cleared site: all links are allowed in turn, and the pairs are the site's
-use Rattle.lists.{specs.Kit.{◌≡◌, refl, sym, ap, subst, ◌∙◌, ◌⊎◌, inl, inr, Bool, true, false, cond, List, [], ◌∷◌, ◌++◌, append-nil, append_assoc, ℕ, ◌≤◌}}
-use Rattle.lists.{specs.Kit.{◌<◌, arith}, specs.Lists.{range, count, member}, proofs.Tests.{bool_cases, never}, proofs.Range.{in_range}}
+use Rattle.std.specs.Prelude.{◌≡◌, ◌⊎◌, ◌∷◌, ◌++◌, ◌≤◌, ◌<◌}
+use Rattle.lists.{specs.Kit.{refl, sym, ap, subst, ◌∙◌, inl, inr, Bool, true, false, cond, List, [], append-nil, append_assoc, ℕ}}
+use Rattle.lists.{specs.Kit.{arith}, specs.Lists.{range, count, member}, proofs.Tests.{bool_cases, never}, proofs.Range.{in_range}}
 use Rattle.lists.{proofs.Count.{count_less}}
 use Rattle.mesh.{specs.Limits.{max_neighbours}, specs.Graph.{Link, Graph, graph, InLinks, radios, other_ends, linked, neighbours_among, degree, link}}
 use Rattle.mesh.{specs.Graph.{link_before, with_link, new_links, relinked, proper, ascending, Allowed}, specs.Valid.{Valid}, proofs.GraphLaws.{ends, Ends}}
@@ -148,6 +149,7 @@ with_link_last l (p ∷ ps) h = go (link_before l p) refl (with_link_last l ps (
     go false e rec = ap (λ (z : List Link). p ∷ z) rec
 
 sorted_before : (ps : List Link) (l : Link) (ls : List Link) → Sorted (ps ++ (l ∷ ls)) → (m : Link) → InLinks m ps → Before m l
+sorted_before [] l ls s m x'' = elim x'' [ ]
 sorted_before (p ∷ ps) l ls s m (inl e) = subst (λ (z : Link). Before z l) e (s.0 l (in_links_right l ps (l ∷ ls) (inl refl)))
 sorted_before (p ∷ ps) l ls s m (inr i) = sorted_before ps l ls s.1 m i
 

@@ -1,5 +1,5 @@
 -- Tables and answers are equal when their parts are.
-use Rattle.lists.specs.Kit.{◌≡◌}
+use Rattle.std.specs.Prelude.{◌≡◌}
 use Rattle.mesh.specs.Tables.{Tables}
 use Rattle.calls.specs.declared.{Reply.{Reply}, Value.{Value}, Later.{Later}, Block.{Block}}
 

@@ -1,7 +1,8 @@
 -- Property 1 by the number that the host sees: an outcome whose number is not 0 has zeros beside it, and everything lent is as it was.
 -- What a batch keeps is in Batches.antt.
 --   ..-keeps          so it is of each call, by `refused_is`
-use Rattle.lists.specs.Kit.{◌≡◌, ap, refl, Bool, true, false, List, ℕ, ℤ, pos}
+use Rattle.std.specs.Prelude.{◌≡◌}
+use Rattle.lists.specs.Kit.{ap, refl, Bool, true, false, List, ℕ, ℤ, pos}
 use Rattle.mesh.specs.{Tables.{Tables}, declared.Node.{Node}}
 use Rattle.calls.specs.{Outcomes.{Tabled, tabled, Linked, linked_with, Listing, listing}}
 use Rattle.calls.specs.{Outcomes.{reply, value, later, clear_outcome, read_outcome, link_outcome, ask_outcome, commit_outcome}}

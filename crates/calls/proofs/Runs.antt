@@ -2,8 +2,9 @@
 --   Does, Run     a call, a list of calls carried out: as `done` and `events` say
 --   run           every list of calls is a run
 --   run_is        and a run is the list of its calls carried out
---   link-done, hear-done   a link call and a hearing, whatever the answer table and the further table hold
-use Rattle.lists.{specs.Kit.{◌≡◌, refl, ap, subst, Bool, List, [], ◌∷◌, ◌++◌, ℕ, zero, suc, length, replicate, length-replicate}}
+--   link_done, hear_done   a link call and a hearing, whatever the answer table and the further table hold
+use Rattle.std.specs.Prelude.{◌≡◌, ◌∷◌, ◌++◌}
+use Rattle.lists.{specs.Kit.{refl, ap, subst, Bool, List, [], ℕ, zero, suc, length, replicate, length-replicate}}
 use Rattle.lists.{proofs.Overwrite.{take_overwrite}}
 use Rattle.mesh.specs.{Levels.{changed}, Tables.{Tables, graph_in}, Sound.{sound}}
 use Rattle.calls.specs.{Questions.{lengths_of}, Heard.{hear_refusal}, Outcomes.{link_outcome, hear_outcome}, Book.{Call}}

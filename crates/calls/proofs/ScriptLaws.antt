@@ -1,10 +1,11 @@
--- Laws of the script that rebuilds a site (document 02, W203).
---   script-zero, script-yes   the chain of writing it
---   script-most           a site's script has at most 112,651 bytes
---   script-right          what is written is the script, and later bytes keep their content
---   script-beforehand     the length beforehand is the length written, and 13 compares with it
+-- Laws of the script that rebuilds a site (document 02, W-203).
+--   script_zero, script_yes   the chain of writing it
+--   script_most           a site's script has at most 112,651 bytes
+--   script_right          what is written is the script, and later bytes keep their content
+--   script_beforehand     the length beforehand is the length written, and 13 compares with it
 -- That playing it rebuilds the site is in proofs/Rebuilt.antt, and over the replay language in crate playback.
-use Rattle.lists.{specs.Kit.{◌≡◌, refl, ◌∙◌, inl, inr, Bool, true, List, [], ◌∷◌, ◌++◌, flat_map, ℕ, ◌*◌, ◌≤◌, ◌<◌, arith, length, length-append, leb-true}}
+use Rattle.std.specs.Prelude.{◌≡◌, ◌∷◌, ◌++◌, ◌*◌, ◌≤◌, ◌<◌}
+use Rattle.lists.{specs.Kit.{refl, ◌∙◌, inl, inr, Bool, true, List, [], flat_map, ℕ, arith, length, length-append, leb-true}}
 use Rattle.lists.{specs.Kit.{le-leb, lt-leb}, proofs.Overwrite.{take_overwrite, drop_overwrite}}
 use Rattle.mesh.{specs.Limits.{max_radios, max_neighbours}, specs.Graph.{Link, Graph, InLinks}, specs.Tables.{Tables, graph_in}, specs.Sound.{sound}}
 use Rattle.mesh.{specs.Valid.{Valid}, proofs.GraphLaws.{proper_of}, proofs.Tables.AscendingLinks.{in_links_proper}, proofs.Tables.DegreeSum.{links_most}}

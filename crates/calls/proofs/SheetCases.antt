@@ -1,5 +1,6 @@
 -- Every worked cell and every worked sheet is right: computed.
-use Rattle.lists.specs.{Kit.{◌≡◌, refl, true, flat_map}, Lists.{range, same}}
+use Rattle.std.specs.Prelude.{◌≡◌}
+use Rattle.lists.specs.{Kit.{refl, true, flat_map}, Lists.{range, same}}
 use Rattle.text.specs.Text.{digit_byte, digits_in, decimal}
 use Rattle.calls.specs.{Sheet.{right_aligned, filled, cell, cells, sheet_line, sheet_lines, sheet}, SheetCases.{cell_good, cells_good, cell_cases}}
 use Rattle.calls.specs.{SheetCases.{sheet_good, sheets_good, sheet_cases}}

@@ -1,14 +1,15 @@
--- Laws of the site sheet (document 02, W201).
---   length-cell           a cell has its 8 columns where the radio has at most three digits and the number at most two
---   cell-columns          its columns one by one: each digit, or a space where the text has none
+-- Laws of the site sheet (document 02, W-201).
+--   length_cell           a cell has its 8 columns where the radio has at most three digits and the number at most two
+--   cell_columns          its columns one by one: each digit, or a space where the text has none
 --   length_sheet_line     a line has 65 bytes
---   length-sheet          the sheet has 65 bytes × lines
---   sheet-columns         what stands in each column of the sheet
---   columns-front         so it is of a page that has the sheet in front
+--   length_sheet          the sheet has 65 bytes × lines
+--   sheet_columns         what stands in each column of the sheet
+--   columns_front         so it is of a page that has the sheet in front
 --   numbers_two_digits    sound tables have numbers of at most 40
---   sheet-fits            so their sheet has these columns, and each cell has the core number (`columns_by`)
+--   sheet_fits            so their sheet has these columns, and each cell has the core number (`columns_by`)
 -- In order: texts in columns, a cell, a line, the sheet, sound tables.
-use Rattle.lists.{specs.Kit.{◌≡◌, sym, ap, ◌∙◌, ◌⊎◌, inl, inr, true, false, List, [], ◌∷◌, ◌++◌, ℕ, ◌+◌, ◌*◌, ◌-◌, ◌/◌, ◌%◌, ◌≤◌, ◌<◌, min, arith, ltb, length}}
+use Rattle.std.specs.Prelude.{◌≡◌, ◌⊎◌, ◌∷◌, ◌++◌, ◌+◌, ◌*◌, ◌-◌, ◌/◌, ◌%◌, ◌≤◌, ◌<◌}
+use Rattle.lists.{specs.Kit.{sym, ap, ◌∙◌, inl, inr, true, false, List, [], ℕ, min, arith, ltb, length}}
 use Rattle.lists.{specs.Kit.{get_or, replicate, length-append, length-replicate, get_or-replicate, List·getD-append, drop, get_or-append-add, ltb-true, ltb-false}}
 use Rattle.lists.{specs.Kit.{lt-ltb}, specs.Lists.{overwrite}, proofs.Tests.{bool_cases}, proofs.Parts.{length_flat_map_range, get_d_flat_map_range}}
 use Rattle.mesh.{specs.Limits.{max_radios, max_neighbours}, specs.Cores.{number}, specs.Tables.{Tables, graph_in}, specs.Sound.{number_in, sound}}

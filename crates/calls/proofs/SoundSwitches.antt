@@ -1,11 +1,12 @@
 -- Sound tables after links were taken up or down, whoever wrote them.
 --   Good n t            questions 1 to 3 get yes of the tables t
---   switched-good       so they do after one link
---   switched-graph      which is then in the graph, or not
---   all-good, all-graph the same after a list of links
+--   switched_good       so they do after one link
+--   switched_graph      which is then in the graph, or not
+--   all_good, all-graph the same after a list of links
 --   good_right          numbers are core numbers and the order is a k-order
-use Rattle.lists.{specs.Kit.{◌≡◌, refl, sym, ap, subst, ◌∙◌, true, List, [], ◌∷◌, ℕ, length}, proofs.Range.{once_length}}
-use Rattle.mesh.{specs.Limits.{max_neighbours}, specs.Graph.{Link, Graph, graph, relinked, new_links, Allowed}, specs.Cores.{numbers}, specs.Levels.{new_order}}
+use Rattle.std.specs.Prelude.{◌≡◌, ◌∷◌}
+use Rattle.lists.{specs.Kit.{refl, sym, ap, subst, ◌∙◌, true, List, [], ℕ, length}, proofs.Range.{once_length}}
+use Rattle.mesh.{specs.Limits.{max_neighbours}, specs.Graph.{Link, Graph, graph, relinked, new_links, Allowed}, specs.Levels.{new_order}}
 use Rattle.mesh.{specs.Tables.{Tables, graph_in}, specs.Sound.{sound}, specs.Valid.{Valid}, proofs.Cores.Peeling.{length_numbers}}
 use Rattle.mesh.{proofs.Cores.KOrders.{k_order_certificate}, proofs.Tables.Laws.{length_put_link}, proofs.Links.Laws.{link_valid}}
 use Rattle.mesh.{proofs.Images.Tables.{valid_graph_in}}

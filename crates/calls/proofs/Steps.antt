@@ -3,7 +3,8 @@
 --   Stepped o      what one call keeps, where o is the book's outcome of it
 --   step           every call keeps it
 -- A further call takes a lemma and a clause of `step` here: that its links are allowed in turn, and what it answers.
-use Rattle.lists.{specs.Kit.{◌≡◌, refl, ap, sym, subst, ◌∙◌, Bool, true, List, [], ◌∷◌, Option, none, some, ℕ, zero, suc, length, replicate, length-replicate}}
+use Rattle.std.specs.Prelude.{◌≡◌, ◌∷◌}
+use Rattle.lists.{specs.Kit.{refl, ap, sym, subst, ◌∙◌, Bool, true, List, [], Option, none, some, ℕ, zero, suc, length, replicate, length-replicate}}
 use Rattle.lists.{specs.Kit.{take-nil}}
 use Rattle.lists.{specs.Kit.{ℤ, pos}, specs.Lists.{overwrite}, proofs.Overwrite.{take_overwrite}}
 use Rattle.mesh.specs.{Limits.{max_neighbours}, Graph.{Link, Graph, graph}, Levels.{changed, step_of}, Tables.{Tables, graph_in}, Sound.{sound}}
@@ -221,7 +222,7 @@ module _ (n : ℕ) (ps : List Link) (t : Tables) (k : Holds n ps t) where
       refl)
   hear_step (suc y) m xs w p = rw (hear_asked m xs w ∙ p) (refused y _ t refl refl)
 
-  -- ---- marks (W211)
+  -- ---- marks (W-211)
 
   mark_asked : (m : ℕ) (x bs : List ℕ) (later : ℕ) → mark_refusal m (lengths_of t) (sound m t) x bs later ≡ mark_refusal m (lengths_of t) true x bs later
   unfolding mark_refusal

@@ -1,10 +1,11 @@
 -- A list of links taken up, or taken down, one after the other.
 --   Ordered n ps    links as the book keeps them: proper and ascending
---   pairs-eq        such links are told by which radios they join
+--   pairs_eq        such links are told by which radios they join
 --   Room G ps ls    links and list lie in a graph G in which no radio has too many neighbours
---   switches-of     the links of a list going up or down
+--   switches_of     the links of a list going up or down
 --   turns           the links of a sorted list may be taken up or down in turn, and what is then linked
-use Rattle.lists.{specs.Kit.{◌≡◌, refl, sym, ap, subst, ◌∙◌, inl, inr, Bool, true, false, ◌||◌, not, cond, List, [], ◌∷◌, ℕ, ◌≤◌, ◌<◌, arith}}
+use Rattle.std.specs.Prelude.{◌≡◌, ◌||◌, ◌∷◌, ◌≤◌, ◌<◌}
+use Rattle.lists.{specs.Kit.{refl, sym, ap, subst, ◌∙◌, inl, inr, Bool, true, false, not, cond, List, [], ℕ, arith}}
 use Rattle.lists.{specs.Lists.{range, count, member}, proofs.Count.{count_less}, proofs.Range.{range_in, in_range}}
 use Rattle.mesh.{specs.Limits.{max_neighbours}, specs.Graph.{Link, Graph, graph, InLinks, radios, other_ends, linked, neighbours_among, degree, relinked}}
 use Rattle.mesh.{specs.Graph.{new_links, proper, ascending, Allowed}, proofs.GraphLaws.{Ends, ends, ends_of, linked_by, linked_by_cons, linked_sym, joins}}

@@ -1,5 +1,6 @@
 -- Demand 3, closed: by induction over the list of calls, from the theory of mesh.
-use Rattle.lists.specs.Kit.{◌≡◌, refl, ap, sym, subst, ◌∙◌, Bool, true, List, [], ◌∷◌, ◌++◌, none, ℕ, zero, suc, ◌<◌, arith}
+use Rattle.std.specs.Prelude.{◌≡◌, ◌∷◌, ◌++◌, ◌<◌}
+use Rattle.lists.specs.Kit.{refl, ap, sym, subst, ◌∙◌, Bool, true, List, [], none, ℕ, zero, suc, arith}
 use Rattle.mesh.{specs.Graph.{Link, graph}, specs.Cores.{Core}, specs.Orders.{is_k_order}, specs.Tables.{Tables, tables_of}, specs.Sound.{number_in}}
 use Rattle.mesh.{specs.Levels.{changed}, specs.Image.{image_links}, proofs.Cores.Peeling.{number_core, get_d_numbers}}
 use Rattle.calls.specs.{Questions.{lengths_of, answer_length, tables_refusal, read_refusal}, Outcomes.{Tabled, tabled, clear_outcome}}

@@ -2,14 +2,15 @@
 --   Alike         what link calls leave holds the pairs, the order and the answers of a state
 --   by_state      a row that is right on pairs and order is right over the outcomes, whatever the lent tables held
 -- In order: what is lent, what calls answer, the state, link calls, what is wanted, rows.
-use Rattle.lists.{specs.Kit.{◌≡◌, refl, ap, sym, ◌∙◌, true, false, ◌&&◌, List, [], ◌∷◌, ◌++◌, flat_map, ℕ, zero, suc, ◌+◌, ◌*◌, ◌≤◌, arith, eqb, length, take}}
+use Rattle.std.specs.Prelude.{◌≡◌, ◌&&◌, ◌∷◌, ◌++◌, ◌+◌, ◌*◌, ◌≤◌}
+use Rattle.lists.{specs.Kit.{refl, ap, sym, ◌∙◌, true, false, List, [], flat_map, ℕ, zero, suc, arith, eqb, length, take}}
 use Rattle.lists.{specs.Kit.{length-map, eqb-true, eq-eqb}, specs.Lists.{range, same, overwrite}, proofs.Tests.{never, and_left, and_right, and_both}}
 use Rattle.lists.{proofs.Range.{length_range}, proofs.All.{same_refl, same_eq}, proofs.Overwrite.{take_overwrite}}
 use Rattle.mesh.{specs.Limits.{max_neighbours, row_bytes}, specs.Graph.{Link, Graph, graph, radios}, specs.Staircase.{staircase, link_entries}}
 use Rattle.mesh.{specs.Levels.{changed}, specs.Tables.{Tables, graph_in, tables_of}, specs.Sound.{sound}, specs.Connected.{core_of, backbone}}
 use Rattle.mesh.{specs.Tree.{node, node_name, tree, node_names}, specs.Image.{long, image_of}, specs.declared.Node.{Node}, proofs.Images.Of.{length_image_of}}
 use Rattle.calls.specs.{Questions.{lengths_of, size_good, image_length, tables_refusal, ends_refusal, read_refusal}}
-use Rattle.calls.specs.{Switches.{Switch, switched}, Outcomes.{link_outcome, Tabled, Listing, reply, value, listing_outcome, clear_outcome}}
+use Rattle.calls.specs.{Switches.{Switch, switched}, Outcomes.{link_outcome, Tabled, Listing, value, listing_outcome, clear_outcome}}
 use Rattle.calls.specs.{Outcomes.{read_outcome, write_outcome, tree_outcome}, Book.{beginning_tables}, Worked.{entries, lent_tables, lent_nodes, Left}}
 use Rattle.calls.specs.{Worked.{left, left_by, played, after, Want, last_answers, all_numbers, whole_order, shell_tree, connected_core, backbone_radios}}
 use Rattle.calls.specs.{Worked.{image_checks, printed, soundness, staircase_list, formerly, script, bad_text, image_reading, same_nodes, block_checks}}

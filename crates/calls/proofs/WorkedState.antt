@@ -1,10 +1,11 @@
 -- Worked cases played on the book's pairs and the order, for computing: the outcomes read the links table bit by bit and put question 3
 -- at each call, which takes too long. That both come to the same is `by_state` in WorkedLaws.antt.
 --   State            the book's pairs, the order, and the answers so far
---   state-after      link calls made one after the other
---   state-right      is a row right on pairs and order
+--   state_after      link calls made one after the other
+--   state_right      is a row right on pairs and order
 --   compute          what a proof of rows unfolds
-use Rattle.lists.specs.{Kit.{Bool, true, ◌&&◌, cond, List, [], ◌∷◌, ◌++◌, flat_map, ℕ, zero, suc, ◌*◌, ◌-◌, eqb, length, drop, take}, Lists.{range, count}}
+use Rattle.std.specs.Prelude.{◌&&◌, ◌∷◌, ◌++◌, ◌*◌, ◌-◌}
+use Rattle.lists.specs.{Kit.{Bool, true, cond, List, [], flat_map, ℕ, zero, suc, eqb, length, drop, take}, Lists.{range, count}}
 use Rattle.lists.specs.{Lists.{filter, member, all, same, head_or}}
 use Rattle.mesh.specs.{Limits.{max_neighbours, former_neighbours, row_bytes}, Graph.{Link, graph, radios, other_ends, linked, neighbours_among, degree, link}}
 use Rattle.mesh.specs.{Graph.{link_before, same_link, with_link, without_link, new_links, relinked, proper, ascending}, Cores.{survivors, peeled, cores_from}}

@@ -1,12 +1,13 @@
--- Links taken up one by one (document 02, W213): two entries of a list a link, until one is refused.
+-- Links taken up one by one (document 02, W-213): two entries of a list a link, until one is refused.
 --   list_length k            question 2 of the list: k entries are whole links
---   batch-refusal            questions 1 to 3 of a batch
---   up-refusal n a b ps      questions 4 to 7 of taking up the link between a and b, by the pairs before it
---   batch-switches n xs ps   the links of the list xs that go up, by the pairs before the batch
---   batch-stop n xs ps       the number of the link that is refused, or 0
+--   batch_refusal            questions 1 to 3 of a batch
+--   up_refusal n a b ps      questions 4 to 7 of taking up the link between a and b, by the pairs before it
+--   batch_switches n xs ps   the links of the list xs that go up, by the pairs before the batch
+--   batch_stop n xs ps       the number of the link that is refused, or 0
 --   ups xs                   every link of the list xs, going up
 -- Definitions only.
-use Rattle.lists.specs.Kit.{Bool, true, List, [], ◌∷◌, ℕ, ◌%◌, eqb}
+use Rattle.std.specs.Prelude.{◌∷◌, ◌%◌}
+use Rattle.lists.specs.Kit.{Bool, true, List, [], ℕ, eqb}
 use Rattle.mesh.specs.{Limits.{max_neighbours}, Graph.{Link, graph, new_links}}
 use Rattle.calls.specs.{Questions.{by_number, Lengths, site_refusal, ends_refusal}, Switches.{Switch, switch}}
 

@@ -6,15 +6,16 @@
 --   outcome           what the book makes of a call: answers, what it begins anew from, the links that it takes up or down, and what it
 --                     does with a mark
 --   pairs_of          the pairs after an outcome
---   book-answers, book-after   answers and pairs of a list of calls
+--   book_answers, book_after   answers and pairs of a list of calls
 --   History           what it began from, and the accepted link calls since
 --   Past              the link history, and for each mark set the history at that moment
 --   recalled          the history that coming back to a mark restores
 --   history           the link history after a list of calls
---   all-leave x i     no accepted call of a list sets, replaces or removes a mark of the name x and the image i
+--   all_leave x i     no accepted call of a list sets, replaces or removes a mark of the name x and the image i
 -- A further call is a constructor of `Call` and a clause of `outcome` here, and a clause of `Does` in specs/Runs.antt.
 -- Definitions only.
-use Rattle.lists.specs.{Kit.{Bool, true, false, ◌&&◌, ◌||◌, not, cond, List, [], ◌∷◌, ◌++◌, Option, none, some, ℕ, ℤ, pos, length}, Lists.{range}}
+use Rattle.std.specs.Prelude.{◌&&◌, ◌||◌, ◌∷◌, ◌++◌}
+use Rattle.lists.specs.{Kit.{Bool, true, false, not, cond, List, [], Option, none, some, ℕ, ℤ, pos, length}, Lists.{range}}
 use Rattle.lists.specs.{Lists.{same}}
 use Rattle.mesh.specs.{Limits.{max_neighbours}, Graph.{Link, graph}, Levels.{changed, step_of}, Tables.{Tables, tables_of, graph_in}, Image.{image_links}}
 use Rattle.mesh.specs.{Image.{image_graph, image_order}}
@@ -24,7 +25,7 @@ use Rattle.calls.specs.{Switches.{pairs_after}}
 use Rattle.calls.specs.{Switches.{tables_after}, Batches.{batch_refusal, batch_switches, batch_stop}, Heard.{hear_refusal, one_sided_count}}
 use Rattle.calls.specs.{Heard.{heard_switches}, Marks.{set_refusal, named_refusal, is_marked, mark_image}}
 
--- document 01, with the calls of W205, W210, W211 and W213
+-- document 01, with the calls of W-205, W-210, W-211 and W-213
 -- what the book is given of a call, beside the lengths of links, numbers and order: `answer` is the answer table's length, `further` that of
 -- the table that marks one-sided pairs
 pub data Call : Type 0 where
@@ -50,7 +51,7 @@ pub record Answer : Type 0 where
 unfoldable pub reported : (up : Bool) → (changed : List ℕ) → Answer
 reported up cs = record { number = 0; step = step_of up cs; count = length cs; listed = cs }
 
--- document 02, W210: an accepted committing
+-- document 02, W-210: an accepted committing
 unfoldable pub committed : (up : Bool) → (changed : List ℕ) → Answer
 committed up cs = record { number = 0; step = step_of up cs; count = length cs; listed = [] }
 
@@ -66,7 +67,7 @@ pub data Beginning : Type 0 where
   from_clearing : (n : ℕ) → Beginning
   from_image : (n : ℕ) → (image : List ℕ) → Beginning
 
--- document 02, W211: what a call does with the mark of a name (W211): setting replaces the image that the store had under the name, if it had one
+-- document 02, W-211: what a call does with the mark of a name (W-211): setting replaces the image that the store had under the name, if it had one
 pub data Marking : Type 0 where
   no_mark : Marking
   sets : (name : List ℕ) → (replaced : Option (List ℕ)) → Marking
@@ -93,11 +94,11 @@ outcome_of hs b ss = outcome_with hs b ss no_mark
 abbrev pub unless_refused : (refusal : ℕ) → Outcome → Outcome
 unless_refused R o = by_number R o (λ q. outcome_of (counted q 0 ∷ []) none [])
 
--- the image that the store has under the name, if it has one (W211)
+-- the image that the store has under the name, if it has one (W-211)
 unfoldable pub image_under : (n : ℕ) → (name store : List ℕ) → Option (List ℕ)
 image_under n x bs = cond (is_marked x bs) (some (mark_image n x bs)) none
 
--- document 01, with the calls of W205, W210, W211 and W213
+-- document 01, with the calls of W-205, W-210, W-211 and W-213
 -- each call is put its questions: 3 gets yes, 6 and 7 are asked of the pairs; any other call is passed over
 unfoldable pub outcome : Call → Lengths → (pairs : List Link) → Outcome
 outcome (clearing n) l ps = unless_refused (tables_refusal n l) (outcome_of (counted 0 0 ∷ []) (some (from_clearing n)) [])
@@ -189,14 +190,14 @@ unfoldable pub beginning_tables : Beginning → Tables
 beginning_tables (from_clearing n) = tables_of (graph n []) (range 0 n)
 beginning_tables (from_image n bs) = tables_of (image_graph n bs) (image_order n bs)
 
--- document 02, W211: the image of the tables that a history leaves
+-- document 02, W-211: the image of the tables that a history leaves
 unfoldable pub image_at : History → List ℕ
 image_at h =
     let n = site_size h.began in
     let v = tables_after n h.calls (beginning_tables h.began) in
     image_of (graph_in n v.links) v.order
 
--- ---- marks (W211)
+-- ---- marks (W-211)
 
 -- a mark set: its name, and the history at that moment
 pub record Marked : Type 0 where

@@ -1,6 +1,7 @@
 -- The contract of each public call: its result, with what is lent to be written as it is after the call, is the outcome worked out.
 -- What is lent to be read stands once: no call can change it. Definitions only.
-use Rattle.lists.specs.Kit.{◌≡◌, Bool, List, ℕ, ℤ}
+use Rattle.std.specs.Prelude.{◌≡◌}
+use Rattle.lists.specs.Kit.{Bool, List, ℕ, ℤ}
 use Rattle.mesh.specs.{Tables.{Tables}, declared.Node.{Node}}
 use Rattle.calls.specs.{Outcomes.{tabled, linked_with, listing, clear_outcome, read_outcome}}
 use Rattle.calls.specs.{Outcomes.{link_outcome, ask_outcome, commit_outcome, batch_outcome, hear_outcome, check_outcome, number_outcome}}
@@ -17,7 +18,7 @@ ClearContract n t r v = tabled r v ≡ clear_outcome n t
 unfoldable pub ReadContract : (n : ℕ) → (image : List ℕ) → Tables → (r : ℕ) → (after : Tables) → Type 0
 ReadContract n bs t r v = tabled r v ≡ read_outcome n bs t
 
--- document 02, W211
+-- document 02, W-211
 unfoldable pub ReturnContract : (n : ℕ) → (name store : List ℕ) → Tables → (r : ℕ) → (after : Tables) → Type 0
 ReturnContract n x bs t r v = tabled r v ≡ return_outcome n x bs t
 
@@ -87,11 +88,11 @@ unfoldable pub TreeContract :
     (n : ℕ) → Tables → (nodes : List Node) → (answer : List ℕ) → Value → (nodes_after : List Node) → (answer_after : List ℕ) → Type 0
 TreeContract n t m w r p x = listing r (p, x) ≡ tree_outcome n t m w
 
--- document 02, W211
+-- document 02, W-211
 unfoldable pub SetContract : (n : ℕ) → (name : List ℕ) → Tables → (store : List ℕ) → (r : ℕ) → (after : List ℕ) → Type 0
 SetContract n x t bs r cs = listing r cs ≡ set_outcome n x t bs
 
--- document 02, W211
+-- document 02, W-211
 unfoldable pub RemoveContract : (n : ℕ) → (name : List ℕ) → Tables → (store : List ℕ) → (r : ℕ) → (after : List ℕ) → Type 0
 RemoveContract n x t bs r cs = listing r cs ≡ remove_outcome n x t bs
 

@@ -1,6 +1,7 @@
 -- Document 01's cases M1 to M10, and further cases of documents 01 and 02, as one table. That every row is right is `cases_right` in proofs/Cases.antt.
 -- Definitions only.
-use Rattle.lists.specs.{Kit.{List, [], ◌∷◌, ◌++◌, map, ℕ}, Lists.{range}}
+use Rattle.std.specs.Prelude.{◌∷◌, ◌++◌}
+use Rattle.lists.specs.{Kit.{List, [], map, ℕ}, Lists.{range}}
 use Rattle.mesh.specs.Tree.{node}
 use Rattle.calls.specs.{Switches.{Switch}, Worked.{up, down, risen, fallen, unchanged, refused, last_answers, all_numbers, whole_order, shell_tree}}
 use Rattle.calls.specs.{Worked.{connected_core, backbone_radios, image_checks, printed, staircase_list, formerly, script, bad_text, Row, row}}
@@ -74,7 +75,7 @@ unfoldable pub m6 : Row
 m6 = row 7 two_triangles_tied (
     connected_core 6 1 0 (0 ∷ 1 ∷ 2 ∷ 3 ∷ 4 ∷ 5 ∷ 6 ∷ []) ∷ connected_core 6 2 8 [] ∷ [])
 
--- M7: triangle 0 1 2, pair 3 4: backbone 0 1 2 3 4, since each part has its own (document 02, W202)
+-- M7: triangle 0 1 2, pair 3 4: backbone 0 1 2 3 4, since each part has its own (document 02, W-202)
 unfoldable pub m7 : Row
 m7 = row 5 (triangle 0 1 2 ++ (up 3 4 ∷ [])) (backbone_radios (0 ∷ 1 ∷ 2 ∷ 3 ∷ 4 ∷ []) ∷ [])
 
@@ -112,7 +113,7 @@ m10 = row 42 (map (up 0) (range 1 40) ++ (up 0 41 ∷ up 41 0 ∷ up 0 1 ∷ dow
     ∷ all_numbers (1 ∷ 0 ∷ map (λ v. 1) (range 2 40))
     ∷ [])
 
--- before document 02's W208 a 32nd neighbour was taken, and a 33rd got 7
+-- before document 02's W-208 a 32nd neighbour was taken, and a 33rd got 7
 unfoldable pub former_32 : Row
 former_32 = row 34 (map (up 0) (range 1 31)) (formerly 0 32 0 ∷ [])
 
@@ -128,7 +129,7 @@ staircase_m4 = row 6 (two_triangles ++ (up 2 3 ∷ [])) (
 unfoldable pub texts : Row
 texts = row 12 (up 9 0 ∷ up 0 11 ∷ []) (script ("radios 12\n" ∷ "up 0 9\n" ∷ "up 0 11\n" ∷ []) ∷ bad_text 12 "bad 12\n" ∷ [])
 
--- document 02, W214: the same calls in two arrangements. Numbers, shell tree, backbone and staircase tree are equal, orders and images differ
+-- document 02, W-214: the same calls in two arrangements. Numbers, shell tree, backbone and staircase tree are equal, orders and images differ
 unfoldable pub one_hub : Row
 one_hub = row 4 (up 0 1 ∷ up 2 3 ∷ []) (
     last_answers (risen (0 ∷ 1 ∷ []) ∷ risen (2 ∷ 3 ∷ []) ∷ [])

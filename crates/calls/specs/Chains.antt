@@ -1,10 +1,11 @@
 -- Names for the questions and the stores that one call's outcome alone says, for the code that asks them and its proofs.
---   nodes-length .. holds-script         questions 2, 9, 12 and 13 of one lent list
---   source-refusal                       15 and 11
---   link-refusal .. lift-refusal         the first "no" of the call's questions, or 0
---   set-store, removed-store             the store after an accepted call on marks
+--   nodes_length .. holds_script         questions 2, 9, 12 and 13 of one lent list
+--   source_refusal                       15 and 11
+--   link_refusal .. lift_refusal         the first "no" of the call's questions, or 0
+--   set_store, removed_store             the store after an accepted call on marks
 -- No statement cites them. Definitions only.
-use Rattle.lists.specs.Kit.{Bool, true, ◌&&◌, not, List, ℕ, ◌+◌, ◌*◌, leb}
+use Rattle.std.specs.Prelude.{◌&&◌, ◌+◌, ◌*◌}
+use Rattle.lists.specs.Kit.{Bool, true, not, List, ℕ, leb}
 use Rattle.mesh.specs.{Limits.{max_neighbours}, Graph.{Graph}, Tables.{Tables, graph_in}, Image.{image_of, other_size, is_image}, Marks.{place_of, marks_in}}
 use Rattle.mesh.specs.{Marks.{store_of}}
 use Rattle.mesh.specs.Marks.{with_mark, without_mark}
@@ -14,18 +15,18 @@ use Rattle.calls.specs.{Lift.{lifting, is_lifted}, Sheet.{sheet_length}, Script.
 abbrev pub nodes_length : (n nodes : ℕ) → Bool
 nodes_length n w = leb (n + 1) w
 
--- document 02, W209: two entries a link, and there are fewer links than radios
+-- document 02, W-209: two entries a link, and there are fewer links than radios
 abbrev pub staircase_length : (n table : ℕ) → Bool
 staircase_length n w = leb (2 * n) w
 
 abbrev pub holds_image : Graph → (buffer : ℕ) → Bool
 holds_image g room = leb (image_length g) room
 
--- document 02, W201: does the page hold the site sheet?
+-- document 02, W-201: does the page hold the site sheet?
 abbrev pub holds_sheet : (n page : ℕ) → Bool
 holds_sheet n room = leb (sheet_length n) room
 
--- document 02, W203: does the text buffer hold the script?
+-- document 02, W-203: does the text buffer hold the script?
 abbrev pub holds_script : Graph → (text : ℕ) → Bool
 holds_script g room = leb (script_length g) room
 
@@ -53,7 +54,7 @@ backbone_refusal n l w sound = site_refusal n l (answer_length n w) sound 0
 abbrev pub tree_refusal : (n : ℕ) → Lengths → (nodes answer : ℕ) → (sound : Bool) → ℕ
 tree_refusal n l m w sound = site_refusal n l (nodes_length n m && answer_length n w) sound 0
 
--- document 02, W209: the staircase tree: 1 to 3
+-- document 02, W-209: the staircase tree: 1 to 3
 abbrev pub staircase_refusal : (n : ℕ) → Lengths → (table : ℕ) → (sound : Bool) → ℕ
 staircase_refusal n l w sound = site_refusal n l (staircase_length n w) sound 0
 
@@ -61,15 +62,15 @@ staircase_refusal n l w sound = site_refusal n l (staircase_length n w) sound 0
 abbrev pub write_refusal : (n : ℕ) → Lengths → (buffer : ℕ) → (sound : Bool) → Graph → ℕ
 write_refusal n l room sound g = site_refusal n l true sound (ask 9 (holds_image g room) 0)
 
--- document 02, W201: the site sheet: 1 to 3 and 12
+-- document 02, W-201: the site sheet: 1 to 3 and 12
 abbrev pub sheet_refusal : (n : ℕ) → Lengths → (page : ℕ) → (sound : Bool) → ℕ
 sheet_refusal n l room sound = site_refusal n l true sound (ask 12 (holds_sheet n room) 0)
 
--- document 02, W203: a script's length: 1 to 3
+-- document 02, W-203: a script's length: 1 to 3
 abbrev pub script_length_refusal : (n : ℕ) → Lengths → (sound : Bool) → ℕ
 script_length_refusal n l sound = site_refusal n l true sound 0
 
--- document 02, W203: the script: 1 to 3 and 13
+-- document 02, W-203: the script: 1 to 3 and 13
 abbrev pub script_refusal : (n : ℕ) → Lengths → (text : ℕ) → (sound : Bool) → Graph → ℕ
 script_refusal n l room sound g = site_refusal n l true sound (ask 13 (holds_script g room) 0)
 
@@ -77,7 +78,7 @@ script_refusal n l room sound g = site_refusal n l true sound (ask 13 (holds_scr
 abbrev pub block_refusal : (image : List ℕ) → ℕ
 block_refusal bs = blocks_refusal bs 0
 
--- document 02, W212: one link that lifts a radio: 1 to 4 and 20
+-- document 02, W-212: one link that lifts a radio: 1 to 4 and 20
 abbrev pub lift_refusal : (n v : ℕ) → Lengths → (sound : Bool) → Graph → ℕ
 lift_refusal n v l sound g = site_refusal n l true sound (ask 4 (is_radio n v) (ask 20 (is_lifted (lifting g v)) 0))
 

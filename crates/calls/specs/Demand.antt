@@ -6,7 +6,8 @@
 --   Kept              what the list keeps: tables, answers, each call, each accepted link call
 --   Demand3          every list of calls from such a start keeps it
 -- The proof is `demand_3` in proofs/WholeList.antt. Definitions only.
-use Rattle.lists.specs.{Kit.{◌≡◌, ◌⊎◌, Bool, true, false, List, [], ◌∷◌, ◌++◌, none, some, ℕ, suc, ◌+◌, ◌<◌, length, take, drop}, Lists.{member}}
+use Rattle.std.specs.Prelude.{◌≡◌, ◌⊎◌, ◌∷◌, ◌++◌, ◌+◌, ◌<◌}
+use Rattle.lists.specs.{Kit.{Bool, true, false, List, [], none, some, ℕ, suc, length, take, drop}, Lists.{member}}
 use Rattle.mesh.specs.{Graph.{Link, Graph, graph, relinked, new_links}, Cores.{Core, number, numbers}, Orders.{is_k_order}, Levels.{changed, lower_level}}
 use Rattle.mesh.specs.{Levels.{stretch_start, stretch_length, new_stretch}, Tables.{Tables, put_link, links_table, graph_in}, Sound.{sound, number_in}}
 use Rattle.mesh.specs.{Connected.{Reachable}, Image.{image_links}}

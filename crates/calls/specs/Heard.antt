@@ -1,17 +1,18 @@
--- Links that both ends hear (document 02, W205). A heard table has the shape of the links table: row a says whom a hears.
+-- Links that both ends hear (document 02, W-205). A heard table has the shape of the links table: row a says whom a hears.
 --   agreed hs a b           each of a and b hears the other
---   agreed-degree n hs a    how many agreed links a has
---   heard-alone hs a b      a hears b, and b does not hear a
+--   agreed_degree n hs a    how many agreed links a has
+--   heard_alone hs a b      a hears b, and b does not hear a
 --   one-sided n hs          the further table: it marks these pairs, and all its other bits are zero
 --   one_sided_count n hs    how many these pairs are
---   heard-lengths           question 2 of the heard and the further table
---   heard-proper n hs       question 14
---   agreed-few most n hs    question 7: agreed links of each radio
---   hear-refusal            the first "no" of the call's questions, or 0
---   switches-where up n f   the links that pass the test f going up or down, by lower radio and then higher
---   heard-switches g hs     the links to go down, then the links to come up
+--   heard_lengths           question 2 of the heard and the further table
+--   heard_proper n hs       question 14
+--   agreed_few most n hs    question 7: agreed links of each radio
+--   hear_refusal            the first "no" of the call's questions, or 0
+--   switches_where up n f   the links that pass the test f going up or down, by lower radio and then higher
+--   heard_switches g hs     the links to go down, then the links to come up
 -- Definitions only.
-use Rattle.lists.specs.{Kit.{Bool, true, false, ◌&&◌, not, List, ◌++◌, map, flat_map, ℕ, suc, ◌*◌, ◌-◌, leb, eqb, length}, Lists.{range, count, total, filter}}
+use Rattle.std.specs.Prelude.{◌&&◌, ◌++◌, ◌*◌, ◌-◌}
+use Rattle.lists.specs.{Kit.{Bool, true, false, not, List, map, flat_map, ℕ, suc, leb, eqb, length}, Lists.{range, count, total, filter}}
 use Rattle.lists.specs.{Lists.{all}}
 use Rattle.mesh.specs.{Limits.{max_neighbours, row_bytes}, Graph.{Graph, linked}, Tables.{marked, bit_table}, Sound.{irreflexive, within}}
 use Rattle.calls.specs.{Questions.{Lengths, ask, site_refusal}, Switches.{Switch, switch}}

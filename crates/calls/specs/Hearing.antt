@@ -5,7 +5,8 @@
 --   RowLeft         of row a the radios bs are left, and the rows after it
 --   downs, ups       the two phases
 -- Laws are in proofs/HearingLaws.antt. Definitions only.
-use Rattle.lists.specs.{Kit.{◌≡◌, Bool, true, false, ◌&&◌, List, [], ◌++◌, map, flat_map, ℕ, suc, ◌-◌, ◌≤◌, ◌<◌}, Lists.{range, filter, In, Ascending}}
+use Rattle.std.specs.Prelude.{◌≡◌, ◌&&◌, ◌++◌, ◌-◌, ◌≤◌, ◌<◌}
+use Rattle.lists.specs.{Kit.{Bool, true, false, List, [], map, flat_map, ℕ, suc}, Lists.{range, filter, In, Ascending}}
 use Rattle.mesh.specs.Tables.{Tables, marked, graph_in}
 use Rattle.calls.specs.{Switches.{Switch, switch, tables_after, AllAllowed}, Heard.{agreed, row_switches, switches_where, goes_down, comes_up}}
 use Rattle.calls.specs.{Heard.{heard_switches}}

@@ -1,11 +1,12 @@
--- One link that lifts a radio (document 02, W212).
+-- One link that lifts a radio (document 02, W-212).
 --   lifts g v l      a link call would take the link l up now (questions 4 to 7), and the core number of v would be greater with it
---   lifting-from     the pairs that lift v and have the lower radio a, by the higher radio
+--   lifting_from     the pairs that lift v and have the lower radio a, by the higher radio
 --   lifting g v      the pairs that lift v, by lower radio and then higher
---   first-pair ls    the first of them
---   is-lifted ls     20: is there a pair that lifts the radio?
+--   first_pair ls    the first of them
+--   is_lifted ls     20: is there a pair that lifts the radio?
 -- That these are core numbers by the largest group is `lift_core` in crate lifting. Definitions only.
-use Rattle.lists.specs.{Kit.{Bool, true, false, ◌&&◌, List, [], ◌∷◌, map, flat_map, ℕ, suc, ◌-◌, ltb, eqb}, Lists.{range, filter}}
+use Rattle.std.specs.Prelude.{◌&&◌, ◌∷◌, ◌-◌}
+use Rattle.lists.specs.{Kit.{Bool, true, false, List, [], map, flat_map, ℕ, suc, ltb, eqb}, Lists.{range, filter}}
 use Rattle.mesh.specs.{Limits.{max_neighbours}, Graph.{Link, link_of, Graph, radios, relinked}, Cores.{number}}
 use Rattle.calls.specs.Questions.{ends_refusal}
 

@@ -1,4 +1,4 @@
--- The outcome of each call on named marks (W211) as an executable definition. The contract of a call (CallContracts.antt) is that its
+-- The outcome of each call on named marks (W-211) as an executable definition. The contract of a call (CallContracts.antt) is that its
 -- result and lent tables are this outcome. Definitions only.
 use Rattle.lists.specs.Kit.{List, ℕ}
 use Rattle.mesh.specs.{Tables.{Tables, tables_of, graph_in}, Sound.{sound}, Image.{image_of, image_graph, image_order}, Marks.{place_of, marks_in}}

@@ -1,15 +1,16 @@
--- Named marks (W211): questions 17 to 19, and the chains of the three calls.
---   marks-good        17. Do every place and the given name keep the rules?
---   is-marked         18. Is the name there?
---   has-place         19. Is the name there, or a place unused?
---   mark-refusal      1, 2 (the store's length too), 3, 17; then the later question
---   set-refusal       setting: 19 last
---   named-refusal     removing and coming back: 18 last
---   mark-image n x bs the image that the mark x of the store bs holds
+-- Named marks (W-211): questions 17 to 19, and the chains of the three calls.
+--   marks_good        17. Do every place and the given name keep the rules?
+--   is_marked         18. Is the name there?
+--   has_place         19. Is the name there, or a place unused?
+--   mark_refusal      1, 2 (the store's length too), 3, 17; then the later question
+--   set_refusal       setting: 19 last
+--   named_refusal     removing and coming back: 18 last
+--   mark_image n x bs the image that the mark x of the store bs holds
 -- Definitions only.
-use Rattle.lists.specs.Kit.{Bool, ◌&&◌, ◌||◌, List, ℕ, ltb, eqb, length}
-use Rattle.mesh.specs.{Tables.{Tables, graph_in}, Image.{image_of}, Marks.{places, store_bytes, is_name, is_store, image_in, place_of, marks_in, store_of}}
-use Rattle.mesh.specs.{Marks.{has_mark, found, with_mark, without_mark}}
+use Rattle.std.specs.Prelude.{◌&&◌, ◌||◌}
+use Rattle.lists.specs.Kit.{Bool, List, ℕ, ltb, eqb, length}
+use Rattle.mesh.specs.{Marks.{places, store_bytes, is_name, is_store, image_in, marks_in}}
+use Rattle.mesh.specs.{Marks.{has_mark, found}}
 use Rattle.calls.specs.Questions.{ask, Lengths, site_refusal}
 
 -- ---- questions

@@ -1,10 +1,11 @@
--- Document 02, W208: tables and images from before the limit on neighbours was raised, when it was `former_neighbours`.
+-- Document 02, W-208: tables and images from before the limit on neighbours was raised, when it was `former_neighbours`.
 --   WasSound                formerly sound
 --   former_read_refusal      reading's questions then
 --   former_read_outcome      what reading gave then
 --   Older                    what calls give of them: what they gave then, but that a link-up call refused by 7 is taken
 -- That it holds is `older` in proofs/Older.antt. Clearing and the block reader do not ask for the limit. Definitions only.
-use Rattle.lists.specs.Kit.{◌≡◌, Bool, true, List, ℕ, ◌≤◌}
+use Rattle.std.specs.Prelude.{◌≡◌, ◌≤◌}
+use Rattle.lists.specs.Kit.{Bool, true, List, ℕ}
 use Rattle.mesh.specs.{Limits.{max_radios, former_neighbours, size_good}, Tables.{Tables, graph_in, tables_of}, Sound.{sound_within, sound}}
 use Rattle.mesh.specs.{Image.{image_of, image_graph, image_order, is_image_within, is_image}}
 use Rattle.calls.specs.{Questions.{ask, by_number, Lengths, lengths_of, lent_refusal, blocks_refusal}, Outcomes.{Tabled, tabled, read_outcome}}
@@ -14,7 +15,7 @@ use Rattle.calls.specs.{Outcomes.{link_outcome_within, link_outcome}}
 abbrev pub WasSound : (n : ℕ) → Tables → Type 0
 WasSound n t = sound_within former_neighbours n t ≡ true
 
--- the former limit, and 11 for every image that is not one of n radios: 15 is document 02's, W207
+-- the former limit, and 11 for every image that is not one of n radios: 15 is document 02's, W-207
 unfoldable pub former_read_refusal : (n : ℕ) → Lengths → (image : List ℕ) → ℕ
 former_read_refusal n l bs = lent_refusal n l true (blocks_refusal bs (ask 11 (is_image_within former_neighbours n bs) 0))
 

@@ -1,10 +1,11 @@
 -- The outcome of each call as an executable definition: its result with the lent tables after it.
 --   Tabled, Linked, Listing              what a call comes to: its reply, with the tables, a further list, or what else is lent to be written
---   clear-outcome .. block-outcome       the outcome of each contract, from what the call is given
+--   clear_outcome .. block_outcome       the outcome of each contract, from what the call is given
 --   link_outcome_within most             a link call with that bound on neighbours in questions 3 and 7
 -- The contract of a call (CallContracts.antt) is that its result and lent tables are this outcome.
 -- Definitions only.
-use Rattle.lists.specs.{Kit.{Bool, true, false, ◌&&◌, cond, List, [], ◌∷◌, ℕ, ◌+◌, ◌*◌, ◌/◌, leb, ltb, eqb, ℤ, pos, length, replicate}, Lists.{range, head_or}}
+use Rattle.std.specs.Prelude.{◌&&◌, ◌∷◌, ◌+◌, ◌*◌, ◌/◌}
+use Rattle.lists.specs.{Kit.{Bool, true, false, cond, List, [], ℕ, leb, ltb, eqb, ℤ, pos, length, replicate}, Lists.{range, head_or}}
 use Rattle.lists.specs.{Lists.{overwrite}}
 use Rattle.mesh.specs.{Limits.{max_neighbours, row_bytes}, Graph.{linked, degree}, Cores.{number}, Orders.{later_in, nobody}, Levels.{changed, step_of}}
 use Rattle.mesh.specs.{Tables.{Tables, tables, graph_in, tables_of}, Sound.{sound_within, sound}, Connected.{core_of, backbone}, Tree.{tree, node_names}}
@@ -77,11 +78,11 @@ link_outcome up n a b t w = link_outcome_within max_neighbours up n a b t w
 
 -- ---- a link call in two steps
 
--- document 02, W210: the link call's reply and answer table
+-- document 02, W-210: the link call's reply and answer table
 unfoldable pub ask_outcome : (up : Bool) → (n a b : ℕ) → Tables → (answer : List ℕ) → Listing Reply (List ℕ)
 ask_outcome up n a b t w = let o = link_outcome up n a b t w in listing o.reply o.lent
 
--- document 02, W210: the reply, and the tables with the link switched
+-- document 02, W-210: the reply, and the tables with the link switched
 unfoldable pub commit_outcome : (up : Bool) → (n a b : ℕ) → (step : ℤ) → (list : List ℕ) → Tables → Tabled Reply
 commit_outcome up n a b z xs t =
     let g = graph_in n t.links in
@@ -92,20 +93,20 @@ commit_outcome up n a b z xs t =
 
 -- ---- a batch
 
--- document 02, W213: links taken up one by one: the number of the link refused, or 0, the count of links done, and the tables with these up
+-- document 02, W-213: links taken up one by one: the number of the link refused, or 0, the count of links done, and the tables with these up
 unfoldable pub links_taken : (n : ℕ) → (list : List ℕ) → Tables → Tabled Value
 links_taken n xs t =
     let ps = (graph_in n t.links).links in
     tabled (value (batch_stop n xs ps) (length (batch_switches n xs ps))) (tables_after n (batch_switches n xs ps) t)
 
--- document 02, W213
+-- document 02, W-213
 unfoldable pub batch_outcome : (n : ℕ) → (list : List ℕ) → Tables → Tabled Value
 batch_outcome n xs t =
     by_number (batch_refusal n (lengths_of t) (length xs) (sound n t)) (links_taken n xs t) (λ q. tabled (value q 0) t)
 
 -- ---- a hearing
 
--- document 02, W205: the count of one-sided pairs, the tables with the agreed links, and the further table, where w is what it holds before
+-- document 02, W-205: the count of one-sided pairs, the tables with the agreed links, and the further table, where w is what it holds before
 unfoldable pub hear_outcome : (n : ℕ) → (heard : List ℕ) → Tables → (further : List ℕ) → Linked Value
 hear_outcome n hs t w =
     by_number (hear_refusal n (lengths_of t) hs (length w) (sound n t))
@@ -140,11 +141,11 @@ first_outcome n a b t = value_outcome (pair_refusal n a b (lengths_of t) (sound 
 
 -- ---- the later neighbours of a radio
 
--- document 02, W206
+-- document 02, W-206
 abbrev pub later : (number count first : ℕ) → Later
 later r c v = record { number = r; count = c; first = v }
 
--- document 02, W206
+-- document 02, W-206
 unfoldable pub later_outcome : (n v : ℕ) → Tables → Later
 later_outcome n v t =
     let vs = later_in (linked (graph_in n t.links)) v t.order in
@@ -170,7 +171,7 @@ backbone_outcome n t w =
     let radios = backbone (graph_in n t.links) in
     listing_outcome (site_refusal n (lengths_of t) (answer_length n (length w)) (sound n t) 0) (length radios) radios w
 
--- document 02, W209: 1 to 3, where 2 asks for two entries a radio, since there are fewer links than radios; the kept links, two entries each
+-- document 02, W-209: 1 to 3, where 2 asks for two entries a radio, since there are fewer links than radios; the kept links, two entries each
 unfoldable pub staircase_outcome : (n : ℕ) → Tables → (table : List ℕ) → Listing Value (List ℕ)
 staircase_outcome n t w =
     let kept = staircase (graph_in n t.links) in
@@ -182,19 +183,19 @@ write_outcome n t w =
     let g = graph_in n t.links in
     listing_outcome (site_refusal n (lengths_of t) true (sound n t) (ask 9 (leb (image_length g) (length w)) 0)) (image_length g) (image_of g t.order) w
 
--- document 02, W201: 1 to 3, and 12: does the page hold the site sheet?
+-- document 02, W-201: 1 to 3, and 12: does the page hold the site sheet?
 unfoldable pub sheet_outcome : (n : ℕ) → Tables → (page : List ℕ) → Listing Value (List ℕ)
 sheet_outcome n t w =
     listing_outcome (site_refusal n (lengths_of t) true (sound n t) (ask 12 (leb (sheet_length n) (length w)) 0)) (sheet_length n) (sheet t.numbers) w
 
 -- ---- the script: its length, and the script itself
 
--- document 02, W203: 1 to 3
+-- document 02, W-203: 1 to 3
 unfoldable pub script_length_outcome : (n : ℕ) → Tables → Value
 script_length_outcome n t =
     value_outcome (site_refusal n (lengths_of t) true (sound n t) 0) (script_length (graph_in n t.links))
 
--- document 02, W203: 1 to 3, and 13: does the text buffer hold the script?
+-- document 02, W-203: 1 to 3, and 13: does the text buffer hold the script?
 unfoldable pub script_outcome : (n : ℕ) → Tables → (text : List ℕ) → Listing Value (List ℕ)
 script_outcome n t w =
     let g = graph_in n t.links in

@@ -2,13 +2,14 @@
 --   ask r yes later        question r: a "no" gives its number, a "yes" goes on
 --   by_number refusal accepted refused   what comes of the number that the questions give
 --   Lengths                the lengths of links, numbers and order
---   size-good .. is-image  questions 1 to 13, 15 and 16 (1 is `size_good`, 3 `sound`, 10 `checks_good`, 15 `other_size`, 11 `is_image` of mesh)
---   tables-refusal .. read-refusal   the first "no" of a call's questions, or 0; where one call alone puts them, its outcome says them (Outcomes.antt)
+--   size_good .. is_image  questions 1 to 13, 15 and 16 (1 is `size_good`, 3 `sound`, 10 `checks_good`, 15 `other_size`, 11 `is_image` of mesh)
+--   tables_refusal .. read_refusal   the first "no" of a call's questions, or 0; where one call alone puts them, its outcome says them (Outcomes.antt)
 -- A chain takes the answer to question 3 and the graph that 6 to 8 are put to, since the link book answers these from its
 -- pairs and gives 3 a yes. A chain `..-within most` asks with that bound on neighbours; without it, with a site's own. The numbers
 -- of document 02 stand where it puts them: 12 and 13 after 3, 16 after 7, 15 after 10.
 -- Definitions only.
-use Rattle.lists.specs.{Kit.{Bool, true, false, ◌&&◌, not, List, ℕ, zero, suc, ◌+◌, ◌*◌, ltb, leb, eqb, ℤ, pos, negsuc, length}, Lists.{same}}
+use Rattle.std.specs.Prelude.{◌&&◌, ◌*◌}
+use Rattle.lists.specs.{Kit.{Bool, true, false, not, List, ℕ, zero, suc, ltb, leb, eqb, ℤ, pos, negsuc, length}, Lists.{same}}
 use Rattle.mesh.specs.{Limits.{max_neighbours, row_bytes}, Graph.{Graph, linked, degree}, Cores.{number}, Levels.{changed, step_of}, Tables.{Tables}}
 use Rattle.mesh.specs.{Image.{block_bytes, block_count, whole_blocks, checks_good, other_size, is_image}}
 unfoldable pub use Rattle.mesh.specs.Limits.{size_good}
@@ -68,14 +69,14 @@ has_level g v k = leb k (number g v)
 
 -- ---- question 16: proposals
 
--- document 02, W210
+-- document 02, W-210
 unfoldable pub same_step : (x y : ℤ) → Bool
 same_step (pos a) (pos b) = eqb a b
 same_step (negsuc a) (negsuc b) = eqb a b
 same_step (pos a) (negsuc b) = false
 same_step (negsuc a) (pos b) = false
 
--- document 02, W210: 16. Are the list and the step exactly what asking would give now?
+-- document 02, W-210: 16. Are the list and the step exactly what asking would give now?
 unfoldable pub is_proposal : (up : Bool) → (a b : ℕ) → (step : ℤ) → (list : List ℕ) → Graph → Bool
 is_proposal up a b z xs g = let cs = changed up a b g in same_step z (step_of up cs) && same xs cs
 
@@ -114,7 +115,7 @@ abbrev pub link_refusal_within :
 link_refusal_within most up n a b l w sound g =
     site_refusal n l (answer_length n w) sound (ends_refusal most up n a b g)
 
--- document 02, W210: committing: 1 to 7 and 16; there is no answer table, and 2 does not ask for the list's length
+-- document 02, W-210: committing: 1 to 7 and 16; there is no answer table, and 2 does not ask for the list's length
 unfoldable pub commit_refusal :
     (up : Bool) → (n a b : ℕ) → (step : ℤ) → (list : List ℕ) → Lengths → (sound : Bool) → Graph → ℕ
 commit_refusal up n a b z xs l sound g =

@@ -1,12 +1,13 @@
 -- What the replay program prints, as bytes.
---   step-text s                   a step: +1, -1, 0
---   link-line number step cs      the line of a link call: refusal number, step, changed radios
---   numbers-line ns, order-line xs  the two closing lines
+--   step_text s                   a step: +1, -1, 0
+--   link_line number step cs      the line of a link call: refusal number, step, changed radios
+--   numbers_line ns, order_line xs  the two closing lines
 --   closing_lines ns xs           both
---   bad-line l                    what ends the run at line l of another form
---   answer-line h, lines hs ns xs the line of an answer; a line for each, then the closing lines
+--   bad_line l                    what ends the run at line l of another form
+--   answer_line h, lines hs ns xs the line of an answer; a line for each, then the closing lines
 -- Decimal numbers and lines of fields are in crate text. Definitions only.
-use Rattle.lists.specs.Kit.{List, [], ◌∷◌, ◌++◌, map, flat_map, ℕ, zero, suc, ℤ, pos, negsuc}
+use Rattle.std.specs.Prelude.{◌∷◌, ◌++◌}
+use Rattle.lists.specs.Kit.{List, [], map, flat_map, ℕ, zero, suc, ℤ, pos, negsuc}
 use Rattle.text.specs.Text.{bytes_of, decimal, printed_line}
 use Rattle.calls.specs.Book.{Answer}
 
@@ -39,6 +40,6 @@ bad_line l = printed_line (bytes_of "bad") (decimal l ∷ [])
 unfoldable pub answer_line : Answer → List ℕ
 answer_line x = link_line x.number x.step x.listed
 
--- document 02, W203: a line for each answer, then the closing lines
+-- document 02, W-203: a line for each answer, then the closing lines
 unfoldable pub lines : List Answer → (numbers order : List ℕ) → List ℕ
 lines hs ns xs = flat_map answer_line hs ++ closing_lines ns xs

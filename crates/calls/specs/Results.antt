@@ -19,7 +19,8 @@
 --   ImageAnswered    the number that reading answers where 1, 2, 9 and 10 got yes
 --   BlockPart, BlockEnd   what a step of the block reader gives
 -- Definitions only.
-use Rattle.lists.specs.{Kit.{◌≡◌, ◌↔◌, Bool, true, ◌&&◌, not, cond, List, eqb, ℕ, ◌+◌, ◌*◌, ◌/◌, ◌≤◌, ◌<◌, length, get_or, take, drop}, Lists.{range, total}}
+use Rattle.std.specs.Prelude.{◌≡◌, ◌↔◌, ◌&&◌, ◌+◌, ◌*◌, ◌/◌, ◌≤◌, ◌<◌}
+use Rattle.lists.specs.{Kit.{Bool, true, not, cond, List, eqb, ℕ, length, get_or, take, drop}, Lists.{range, total}}
 use Rattle.lists.specs.{Lists.{member, Ascending}}
 use Rattle.mesh.specs.{Limits.{max_radios, max_neighbours}, Graph.{Graph, graph, linked, relinked}, Cores.{Core, number}, Orders.{is_k_order, later_in, nobody}}
 use Rattle.mesh.specs.{Orders.{FirstLater}, Tables.{Tables, marked, graph_in}, Sound.{row_degree, rows_proper, number_in, sound}, Tree.{IsTree, NodeName}}
@@ -50,26 +51,26 @@ pub record LinkRight (up : Bool) (n a b : ℕ) (t v : Tables) (count : ℕ) (w x
   pub right : SiteRight n v
   pub listed : Listed count w x
 
--- document 02, W210: g is the graph in the tables; a radio is listed exactly if its core number would differ
+-- document 02, W-210: g is the graph in the tables; a radio is listed exactly if its core number would differ
 pub record AskRight (up : Bool) (a b : ℕ) (g : Graph) (count : ℕ) (w x : List ℕ) : Type 0 where
   pub exactly :
       (v j k : ℕ) → v < g.n → Core g v j → Core (relinked up a b g) v k → (member v (take count x) ≡ true) ↔ (j ≡ k → ⊥)
   pub listed : Listed count w x
 
--- document 02, W210: t and v are the tables before and after
+-- document 02, W-210: t and v are the tables before and after
 pub record CommitRight (up : Bool) (n a b : ℕ) (t v : Tables) : Type 0 where
   pub graph : graph_in n v.links ≡ relinked up a b (graph_in n t.links)
   pub right : SiteRight n v
 
 -- ---- a batch
 
--- document 02, W213: t and v are the tables before and after: the graph is what the links done make of it, which are all where the number is 0
+-- document 02, W-213: t and v are the tables before and after: the graph is what the links done make of it, which are all where the number is 0
 pub record BatchRight (n : ℕ) (list : List ℕ) (t v : Tables) (r : Value) : Type 0 where
   pub graph : graph_in n v.links ≡ graph n (pairs_after (ups (take (2 * r.value) list)) (graph_in n t.links).links)
   pub right : SiteRight n v
   pub all : r.number ≡ 0 → 2 * r.value ≡ length list
 
--- document 02, W213: the links before place `value` of the list are up, as single calls leave them, and the link at that place is refused by that number
+-- document 02, W-213: the links before place `value` of the list are up, as single calls leave them, and the link at that place is refused by that number
 -- of the tables as they are left
 pub record BatchStopped (n : ℕ) (xs : List ℕ) (t : Tables) (r : Value) (v : Tables) : Type 0 where
   pub there : 2 * r.value + 1 < length xs
@@ -77,7 +78,7 @@ pub record BatchStopped (n : ℕ) (xs : List ℕ) (t : Tables) (r : Value) (v : 
   pub refused :
       r.number ≡ ends_refusal max_neighbours true n (get_or xs (2 * r.value) 0) (get_or xs (2 * r.value + 1) 0) (graph_in n v.links)
 
--- document 02, W213: the reply and the tables of a single call, the value and the tables of a batch
+-- document 02, W-213: the reply and the tables of a single call, the value and the tables of a batch
 pub record BatchSingle (q : Reply) (u : Tables) (r : Value) (v : Tables) : Type 0 where
   pub number : r.number ≡ q.number
   pub value : r.value ≡ cond (eqb q.number 0) 1 0
@@ -85,7 +86,7 @@ pub record BatchSingle (q : Reply) (u : Tables) (r : Value) (v : Tables) : Type 
 
 -- ---- a hearing
 
--- document 02, W205: t and v are the tables before and after, x is the further table after
+-- document 02, W-205: t and v are the tables before and after, x is the further table after
 pub record HearRight (n : ℕ) (heard : List ℕ) (t v : Tables) (r : Value) (x : List ℕ) : Type 0 where
   -- no single call would be refused
   pub allowed : AllAllowed n (graph_in n t.links).links (heard_switches (graph_in n t.links) heard)
@@ -99,7 +100,7 @@ pub record HearRight (n : ℕ) (heard : List ℕ) (t v : Tables) (r : Value) (x 
 
 -- ---- later neighbours
 
--- document 02, W206: xs is the order
+-- document 02, W-206: xs is the order
 pub record LaterRight (g : Graph) (v : ℕ) (xs : List ℕ) (count first : ℕ) : Type 0 where
   pub counted : count ≡ length (later_in (linked g) v xs)
   pub some : 0 < count → FirstLater (linked g) v first xs
@@ -123,25 +124,25 @@ pub record TreeListed (g : Graph) (count : ℕ) (m p : List Node) (w x : List �
 
 -- ---- the site sheet
 
--- document 02, W201: the first `size` bytes are the sheet, 65 a line, with each radio's core number in its cell; later bytes keep their content
+-- document 02, W-201: the first `size` bytes are the sheet, 65 a line, with each radio's core number in its cell; later bytes keep their content
 pub record SheetRight (n : ℕ) (t : Tables) (size : ℕ) (w x : List ℕ) : Type 0 where
   pub long : size ≡ line_bytes * sheet_lines n
   pub page : take size x ≡ sheet t.numbers
   pub columns : Columns n (number (graph_in n t.links)) x
   pub later_bytes : drop size x ≡ drop size w
 
--- document 02, W203: the first `size` bytes are the script; later bytes keep their content
+-- document 02, W-203: the first `size` bytes are the script; later bytes keep their content
 pub record ScriptRight (n : ℕ) (t : Tables) (size : ℕ) (w x : List ℕ) : Type 0 where
   pub long : size ≡ length (script_of (graph_in n t.links))
   pub text : take size x ≡ script_of (graph_in n t.links)
   pub later_bytes : drop size x ≡ drop size w
 
--- document 02, W203: of the same tables: `length` is the length beforehand, `room` the text buffer's; number and value are writing's
+-- document 02, W-203: of the same tables: `length` is the length beforehand, `room` the text buffer's; number and value are writing's
 pub record ScriptBeforehand (length room number value : ℕ) : Type 0 where
   pub written : length ≤ room → (number ≡ 0) × (value ≡ length)
   pub refused : room < length → (number ≡ 13) × (value ≡ 0)
 
--- document 02, W209: w and x are the lent table before and after the call
+-- document 02, W-209: w and x are the lent table before and after the call
 pub record StaircaseListed (g : Graph) (count : ℕ) (w x : List ℕ) : Type 0 where
   -- the kept links stand in front, two entries each; later entries keep their content
   pub counted : count ≡ length (staircase g)
@@ -165,7 +166,7 @@ pub record ReadRight (n : ℕ) (image : List ℕ) (v : Tables) : Type 0 where
   pub right : NumbersRight (image_graph n image) v
   pub same_bytes : image_of (image_graph n image) v.order ≡ image
 
--- document 02, W207: accepted is the image of sound tables with this n, refused by 15 that with another n, by 11 that of none
+-- document 02, W-207: accepted is the image of sound tables with this n, refused by 15 that with another n, by 11 that of none
 pub record ImageAnswered (n : ℕ) (image : List ℕ) (r : ℕ) : Type 0 where
   pub accepted : (r ≡ 0) ↔ TablesImage n image
   pub other_size : (r ≡ 15) ↔ OtherSize n image

@@ -1,11 +1,12 @@
--- Document 02, W203: the event text of the replay program that rebuilds a site, as bytes.
---   radios-text n        the text of line 1
---   up-text a b          the text of a link call that takes a link up
---   up-line l            the line that takes the link l up, lower radio first
---   script-of g          the script: line 1, then one `up` line for each link of the graph, in its order
---   script-length g      the script's length in bytes
+-- Document 02, W-203: the event text of the replay program that rebuilds a site, as bytes.
+--   radios_text n        the text of line 1
+--   up_text a b          the text of a link call that takes a link up
+--   up_line l            the line that takes the link l up, lower radio first
+--   script_of g          the script: line 1, then one `up` line for each link of the graph, in its order
+--   script_length g      the script's length in bytes
 -- The links of a graph stand ascending, by lower and then higher radio. Crate script parses these texts. Definitions only.
-use Rattle.lists.specs.Kit.{List, [], ◌∷◌, ◌++◌, flat_map, ℕ, length}
+use Rattle.std.specs.Prelude.{◌∷◌, ◌++◌}
+use Rattle.lists.specs.Kit.{List, [], flat_map, ℕ, length}
 use Rattle.mesh.specs.Graph.{Link, Graph}
 use Rattle.text.specs.Text.{bytes_of, decimal, printed_line}
 

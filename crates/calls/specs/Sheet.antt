@@ -1,17 +1,18 @@
--- Document 02, W201: the site sheet on a printed page, as bytes.
---   cell-width, line-cells   the columns of a cell, the cells of a line
---   line-width, line-bytes   the columns of a line; its bytes, with the line feed
+-- Document 02, W-201: the site sheet on a printed page, as bytes.
+--   cell_width, line_cells   the columns of a cell, the cells of a line
+--   line_width, line_bytes   the columns of a line; its bytes, with the line feed
 --   right-aligned k xs       the text xs with spaces before it, in k columns
 --   filled k xs              the text xs with spaces after it, in k columns
 --   cell v x                 the cell of radio v with number x
 --   cells ns v k             the cells of k radios from v on
---   sheet-line ns i          line i of the sheet of the numbers ns
+--   sheet_line ns i          line i of the sheet of the numbers ns
 --   sheet ns                 the sheet: all radios, ascending along the lines
---   sheet-lines n            how many lines n radios take
---   sheet-length n           the sheet's length in bytes
+--   sheet_lines n            how many lines n radios take
+--   sheet_length n           the sheet's length in bytes
 --   Columns n num bs         what stands in each column of the page bs
 -- That the sheet has this length and these columns is `length_sheet` and `sheet_columns` in proofs/SheetLaws.antt. Definitions only.
-use Rattle.lists.specs.{Kit.{◌≡◌, List, [], ◌∷◌, ◌++◌, flat_map, ℕ, ◌+◌, ◌*◌, ◌-◌, ◌/◌, ◌≤◌, ◌<◌, min, length, get_or, replicate}, Lists.{range}}
+use Rattle.std.specs.Prelude.{◌≡◌, ◌∷◌, ◌++◌, ◌+◌, ◌*◌, ◌-◌, ◌/◌, ◌≤◌, ◌<◌}
+use Rattle.lists.specs.{Kit.{List, [], flat_map, ℕ, min, length, get_or, replicate}, Lists.{range}}
 use Rattle.mesh.specs.Sound.{number_in}
 use Rattle.text.specs.Text.{bytes_of, space, line_feed, decimal}
 

@@ -1,9 +1,10 @@
--- Worked cells and sheets of document 02, W201. That every row is right is `cells_right` and `sheets_right` in proofs/SheetCases.antt.
+-- Worked cells and sheets of document 02, W-201. That every row is right is `cells_right` and `sheets_right` in proofs/SheetCases.antt.
 --   CellCase, SheetCase    a cell with its text; a sheet with its lines
---   cell-good, sheet-good    is the row right
---   cell-cases, sheet-cases  the tables
+--   cell_good, sheet_good    is the row right
+--   cell_cases, sheet_cases  the tables
 -- Definitions only.
-use Rattle.lists.specs.{Kit.{Bool, true, ◌&&◌, List, [], ◌∷◌, flat_map, ℕ}, Lists.{same}}
+use Rattle.std.specs.Prelude.{◌&&◌, ◌∷◌}
+use Rattle.lists.specs.{Kit.{Bool, true, List, [], flat_map, ℕ}, Lists.{same}}
 use Prim.Native.String.{String}
 use Rattle.text.specs.Text.{bytes_of}
 use Rattle.calls.specs.Sheet.{cell, sheet}

@@ -1,9 +1,10 @@
--- The cells of the site sheet as code prints them (document 02, W201).
---   column-at i c j    the place of column j of cell c of line i
---   digit-column p x   one column of a number: its digit that counts p
+-- The cells of the site sheet as code prints them (document 02, W-201).
+--   column_at i c j    the place of column j of cell c of line i
+--   digit_column p x   one column of a number: its digit that counts p
 --   CellsFit ns       radios have at most three digits, and their numbers at most two
 -- Definitions only.
-use Rattle.lists.specs.Kit.{cond, List, ℕ, ◌+◌, ◌*◌, ◌/◌, ◌%◌, ◌≤◌, ◌<◌, ltb, length}
+use Rattle.std.specs.Prelude.{◌+◌, ◌*◌, ◌/◌, ◌%◌, ◌≤◌, ◌<◌}
+use Rattle.lists.specs.Kit.{cond, List, ℕ, ltb, length}
 use Rattle.mesh.specs.Sound.{number_in}
 use Rattle.text.specs.Text.{space, digit_byte}
 use Rattle.calls.specs.Sheet.{cell_width, line_bytes}

@@ -1,11 +1,12 @@
 -- Links taken up or down one after the other, as if by single calls.
 --   Switch              a link going up or down
---   pairs-after ss ps   the pairs that are left of ps
+--   pairs_after ss ps   the pairs that are left of ps
 --   switched n s t      the tables that an accepted link call leaves of t
 --   tables_after n ss t the same of a list, one after the other
 --   AllAllowed n ps ss questions 4 to 7 of each get yes in turn, where ps are the pairs before the first
 -- Definitions only.
-use Rattle.lists.specs.Kit.{Bool, List, [], ◌∷◌, ℕ}
+use Rattle.std.specs.Prelude.{◌∷◌}
+use Rattle.lists.specs.Kit.{Bool, List, [], ℕ}
 use Rattle.mesh.specs.{Limits.{max_neighbours}, Graph.{Link, graph, relinked, new_links, Allowed}, Cores.{numbers}, Levels.{new_order}, Tables.{Tables, tables}}
 use Rattle.mesh.specs.{Tables.{put_link, graph_in}}
 
@@ -23,7 +24,7 @@ unfoldable pub pairs_after : List Switch → List Link → List Link
 pairs_after [] ps = ps
 pairs_after (s ∷ ss) ps = pairs_after ss (new_links s.up s.a s.b ps)
 
--- as `Link-accepted` of specs/Contracts/Links.antt says it
+-- as `LinkAccepted` says it
 unfoldable pub switched : (n : ℕ) → Switch → Tables → Tables
 switched n s t =
     let g = graph_in n t.links in

@@ -1,13 +1,14 @@
 -- The form of a worked case: a site is cleared, link calls are made, and what is wanted of them; each call is its contract's own
 -- outcome. The table of M1 to M10 has it, and the histories of crate `vectors`.
---   entries, lent-tables, lent-nodes   what is lent: tables of the right lengths, whose entry i holds f i
+--   entries, lent_tables, lent_nodes   what is lent: tables of the right lengths, whose entry i holds f i
 --   Left                   what link calls leave: the tables, and the answers so far
 --   after calls left       the calls made one after the other, each on the tables that the last one left
 --   Want                   what a row wants of what is left
 --   meets want             is it so, by the outcome of the call that is asked
 --   Row, Right             a row, and that its wants are met whatever the lent tables held
 -- Definitions only.
-use Rattle.lists.specs.{Kit.{◌≡◌, Bool, true, false, ◌&&◌, cond, List, [], ◌∷◌, ◌++◌, map, flat_map, ℕ, zero, suc, ◌+◌, ◌*◌, ◌-◌, eqb, length, drop, take, set}}
+use Rattle.std.specs.Prelude.{◌≡◌, ◌&&◌, ◌∷◌, ◌++◌, ◌+◌, ◌*◌, ◌-◌}
+use Rattle.lists.specs.{Kit.{Bool, true, false, cond, List, [], map, flat_map, ℕ, zero, suc, eqb, length, drop, take, set}}
 use Rattle.lists.specs.{Lists.{range, same}}
 use Prim.Native.String.{String}
 use Rattle.mesh.specs.{Limits.{row_bytes, former_neighbours}, Tables.{Tables, tables, graph_in}, Tree.{node}, Image.{block_bytes, long}, declared.Node.{Node}}
@@ -100,7 +101,7 @@ pub data Want : Type 0 where
   soundness : List Put → (numbers order : List ℕ) → (yes : Bool) → Want
   -- the staircase tree in a table of so many entries: refusal number and entries
   staircase_list : (table : ℕ) → (number : ℕ) → (kept : List ℕ) → Want
-  -- the number of questions 4 to 7 for the link a-b going up, with the limit before document 02's W208
+  -- the number of questions 4 to 7 for the link a-b going up, with the limit before document 02's W-208
   formerly : (a b : ℕ) → (number : ℕ) → Want
   -- the script that rebuilds the site, line by line
   script : List String → Want

@@ -3,7 +3,9 @@
 
 // The numbers of the questions in documents 01 and 02: the first that gets "no" is the call's refusal. A call that is carried out
 // answers 0.
-#[derive(Drop)]
+#![tactic(auto)]
+
+#[derive(Clone, Copy)]
 pub struct Refusal {}
 
 impl Refusal {
@@ -50,7 +52,7 @@ impl Refusal {
 
 // The answer of a link call: refusal number, step (+1, -1, or 0 when nothing changed), count of changed radios.
 #[repr(C)]
-#[derive(Drop)]
+#[derive(Clone, Copy)]
 pub struct Reply {
     pub number: u32,
     pub step: i8,
@@ -59,24 +61,24 @@ pub struct Reply {
 
 // The answer of a question: refusal number, and the value asked for.
 #[repr(C)]
-#[derive(Drop)]
+#[derive(Clone, Copy)]
 pub struct Value {
     pub number: u32,
     pub value: u32,
 }
 
-// document 02, W206: The answer about the later neighbours of a radio: refusal number, their count, and the first of them in the order.
+// document 02, W-206: The answer about the later neighbours of a radio: refusal number, their count, and the first of them in the order.
 #[repr(C)]
-#[derive(Drop)]
+#[derive(Clone, Copy)]
 pub struct Later {
     pub number: u32,
     pub count: u32,
     pub first: u32,
 }
 
-// document 02, W212: The answer of the question for a link that lifts a radio: refusal number, and the pair, lower radio first.
+// document 02, W-212: The answer of the question for a link that lifts a radio: refusal number, and the pair, lower radio first.
 #[repr(C)]
-#[derive(Drop)]
+#[derive(Clone, Copy)]
 pub struct Pair {
     pub number: u32,
     pub low: u32,
@@ -85,7 +87,7 @@ pub struct Pair {
 
 // The answer of the block reader: refusal number, 1 at the end, where the payload lies, and the number of the next block.
 #[repr(C)]
-#[derive(Drop)]
+#[derive(Clone, Copy)]
 pub struct Block {
     pub number: u32,
     pub end: u32,

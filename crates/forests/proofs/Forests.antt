@@ -2,10 +2,11 @@
 --   Grows n fs        each link joins two radios that the later ones do not: what acyclic gives at once
 --   rank              every list has labels, and parts and links together are at least n; exactly n where the list grows
 --   Tight n fs        the labels of fs, with parts and links exactly n together
---   tight-acyclic     a tight list is acyclic, whatever its order
---   grows-filter      a list that grows, filtered, grows
---   forest-le         of two acyclic lists the one that joins more is not shorter
-use Rattle.lists.{specs.Kit.{◌≡◌, refl, sym, ap, subst, ◌∙◌, ◌⊎◌, inl, inr, Bool, true, false, cond, List, [], ◌∷◌, ◌++◌, ℕ, ◌+◌, ◌≤◌, ◌<◌, arith, length}}
+--   tight_acyclic     a tight list is acyclic, whatever its order
+--   grows_filter      a list that grows, filtered, grows
+--   forest_le         of two acyclic lists the one that joins more is not shorter
+use Rattle.std.specs.Prelude.{◌≡◌, ◌⊎◌, ◌∷◌, ◌++◌, ◌+◌, ◌≤◌, ◌<◌}
+use Rattle.lists.{specs.Kit.{refl, sym, ap, subst, ◌∙◌, inl, inr, Bool, true, false, cond, List, [], ℕ, arith, length}}
 use Rattle.lists.{specs.Kit.{length-append}, proofs.Tests.{bool_cases, trichotomy}}
 use Rattle.mesh.{specs.Graph.{Link, InLinks}, specs.Staircase.{Joined, Acyclic, filter_links}, proofs.Tables.AscendingLinks.{in_links_left, in_links_right}}
 use Rattle.mesh.{proofs.Tables.AscendingLinks.{in_links_cases}, proofs.Trees.Reach.{reachable_trans}}
@@ -16,6 +17,7 @@ use Rattle.forests.proofs.{Labels.{OneMore, labels_none, parts_none, labels_new,
 
 pub in_filter_links : (t : Link → Bool) (ls : List Link) (m : Link) → InLinks m (filter_links t ls) → InLinks m ls × (t m ≡ true)
 unfolding filter_links
+in_filter_links t [] m i = elim i [ ]
 in_filter_links t (l ∷ ls) m i = go (in_filter_links t ls m) (bool_cases (t l)) i
   where
     pick : (InLinks m (filter_links t ls) → InLinks m ls × (t m ≡ true)) → t l ≡ true → InLinks m (l ∷ filter_links t ls) → InLinks m (l ∷ ls) ×
@@ -30,6 +32,7 @@ in_filter_links t (l ∷ ls) m i = go (in_filter_links t ls m) (bool_cases (t l)
 
 pub filter_links_in : (t : Link → Bool) (ls : List Link) (m : Link) → InLinks m ls → t m ≡ true → InLinks m (filter_links t ls)
 unfolding filter_links
+filter_links_in t [] m x'' e = elim x'' [ ]
 filter_links_in t (l ∷ ls) m (inl q) e = rw (ap t q ∙ e) (inl q)
 filter_links_in t (l ∷ ls) m (inr i) e = go (filter_links_in t ls m i e) (bool_cases (t l))
   where

@@ -1,9 +1,10 @@
 -- The staircase tree is a spanning forest, and none weighs more.
---   staircase-spanning   it is a spanning forest
---   staircase-fewer      of fewer links than radios
---   staircase-joins      the ends of a link of weight w or more are joined by kept links of weight w or more
---   staircase-heaviest   no spanning forest weighs more
-use Rattle.lists.{specs.Kit.{◌≡◌, ◌⊎◌, inr, true, List, [], length, ℕ, ◌≤◌, ◌<◌, arith, leb}, specs.Lists.{range}, proofs.Range.{in_range}}
+--   staircase_spanning   it is a spanning forest
+--   staircase_fewer      of fewer links than radios
+--   staircase_joins      the ends of a link of weight w or more are joined by kept links of weight w or more
+--   staircase_heaviest   no spanning forest weighs more
+use Rattle.std.specs.Prelude.{◌≡◌, ◌⊎◌, ◌≤◌, ◌<◌}
+use Rattle.lists.{specs.Kit.{inr, true, List, [], length, ℕ, arith, leb}, specs.Lists.{range}, proofs.Range.{in_range}}
 use Rattle.mesh.{specs.Graph.{Link, Graph, radios, proper, InLinks}, specs.Cores.{number, numbers}, specs.Connected.{greatest}, specs.Staircase.{Joined}}
 use Rattle.mesh.{specs.Staircase.{Acyclic, Spanning, weight, falling, staircase, heavy, weighs}, proofs.GraphLaws.{proper_of}}
 use Rattle.mesh.{proofs.Trees.Listed.{number_le_greatest}, proofs.Tables.AscendingLinks.{in_links_proper}}
@@ -33,6 +34,7 @@ module _ (g : Graph) (p : proper g.n g.links ≡ true) where
   staircase_of_graph l i = go (keep_from g.n taken [] l i)
     where
       go : InLinks l [] ⊎ InLinks l taken → InLinks l g.links
+      go (mathlib.Core.Logic.inl x') = elim x' [ ]
       go (inr j) = (in_falling (weight g) (greatest (numbers g)) g.links l j).0
 
   pub staircase_inside : Inside g.n (staircase g)

@@ -1,8 +1,9 @@
 -- What a list of links joins.
 --   Inside n ls       the ends of the links of ls are below n
 --   joined_by_links   where the ends of each link of ls are joined by ms, whatever ls joins is joined by ms
---   joined-iff        the test `joined` tells what is joined
-use Rattle.lists.{specs.Kit.{◌≡◌, refl, sym, ap, ◌∙◌, ◌⊎◌, inl, inr, ◌↔◌, true, false, List, [], ◌∷◌, ℕ, ◌<◌}, specs.Lists.{member}, proofs.Tests.{never}}
+--   joined_iff        the test `joined` tells what is joined
+use Rattle.std.specs.Prelude.{◌≡◌, ◌⊎◌, ◌↔◌, ◌∷◌, ◌<◌}
+use Rattle.lists.{specs.Kit.{refl, sym, ap, ◌∙◌, inl, inr, true, false, List, [], ℕ}, specs.Lists.{member}, proofs.Tests.{never}}
 use Rattle.lists.{proofs.Tests.{or_cases, or_left, or_right}}
 use Rattle.mesh.{specs.Graph.{Link, graph, linked, other_ends, InLinks}, specs.Connected.{here, onward}, specs.Staircase.{anyone, Joined, joined}}
 use Rattle.mesh.{proofs.GraphLaws.{Ends, ends_of, of_ends, joins, linked_by, linked_by_cons}, proofs.Trees.Reach.{reachable_trans, reachable_sym, reached_iff}}
@@ -15,6 +16,7 @@ unfolding linked
 linked_graph n ks v w = refl
 
 pub in_joins : (ls : List Link) (l : Link) → InLinks l ls → (v w : ℕ) → Ends l.low l.high v w → linked_by ls v w ≡ true
+in_joins [] l x'' v w h = elim x'' [ ]
 in_joins (m ∷ ls) l (inl e) v w h =
     linked_by_cons m ls v w ∙ or_left (joins m v w) (linked_by ls v w) (ap (λ (x : Link). joins x v w) e ∙ of_ends l.low l.high v w h)
 in_joins (m ∷ ls) l (inr i) v w h = linked_by_cons m ls v w ∙ or_right (joins m v w) (linked_by ls v w) (in_joins ls l i v w h)

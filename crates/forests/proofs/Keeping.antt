@@ -1,9 +1,10 @@
 -- The links taken in turn.
---   keep-keeps, keep-from   kept links stay, and come from the links taken
---   keep-tight              the kept links stay tight, so acyclic
---   keep-joins              taken by weight falling: a link of weight w or more has its ends joined by kept ones of weight w or more
+--   keep_keeps, keep_from   kept links stay, and come from the links taken
+--   keep_tight              the kept links stay tight, so acyclic
+--   keep_joins              taken by weight falling: a link of weight w or more has its ends joined by kept ones of weight w or more
 --   falling-..              the links by weight falling
-use Rattle.lists.{specs.Kit.{◌≡◌, refl, sym, ap, subst, ◌⊎◌, inl, inr, true, false, cond, List, [], ◌∷◌, ◌++◌, ℕ, zero, suc, ◌≤◌, ◌<◌, arith, eqb, leb}}
+use Rattle.std.specs.Prelude.{◌≡◌, ◌⊎◌, ◌∷◌, ◌++◌, ◌≤◌, ◌<◌}
+use Rattle.lists.{specs.Kit.{refl, sym, ap, subst, inl, inr, true, false, cond, List, [], ℕ, zero, suc, arith, eqb, leb}}
 use Rattle.lists.{specs.Kit.{length-append, eqb-true, eq-eqb, le-leb, leb-true}, proofs.Tests.{bool_cases, never, trichotomy}}
 use Rattle.mesh.{specs.Graph.{Link, InLinks}, specs.Staircase.{Joined, joined, keep, of_weight, falling, heavy}, proofs.Tables.AscendingLinks.{in_links_left}}
 use Rattle.mesh.{proofs.Tables.AscendingLinks.{in_links_right, in_links_cases}}
@@ -21,6 +22,7 @@ more_end l ks = record {
   where
     go : (m : Link) → InLinks m ks ⊎ InLinks m (l ∷ []) → (m ≡ l) ⊎ InLinks m ks
     go m (inl i) = inr i
+    go m (inr (inr x'')) = elim x'' [ ]
     go m (inr (inl e)) = inl (sym e)
 
 pub inside_end : (n : ℕ) (l : Link) (ks : List Link) → Inside n ks → (l.low < n) × (l.high < n) → Inside n (ks ++ (l ∷ []))
@@ -28,6 +30,7 @@ inside_end n l ks s h m i = go (in_links_cases m ks (l ∷ []) i)
   where
     go : InLinks m ks ⊎ InLinks m (l ∷ []) → (m.low < n) × (m.high < n)
     go (inl j) = s m j
+    go (inr (inr x'')) = elim x'' [ ]
     go (inr (inl e)) = subst (λ (z : Link). (z.low < n) × (z.high < n)) e h
 
 -- the kept ones after the link l
@@ -51,6 +54,7 @@ now_from n ks l m = by_outcome n ks l (λ zs. InLinks m zs → InLinks m ks ⊎ 
   where
     go : InLinks m ks ⊎ InLinks m (l ∷ []) → InLinks m ks ⊎ (m ≡ l)
     go (inl i) = inl i
+    go (inr (inr x'')) = elim x'' [ ]
     go (inr (inl e)) = inr (sym e)
 
 pub now_inside : (n : ℕ) (ks : List Link) (l : Link) → Inside n ks → (l.low < n) × (l.high < n) → Inside n (now n ks l)
@@ -141,6 +145,7 @@ pub keep_joins : (n : ℕ) (wt : Link → ℕ) (w : ℕ) (ls ks : List Link) →
     → ((k m : Link) → InLinks k ks → InLinks m ls → wt m ≤ wt k)
     → (m : Link) → InLinks m ls → w ≤ wt m → Joined n (heavy wt w (keep n ks ls)) m.low m.high
 unfolding keep
+keep_joins n wt w [] ks s u f above m x6 h = elim x6 [ ]
 keep_joins n wt w (l ∷ ls) ks s u f above m (inl e) h =
     let x = s l (inl refl) in
     subst (λ (z : Link). Joined n (heavy wt w (keep n (now n ks l) ls)) z.low z.high) e

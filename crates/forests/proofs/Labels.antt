@@ -2,11 +2,12 @@
 --   Labels n ks f     f gives each radio the lowest that the links ks join it with
 --   relabel lo hi f   the label hi replaced by lo
 --   parts n f         how many radios are their own label: how many parts there are
---   parts-some        there is a part
+--   parts_some        there is a part
 --   labels_new        labels after one link more between two parts
---   parts-new         one part less
---   parts-le          links that join more have no more parts
-use Rattle.lists.{specs.Kit.{◌≡◌, refl, sym, ap, ◌∙◌, ◌⊎◌, inl, inr, true, false, ◌||◌, cond, List, [], ℕ, zero, suc, ◌+◌, ◌≤◌, ◌<◌, arith, eqb, eqb-true}}
+--   parts_new         one part less
+--   parts_le          links that join more have no more parts
+use Rattle.std.specs.Prelude.{◌≡◌, ◌⊎◌, ◌||◌, ◌+◌, ◌≤◌, ◌<◌}
+use Rattle.lists.{specs.Kit.{refl, sym, ap, ◌∙◌, inl, inr, true, false, cond, List, [], ℕ, zero, suc, arith, eqb, eqb-true}}
 use Rattle.lists.{specs.Kit.{eq-eqb, ne_eqb}, specs.Lists.{range, count, In}, proofs.Tests.{bool_cases, never, or_cases, or_left, or_right, iff_eq}}
 use Rattle.lists.{proofs.Range.{range_in, length_range, count_range_one}, proofs.Count.{count_mono, count_all, count_cong, count_or}}
 use Rattle.mesh.{specs.Graph.{Link, InLinks}, specs.Connected.{here}, specs.Staircase.{Joined}, proofs.GraphLaws.{Ends}, proofs.Trees.Reach.{reachable_trans}}

@@ -1,7 +1,8 @@
 -- Links taken level by level are links by weight falling.
---   levels-ext    levels by weights that agree on the links
---   levels-all    where every link weighs something, the levels down to 1 are all that the definition takes
-use Rattle.lists.specs.Kit.{◌≡◌, refl, sym, ap, ap₂, List, ◌++◌, ℕ, zero, suc, ◌≤◌, arith, eqb, ne_eqb}
+--   levels_ext    levels by weights that agree on the links
+--   levels_all    where every link weighs something, the levels down to 1 are all that the definition takes
+use Rattle.std.specs.Prelude.{◌≡◌, ◌++◌, ◌≤◌}
+use Rattle.lists.specs.Kit.{refl, sym, ap, ap₂, List, ℕ, zero, suc, arith, eqb, ne_eqb}
 use Rattle.mesh.specs.{Graph.{Link, InLinks}, Staircase.{of_weight, falling}}
 use Rattle.forests.specs.Growing.{levels_falling}
 use Rattle.forests.proofs.Forests.{filter_links_none, filter_links_ext}

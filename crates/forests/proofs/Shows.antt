@@ -1,7 +1,8 @@
 -- What grows is the kept links, with their labels.
 --   Shows n old ks s   s has the labels, the list and the count of the links ks; `old` is what the lent table held
---   shows-all          the links ls taken in turn give what `keep` gives
-use Rattle.lists.{specs.Kit.{◌≡◌, refl, sym, ap, subst, ◌∙◌, ◌⊎◌, inl, inr, true, false, cond, List, [], ◌∷◌, ◌++◌, map, ℕ, zero, suc, ◌+◌, ◌*◌, ◌≤◌, ◌<◌, min}}
+--   shows_all          the links ls taken in turn give what `keep` gives
+use Rattle.std.specs.Prelude.{◌≡◌, ◌⊎◌, ◌∷◌, ◌++◌, ◌+◌, ◌*◌, ◌≤◌, ◌<◌}
+use Rattle.lists.{specs.Kit.{refl, sym, ap, subst, ◌∙◌, inl, inr, true, false, cond, List, [], map, ℕ, zero, suc, min}}
 use Rattle.lists.{specs.Kit.{max, arith, eqb, length, get_or, length-append, List·getD-eq-default, sets, eqb-true, eq-eqb}, specs.Lists.{range}}
 use Rattle.lists.{proofs.Parts.{get_d_any}, proofs.Tests.{bool_cases, never, iff_eq, trichotomy}, proofs.Range.{length_range, get_d_range}}
 use Rattle.lists.{proofs.Map.{length-map}, proofs.Overwrite.{sets_append}}

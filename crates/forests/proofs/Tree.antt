@@ -1,7 +1,8 @@
 -- The staircase tree is what document 02 asks for, and so is what the call lists.
---   staircase-tree    of a graph whose links are proper and ascend
---   staircase-right   after an accepted call (property 2)
-use Rattle.lists.{specs.Kit.{◌≡◌, refl, true, List, [], ◌∷◌, ℕ, ◌*◌, ◌≤◌, arith, length}, proofs.Overwrite.{take_overwrite, drop_overwrite}}
+--   staircase_tree    of a graph whose links are proper and ascend
+--   staircase_right   after an accepted call (property 2)
+use Rattle.std.specs.Prelude.{◌≡◌, ◌∷◌, ◌*◌, ◌≤◌}
+use Rattle.lists.{specs.Kit.{refl, true, List, [], ℕ, arith, length}, proofs.Overwrite.{take_overwrite, drop_overwrite}}
 use Rattle.mesh.{specs.Graph.{Link, Graph, proper, ascending}, specs.Tables.{Tables, graph_in}, specs.Sound.{sound}, specs.Staircase.{staircase, link_entries}}
 use Rattle.mesh.{specs.Staircase.{StaircaseTree}, proofs.Tables.ReadBack.{proper_graph_in, ascending_graph_in}}
 use Rattle.calls.{specs.Questions.{lengths_of}, specs.Outcomes.{staircase_outcome}, specs.Results.{StaircaseListed}}

@@ -1,8 +1,9 @@
 -- The kept links stand in the order in which links are taken.
---   falling-turn     the links by weight falling are in turn, where the graph's links ascend
---   keep-turn        and so are the kept ones
---   staircase-turn   so is the staircase tree
-use Rattle.lists.{specs.Kit.{◌≡◌, refl, sym, ◌∙◌, ◌⊎◌, inl, inr, true, false, ◌&&◌, List, [], ◌∷◌, ◌++◌, ℕ, zero, suc, ◌<◌, arith, ltb, eqb, eqb-true, eq-eqb}}
+--   falling_turn     the links by weight falling are in turn, where the graph's links ascend
+--   keep_turn        and so are the kept ones
+--   staircase_turn   so is the staircase tree
+use Rattle.std.specs.Prelude.{◌≡◌, ◌⊎◌, ◌&&◌, ◌∷◌, ◌++◌, ◌<◌}
+use Rattle.lists.{specs.Kit.{refl, sym, ◌∙◌, inl, inr, true, false, List, [], ℕ, zero, suc, arith, ltb, eqb, eqb-true, eq-eqb}}
 use Rattle.lists.{specs.Kit.{lt-ltb}, proofs.Tests.{bool_cases, and_both, or_left, or_right}}
 use Rattle.mesh.{specs.Graph.{Link, Graph, InLinks, link_before, ascending}, specs.Cores.{numbers}, specs.Connected.{greatest}, specs.Staircase.{weight}}
 use Rattle.mesh.{specs.Staircase.{filter_links, of_weight, falling, keep, staircase, goes_before, InTurn}, proofs.Tables.AscendingLinks.{in_links_cases}}
@@ -65,10 +66,12 @@ module _ (wt : Link → ℕ) where
   }
     where
       only : (y : Link) → InLinks y (l ∷ []) → InLinks y (l ∷ ls)
+      only y (inr x') = elim x' [ ]
       only y (inl e) = inl e
 
       go : (k m : Link) → InLinks m ls → InLinks k ks ⊎ InLinks k (l ∷ []) → goes_before wt k m ≡ true
       go k m j (inl i) = t.before k m i (inr j)
+      go k m j (inr (inr x'')) = elim x'' [ ]
       go k m j (inr (inl e)) = rw (← e) (first m j)
 
   keep_turn : (n : ℕ) (ls ks : List Link) → InTurn wt ls → Taken ks ls → InTurn wt (keep n ks ls)

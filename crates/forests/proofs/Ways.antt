@@ -1,9 +1,10 @@
 -- Ways over links.
---   way-joined     a way joins its ends
+--   way_joined     a way joins its ends
 --   way_at         a way that has a link once leads to it, and from it on, over the other links
---   joined-way     joined radios have a way that uses no link twice
+--   joined_way     joined radios have a way that uses no link twice
 --   least-..       the least weight along a way
-use Rattle.lists.specs.Kit.{◌≡◌, refl, sym, ap, subst, ◌∙◌, ◌⊎◌, inl, inr, List, [], ◌∷◌, ◌++◌, ℕ, ◌≤◌, ◌<◌, arith}
+use Rattle.std.specs.Prelude.{◌≡◌, ◌⊎◌, ◌∷◌, ◌++◌, ◌≤◌, ◌<◌}
+use Rattle.lists.specs.Kit.{refl, sym, ap, subst, ◌∙◌, inl, inr, List, [], ℕ, arith}
 use Rattle.mesh.{specs.Graph.{Link, InLinks}, specs.Connected.{here, onward}, specs.Staircase.{Joined, Between, Way, stay, along, Once, OnceWay, least}}
 use Rattle.mesh.{proofs.Tables.AscendingLinks.{Before, before_irreflexive, before_cases}, proofs.Trees.Reach.{reachable_trans}}
 use Rattle.forests.proofs.JoinedLaws.{Inside, linked_graph, linked_some, joined_next, joined_ends}
@@ -32,6 +33,7 @@ in_or_not l (q ∷ qs) = go (equal_link q l) (in_or_not l qs)
     go (inr a) (inr b) = inr (neither a b)
 
 pub split_links : (l : Link) (ls : List Link) → InLinks l ls → (ps : List Link) × (qs : List Link) × (ls ≡ ps ++ (l ∷ qs))
+split_links l [] x' = elim x' [ ]
 split_links l (m ∷ ls) (inl e) = ([], ls, ap {B = List Link} (λ z. z ∷ ls) e)
 split_links l (m ∷ ls) (inr i) = go (split_links l ls i)
   where
@@ -58,6 +60,7 @@ module _ (n : ℕ) (ls ms : List Link) (inside : Inside n ls) where
         joined_next n ms m (others m i (λ q. no_l (inl q))) (end_below m v w i e).1 e (way_without r (λ j. no_l (inr j)))
 
     pub way_at : {a b : ℕ} {qs : List Link} → Way ls a b qs → Once qs → InLinks l qs → (v : ℕ) × (w : ℕ) × Joined n ms a v × Between l v w × Joined n ms w b
+    way_at {a = a} stay o x7 = elim x7 [ ]
     way_at {a} (along {v} {w} {qs} {l = m} r i e) o (inl q) =
         (v, w, way_without r (λ j. o.0 (subst (λ (z : Link). InLinks z qs) (sym q) j)), subst (λ (z : Link). Between z v w) q e, here)
     way_at {a} (along {v} {w} {qs} {l = m} r i e) o (inr j) = go (way_at r o.1 j)
@@ -80,6 +83,7 @@ pub record UpTo (ls : List Link) (a : ℕ) (l : Link) : Type 0 where
   pub end : (at ≡ l.low) ⊎ (at ≡ l.high)
 
 up_to : {ls : List Link} {a b : ℕ} {qs : List Link} (l : Link) → Way ls a b qs → Once qs → InLinks l qs → UpTo ls a l
+up_to {ls = ls} {a = a} l stay o x7 = elim x7 [ ]
 up_to {ls} {a} l (along {v} {w} {qs} {l = m} r i e) o (inl q) = record {
   at = v;
   links = qs;
@@ -124,6 +128,8 @@ joined_way n ls {a} (onward {w} {x} r e lx o) = go (joined_way n ls r) (linked_s
 
 pub least_le : (wt : Link → ℕ) (qs : List Link) (l : Link) → InLinks l qs → least wt qs ≤ wt l
 unfolding least
+least_le wt (m ∷ []) l (inr i) = elim i [ ]
+least_le wt [] l x' = elim x' [ ]
 least_le wt (m ∷ []) l (inl e) = omega (arith, ap wt e)
 least_le wt (m ∷ k ∷ qs) l (inl e) = omega (arith, ap wt e)
 least_le wt (m ∷ k ∷ qs) l (inr i) = omega (arith, least_le wt (k ∷ qs) l i)

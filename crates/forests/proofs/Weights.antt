@@ -1,5 +1,6 @@
 -- Sums by thresholds: of two lists the one with no fewer links of each weight or more weighs no less.
-use Rattle.lists.{specs.Kit.{◌≡◌, refl, ◌⊎◌, inl, inr, true, false, List, [], ◌∷◌, ℕ, zero, suc, ◌+◌, ◌≤◌, min, arith, leb, length, leb-true, leb-false}}
+use Rattle.std.specs.Prelude.{◌≡◌, ◌⊎◌, ◌∷◌, ◌+◌, ◌≤◌}
+use Rattle.lists.{specs.Kit.{refl, inl, inr, true, false, List, [], ℕ, zero, suc, min, arith, leb, length, leb-true, leb-false}}
 use Rattle.lists.{proofs.Tests.{bool_cases}}
 use Rattle.mesh.specs.{Graph.{Link}, Staircase.{filter_links, heavy, weighs}}
 

@@ -1,8 +1,9 @@
 -- The least weight along the kept links is the greatest that any way has.
---   staircase-way       joined radios have a way over kept links that uses none twice
---   staircase-widest    and the least weight along any such way is no less than along any way of the graph
---   staircase-core      two radios are in one connected core at level k exactly if kept links of weight k or more join them
-use Rattle.lists.{specs.Kit.{◌≡◌, refl, sym, ap, subst, ◌⊎◌, inl, inr, ◌↔◌, true, false, List, [], ◌∷◌, ◌++◌, ℕ, ◌≤◌, ◌<◌, arith, leb, leb-true, leb-false}}
+--   staircase_way       joined radios have a way over kept links that uses none twice
+--   staircase_widest    and the least weight along any such way is no less than along any way of the graph
+--   staircase_core      two radios are in one connected core at level k exactly if kept links of weight k or more join them
+use Rattle.std.specs.Prelude.{◌≡◌, ◌⊎◌, ◌↔◌, ◌∷◌, ◌++◌, ◌≤◌, ◌<◌}
+use Rattle.lists.{specs.Kit.{refl, sym, ap, subst, inl, inr, true, false, List, [], ℕ, arith, leb, leb-true, leb-false}}
 use Rattle.lists.{specs.Kit.{le-leb}, proofs.Tests.{bool_cases, trichotomy}}
 use Rattle.mesh.{specs.Graph.{Link, Graph, link, link_of, linked, proper, InLinks}, specs.Cores.{number}, specs.Connected.{Reachable, here, onward, at_least}}
 use Rattle.mesh.{specs.Connected.{InCore}, specs.Staircase.{Joined, Between, Way, stay, along, Once, OnceWay, least, weight, heavy, staircase}}
@@ -59,6 +60,7 @@ module _ (g : Graph) (p : proper g.n g.links ≡ true) where
       go z = at_place z.0 z.1 z.2
 
   way_links : {a b : ℕ} {qs : List Link} → Way (staircase g) a b qs → (l : Link) → InLinks l qs → InLinks l (staircase g)
+  way_links {a = a} stay l x4 = elim x4 [ ]
   way_links (along {v} {w} {qs} {l = m} r i e) l (inl x) = subst (λ (z : Link). InLinks z (staircase g)) x i
   way_links (along {v} {w} {qs} {l = m} r i e) l (inr j) = way_links r l j
 
@@ -80,11 +82,11 @@ module _ (g : Graph) (p : proper g.n g.links ≡ true) where
 
   -- ---- connected cores
 
-  core_staircase : (a b k : ℕ) → a < g.n → k ≤ number g a → InCore g a k b → Joined g.n (heavy (weight g) k (staircase g)) a b
+  core_staircase : (a k b : ℕ) → a < g.n → k ≤ number g a → InCore g a k b → Joined g.n (heavy (weight g) k (staircase g)) a b
   unfolding InCore weight linked
-  core_staircase a b k l h here = here
-  core_staircase a b k l h (onward {w} {x} r e lx o) =
-      reachable_trans (core_staircase a w k l h r) (step (in_core_below g a k w l r) (in_core_level g a k w h r) (trichotomy w x))
+  core_staircase a k b l h here = here
+  core_staircase a k b l h (onward {w} {x} r e lx o) =
+      reachable_trans (core_staircase a k w l h r) (step (in_core_below g a k w l r) (in_core_level g a k w h r) (trichotomy w x))
     where
       high : k ≤ number g x
       high = in_core_level g a k x h (onward r e lx o)
@@ -98,10 +100,10 @@ module _ (g : Graph) (p : proper g.n g.links ≡ true) where
       step lw hw (inr (inr s)) = joined_sym g.n (heavy (weight g) k (staircase g)) lx
           (staircase_joins g p k (link_of x w) (rw (link_more w x s) at is_link) (omega (arith, high)))
 
-  staircase_in_core : (a b k : ℕ) → a < g.n → k ≤ number g a → Joined g.n (heavy (weight g) k (staircase g)) a b → InCore g a k b
+  staircase_in_core : (a k b : ℕ) → a < g.n → k ≤ number g a → Joined g.n (heavy (weight g) k (staircase g)) a b → InCore g a k b
   unfolding InCore weight linked at_least
-  staircase_in_core a b k l h here = here
-  staircase_in_core a b k l h (onward {w} {x} r e lx o) = go (staircase_in_core a w k l h r) (linked_some (heavy (weight g) k (staircase g)) w x e)
+  staircase_in_core a k b l h here = here
+  staircase_in_core a k b l h (onward {w} {x} r e lx o) = go (staircase_in_core a k w l h r) (linked_some (heavy (weight g) k (staircase g)) w x e)
     where
       ends : (m : Link) → k ≤ weight g m → Between m w x → k ≤ number g x
       ends m q (inl s) = omega (arith, ap (number g) s.1)
@@ -114,4 +116,4 @@ module _ (g : Graph) (p : proper g.n g.links ≡ true) where
           (le-leb k (number g x) (ends m.0 q.1 m.2))
 
   pub staircase_core : (a b k : ℕ) → a < g.n → k ≤ number g a → Joined g.n (heavy (weight g) k (staircase g)) a b ↔ InCore g a k b
-  staircase_core a b k l h = (staircase_in_core a b k l h, core_staircase a b k l h)
+  staircase_core a b k l h = (staircase_in_core a k b l h, core_staircase a k b l h)

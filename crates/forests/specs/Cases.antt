@@ -1,6 +1,7 @@
 -- Worked cases of the staircase tree, as one table: a site, and the kept links in their order. That every row is right is
 -- `staircase_cases` in proofs/Cases.antt. Definitions only.
-use Rattle.lists.specs.{Kit.{Bool, true, ◌&&◌, List, [], ◌∷◌, ℕ}, Lists.{same}}
+use Rattle.std.specs.Prelude.{◌&&◌, ◌∷◌}
+use Rattle.lists.specs.{Kit.{Bool, true, List, [], ℕ}, Lists.{same}}
 use Rattle.mesh.specs.{Graph.{Link, link_of, graph}, Staircase.{staircase, link_entries}}
 
 pub record Case : Type 0 where

@@ -1,12 +1,13 @@
 -- The staircase tree as it grows in three places: a label for each radio, the lent table, a count.
 --   relabelled lo hi x   the label x, or lo where it is hi
---   grown-one l s        the link l taken: kept where the labels of its ends differ
---   grown-all ls s       the links ls taken in turn
---   table-weight ns l    the weight of a link by the numbers table
---   levels-falling       the links by weight falling down to 1: every link of a sound site weighs something
+--   grown_one l s        the link l taken: kept where the labels of its ends differ
+--   grown_all ls s       the links ls taken in turn
+--   table_weight ns l    the weight of a link by the numbers table
+--   levels_falling       the links by weight falling down to 1: every link of a sound site weighs something
 -- That the definition keeps the same links is `shows_all` (proofs/Shows.antt), that it takes links in the same turn is `levels_all`
 -- (proofs/Levels.antt). Definitions only.
-use Rattle.lists.specs.Kit.{cond, List, [], ◌∷◌, ◌++◌, map, ℕ, zero, suc, ◌+◌, ◌*◌, min, max, eqb, get_or, set}
+use Rattle.std.specs.Prelude.{◌∷◌, ◌++◌, ◌+◌, ◌*◌}
+use Rattle.lists.specs.Kit.{cond, List, [], map, ℕ, zero, suc, min, max, eqb, get_or, set}
 use Rattle.mesh.specs.{Graph.{Link}, Sound.{number_in}, Staircase.{of_weight}}
 
 pub record Growing : Type 0 where

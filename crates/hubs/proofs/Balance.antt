@@ -1,8 +1,9 @@
 -- Ups and downs of a link alternate, so how often each was made tells whether it is up.
 --   balance       ups of a link and its state before are as many as its downs and its state after
---   same-pairs    tables that link alike hold the same pairs
---   pairs-agree   the pairs after a list of link calls are told by how often each was made
-use Rattle.lists.specs.Kit.{◌≡◌, refl, ◌∙◌, inl, inr, Bool, true, false, ◌&&◌, not, cond, Bool·beq, List, [], ◌∷◌, ℕ, ◌+◌, arith}
+--   same_pairs    tables that link alike hold the same pairs
+--   pairs_agree   the pairs after a list of link calls are told by how often each was made
+use Rattle.std.specs.Prelude.{◌≡◌, ◌&&◌, ◌∷◌, ◌+◌}
+use Rattle.lists.specs.Kit.{refl, ◌∙◌, inl, inr, Bool, true, false, not, cond, Bool·beq, List, [], ℕ, arith}
 use Rattle.mesh.{specs.Limits.{max_neighbours}, specs.Graph.{Link, graph, linked, relinked, new_links, Allowed}, specs.Tables.{Tables}, proofs.GraphLaws.{Ends}}
 use Rattle.mesh.{proofs.GraphLaws.{ends, ends_of, linked_sym}, proofs.Tables.Relinked.{linked_relinked}}
 use Rattle.calls.{specs.Switches.{Switch, pairs_after, switched, tables_after, AllAllowed}, proofs.Holds.{Holds, switched_holds, all_holds}}

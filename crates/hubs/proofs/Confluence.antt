@@ -1,9 +1,10 @@
 -- Two hubs, one mesh: runs of single link calls, none refused, and what both hubs hold and answer.
 --   Taken, taken    such a run takes its calls in turn, each allowed, and the tables hold the pairs after them
 --   confluence      both hubs hold equal links and numbers
---   calls-agree     shell tree, backbone and staircase calls answer equal on both
+--   calls_agree     shell tree, backbone and staircase calls answer equal on both
 --   orders_by_images   the images are equal only where the orders are
-use Rattle.lists.specs.Kit.{◌≡◌, refl, sym, ap, subst, ◌∙◌, Bool, true, ◌&&◌, List, [], ◌∷◌, none, ℕ, zero, suc, arith, length}
+use Rattle.std.specs.Prelude.{◌≡◌, ◌&&◌, ◌∷◌}
+use Rattle.lists.specs.Kit.{refl, sym, ap, subst, ◌∙◌, Bool, true, List, [], none, ℕ, zero, suc, arith, length}
 use Rattle.mesh.{specs.Limits.{max_neighbours}, specs.Graph.{Link, graph, new_links, Allowed}, specs.Levels.{changed}, specs.Tables.{Tables, graph_in}}
 use Rattle.mesh.{specs.Tables.{tables_of}, specs.Sound.{sound}, specs.Image.{image_of, image_order}, proofs.Images.Sites.{length_order, read_written_order}}
 use Rattle.calls.{specs.Questions.{Lengths, lengths_of, answer_length, site_refusal}}
@@ -14,7 +15,6 @@ use Rattle.calls.{proofs.ChainLaws.{link_zero}, proofs.Holds.{Holds, read_back, 
 use Rattle.hubs.specs.Hubs.{Cleared, Singles, no_more, single, only_reads, TwoHubs, EqualSites, EqualAnswers}
 use Rattle.hubs.proofs.Balance.{pairs_agree}
 use Rattle.calls.proofs.Runs as runs
-use Rattle.calls.specs.Chains.{tree_refusal, backbone_refusal, staircase_refusal}
 use Rattle.calls.specs.Questions.{by_number}
 use Rattle.calls.specs.Chains.{nodes_length, staircase_length, link_refusal}
 

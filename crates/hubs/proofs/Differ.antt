@@ -1,8 +1,9 @@
 -- Orders and images of two hubs may differ: the worked pair of histories, as runs.
 --   run, singles       link calls played one after the other are a run; where none is refused, of single calls
---   played-one, played-other   what the rows of the pair say of them
---   orders-differ, images-differ   so neither can be claimed equal
-use Rattle.lists.{specs.Kit.{◌≡◌, sym, ap, subst, ◌∙◌, true, ◌&&◌, List, [], ◌∷◌, ℕ, arith, length, eqb, eqb-true}, specs.Lists.{same}, proofs.Tests.{and_left}}
+--   played_one, played_other   what the rows of the pair say of them
+--   orders_differ, images_differ   so neither can be claimed equal
+use Rattle.std.specs.Prelude.{◌≡◌, ◌&&◌, ◌∷◌}
+use Rattle.lists.{specs.Kit.{sym, ap, subst, ◌∙◌, true, List, [], ℕ, arith, length, eqb, eqb-true}, specs.Lists.{same}, proofs.Tests.{and_left}}
 use Rattle.lists.{proofs.Tests.{and_right}, proofs.All.{same_eq}}
 use Rattle.mesh.specs.{Image.{image_of}, Tables.{Tables, graph_in}}
 use Rattle.calls.{specs.Switches.{Switch}, specs.Outcomes.{Tabled, tabled, clear_outcome, link_outcome}, specs.Book.{Answer, linking, reported}}
@@ -11,7 +12,6 @@ use Rattle.calls.{specs.Worked.{entries, lent_tables, Left, left, left_by, playe
 use Rattle.calls.{specs.Worked.{same_answers, meets, meets_all, right}, specs.Cases.{one_hub, other_hub}, proofs.Cases.{one_hub_right, other_hub_right}}
 use Rattle.hubs.specs.Hubs.{Cleared, Singles, single, TwoHubs}
 use Rattle.hubs.proofs.{Confluence.{orders_by_images}, Cases.{cases_same}}
-use Rattle.calls.specs.Runs as runs
 use Rattle.hubs.specs.Hubs as hubs
 
 -- ---- calls played one after the other are a run

@@ -1,5 +1,5 @@
--- Two hubs, one mesh (document 02, W214): hubs that take the same link calls in different arrangements hold the same mesh.
---   same-call, times   a link call by its direction and its two radios, in either order; how often it stands in a list
+-- Two hubs, one mesh (document 02, W-214): hubs that take the same link calls in different arrangements hold the same mesh.
+--   same_call, times   a link call by its direction and its two radios, in either order; how often it stands in a list
 --   SameCalls         two lists have the same calls the same number of times
 --   Cleared n t        the tables t were left by an accepted clearing of n radios
 --   Singles n es ss    the list es is the single link calls ss, none refused; calls that only read may stand between them
@@ -8,7 +8,8 @@
 --   EqualAnswers      the shell tree, backbone and staircase calls with equal lent lists answer equal
 -- Calls that stand for several link calls, committings, images and coming back to a mark lie outside.
 -- The proofs are `confluence` and `calls_agree` in proofs/Confluence.antt. Definitions only.
-use Rattle.lists.specs.Kit.{◌≡◌, Bool, ◌&&◌, ◌||◌, cond, Bool·beq, List, [], ◌∷◌, ℕ, ◌+◌, eqb}
+use Rattle.std.specs.Prelude.{◌≡◌, ◌&&◌, ◌||◌, ◌∷◌, ◌+◌}
+use Rattle.lists.specs.Kit.{Bool, cond, Bool·beq, List, [], ℕ, eqb}
 use Rattle.mesh.specs.{Tables.{Tables}, declared.Node.{Node}}
 use Rattle.calls.specs.{Switches.{Switch, switch}, Outcomes.{tabled, clear_outcome, backbone_outcome, tree_outcome, staircase_outcome}, Book.{Answer, Call}}
 use Rattle.calls.specs.{Book.{linking, other}, Runs.{Event, event, events, after}}

@@ -1,10 +1,11 @@
 -- What a caller has of the answer to the question for one link that lifts a radio, by its outcome alone.
---   lift-core       a pair lifts a radio exactly if it raises its core number by the largest group
---   lift-first      an accepted call gives a pair that lifts the radio, and no pair before it does
---   lift-none       20 exactly if questions 1 to 4 get yes and no pair lifts it
---   lift-accepted   a link call that takes the pair given up is accepted, and lists the radio
---   lift-right      all of an accepted call
-use Rattle.lists.{specs.Kit.{◌≡◌, refl, sym, ap, ◌∙◌, ◌⊎◌, inl, inr, ◌↔◌, true, false, List, [], ◌∷◌, ℕ, ◌≤◌, ◌<◌, arith, length, take}, specs.Lists.{In}}
+--   lift_core       a pair lifts a radio exactly if it raises its core number by the largest group
+--   lift_first      an accepted call gives a pair that lifts the radio, and no pair before it does
+--   lift_none       20 exactly if questions 1 to 4 get yes and no pair lifts it
+--   lift_accepted   a link call that takes the pair given up is accepted, and lists the radio
+--   lift_right      all of an accepted call
+use Rattle.std.specs.Prelude.{◌≡◌, ◌⊎◌, ◌↔◌, ◌∷◌, ◌≤◌, ◌<◌}
+use Rattle.lists.{specs.Kit.{refl, sym, ap, ◌∙◌, inl, inr, true, false, List, [], ℕ, arith, length, take}, specs.Lists.{In}}
 use Rattle.lists.{specs.Lists.{member}, proofs.Tests.{bool_cases, never}, proofs.Member.{member_in}, proofs.Overwrite.{take_overwrite}}
 use Rattle.mesh.{specs.Limits.{max_neighbours}, specs.Graph.{Link, link_of, Graph, relinked}, specs.Cores.{number}, specs.Levels.{changed}}
 use Rattle.mesh.{specs.Tables.{Tables, graph_in}, specs.Sound.{sound}, proofs.Cores.Peeling.{number_core, number_unique}, proofs.Links.Call.{unchanged_number}}
@@ -67,18 +68,18 @@ module _ (n v : ℕ) (t : Tables) where
     asked : SiteGood n (lengths_of t) true (sound n t) × (v < n) × (is_lifted (lifting g v) ≡ true)
     asked = lift_zero n v (lengths_of t) (sound n t) g answer.0
 
-    pub lift-first : FirstLift g v given
-    lift-first = rw answer.1 (lifted_first g v asked.2)
+    pub lift_first : FirstLift g v given
+    lift_first = rw answer.1 (lifted_first g v asked.2)
 
     raises : Raises g v given
     unfolding graph_in
-    raises = (lift_core g v given asked.1).0 lift-first.does
+    raises = (lift_core g v given asked.1).0 lift_first.does
 
-    pub lift-accepted :
+    pub lift_accepted :
         (w : List ℕ) → n ≤ length w → let o = link_outcome true n given.low given.high t w in
         (o.reply.number ≡ 0) × In v (take o.reply.count o.lent)
     unfolding link_outcome sound graph_in
-    lift-accepted w long = rw (by_zero {o = link_outcome true n a b t w} _ _ _ zero-refusal refl) (refl, rw (take_overwrite (changed true a b g) w) moved)
+    lift_accepted w long = rw (by_zero {o = link_outcome true n a b t w} _ _ _ zero_refusal refl) (refl, rw (take_overwrite (changed true a b g) w) moved)
       where
         a : ℕ
         a = r.low
@@ -94,8 +95,8 @@ module _ (n v : ℕ) (t : Tables) where
               is_sound = asked.0.is_sound;
             }
 
-        zero-refusal : link_refusal true n a b (lengths_of t) (length w) (sound n t) g ≡ 0
-        zero-refusal =
+        zero_refusal : link_refusal true n a b (lengths_of t) (length w) (sound n t) g ≡ 0
+        zero_refusal =
             site_yes n (lengths_of t) (answer_length n (length w)) (sound n t) (ends_refusal max_neighbours true n a b g) good
             ∙ ends_yes max_neighbours true a b g raises.allowed
 
@@ -105,10 +106,10 @@ module _ (n v : ℕ) (t : Tables) where
             go : (member v (changed true a b g) ≡ true) ⊎ (member v (changed true a b g) ≡ false) → In v (changed true a b g)
             go (inl e) = member_in v (changed true a b g) e
             go (inr e) =
-                absurd (omega (arith, (lifts_lifted g v a b lift-first.does).greater, unchanged_number true a b g v asked.1 e))
+                absurd (omega (arith, (lifts_lifted g v a b lift_first.does).greater, unchanged_number true a b g v asked.1 e))
 
     pub lift_right : LiftRight n v t given
-    lift_right = record { first = lift-first; raises = raises; listed = lift-accepted }
+    lift_right = record { first = lift_first; raises = raises; listed = lift_accepted }
 
   -- ---- 20
 

@@ -1,5 +1,6 @@
 -- Every row of the table is right: the definition, computed.
-use Rattle.lists.specs.{Kit.{◌≡◌, refl, true, flat_map}, Lists.{range, count, filter, member}}
+use Rattle.std.specs.Prelude.{◌≡◌}
+use Rattle.lists.specs.{Kit.{refl, true, flat_map}, Lists.{range, count, filter, member}}
 use Rattle.mesh.specs.{Graph.{radios, linked, other_ends, neighbours_among, degree, link, link_before, same_link, with_link, new_links, relinked}}
 use Rattle.mesh.specs.{Cores.{survivors, peeled, cores_from, cores, depth, number}}
 use Rattle.calls.specs.{Questions.{ask, is_radio, are_radios, ends_differ, can_switch, has_room, ends_refusal}, Lift.{lifts, lifting_from, lifting}}

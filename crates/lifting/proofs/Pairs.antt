@@ -1,10 +1,11 @@
 -- A pair that lifts a radio, and pairs that a peel shows not to. Its graph with the link has a group of the radio's number and one more:
 -- the radios whose number is then greater than k. Both ends are in it, since without the link it is none.
---   candidate-refutes   only a pair with lower number k, link down and room at both ends lifts a radio of number k
---   lift-group          a pair that lifts a radio has a group with it
---   radio-refutes .. high-refutes   pairs without such a group
---   peeling-lifts       what stays is such a group
-use Rattle.lists.{specs.Kit.{◌≡◌, sym, ap, ◌∙◌, ◌⊎◌, inl, inr, Bool, true, false, ◌&&◌, List, ℕ, suc, ◌+◌, ◌≤◌, ◌<◌, arith, le_trans, le_of_eq, ltb, leb, eqb}}
+--   candidate_refutes   only a pair with lower number k, link down and room at both ends lifts a radio of number k
+--   lift_group          a pair that lifts a radio has a group with it
+--   radio_refutes .. high_refutes   pairs without such a group
+--   peeling_lifts       what stays is such a group
+use Rattle.std.specs.Prelude.{◌≡◌, ◌⊎◌, ◌&&◌, ◌+◌, ◌≤◌, ◌<◌}
+use Rattle.lists.{specs.Kit.{sym, ap, ◌∙◌, inl, inr, Bool, true, false, List, ℕ, suc, arith, le_trans, le_of_eq, ltb, leb, eqb}}
 use Rattle.lists.{specs.Kit.{get_or, ltb-true, lt-ltb, leb-true, le-leb, eqb-true, eqb-false, eq-eqb}, specs.Lists.{range, filter, member}}
 use Rattle.lists.{proofs.Tests.{bool_cases, never, and_left, and_right, and_both}, proofs.Range.{in_range, distinct_range}, proofs.Count.{count_less}}
 use Rattle.lists.{proofs.Filter.{distinct_filter}}

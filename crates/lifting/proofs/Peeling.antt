@@ -1,11 +1,12 @@
 -- A level peeled with one radio kept.
---   peeling-starts   the counters that the check found
---   peeling-takes    a radio with at most k neighbours that stay is taken
---   peeling-near     a neighbour of a radio that is left has one to lose
---   taken-fewer      fewer radios are left
+--   peeling_starts   the counters that the check found
+--   peeling_takes    a radio with at most k neighbours that stay is taken
+--   peeling_near     a neighbour of a radio that is left has one to lose
+--   taken_fewer      fewer radios are left
 -- Why a group of a pair keeps clear of the taken radios: the first one taken that it had would have had k + 1 neighbours in the group, and
 -- all of them stayed.
-use Rattle.lists.{specs.Kit.{◌≡◌, refl, sym, ap, ◌∙◌, ◌⊎◌, inl, inr, Bool, true, false, ◌&&◌, ◌||◌, and-false, List, ℕ, ◌+◌, ◌≤◌, ◌<◌, arith, le_antisymm}}
+use Rattle.std.specs.Prelude.{◌≡◌, ◌⊎◌, ◌&&◌, ◌||◌, ◌+◌, ◌≤◌, ◌<◌}
+use Rattle.lists.{specs.Kit.{refl, sym, ap, ◌∙◌, inl, inr, Bool, true, false, and-false, List, ℕ, arith, le_antisymm}}
 use Rattle.lists.{specs.Kit.{le_trans, le_of_eq, ltb, leb, eqb, get_or, ltb-true, ltb-false, lt-ltb, le-ltb, leb-true, le-leb, eqb-true, eqb-false}}
 use Rattle.lists.{specs.Lists.{range, count}, proofs.Tests.{bool_cases, never, and_both, or_cases, or_left, or_right}, proofs.Range.{in_range, distinct_range}}
 use Rattle.lists.{proofs.Count.{count_pos, count_less, count_ext}, proofs.Distinct.{count_plus_one}}

@@ -1,9 +1,10 @@
 -- Pairs tried by lower radio and then higher: the first that lifts, or none.
---   untried-start, untried-next   of the pairs with the lower radio a, ones that can lift
---   none-start, none-next         lower radios that are done
+--   untried_start, untried_next   of the pairs with the lower radio a, ones that can lift
+--   none_start, none_next         lower radios that are done
 --   first_found, none_found       what `lifting` then is
---   lifted-first, lifted-none, none-lifted   what a pair of the list, and an empty list, say
-use Rattle.lists.{specs.Kit.{◌≡◌, refl, ap, ◌∙◌, ◌⊎◌, inl, inr, Bool, true, false, ◌&&◌, List, [], ◌∷◌, ◌++◌, map, flat_map, ℕ, zero, suc, ◌+◌, ◌-◌, ◌≤◌, ◌<◌}}
+--   lifted_first, lifted_none, none_lifted   what a pair of the list, and an empty list, say
+use Rattle.std.specs.Prelude.{◌≡◌, ◌⊎◌, ◌&&◌, ◌∷◌, ◌++◌, ◌+◌, ◌-◌, ◌≤◌, ◌<◌}
+use Rattle.lists.{specs.Kit.{refl, ap, ◌∙◌, inl, inr, Bool, true, false, List, [], map, flat_map, ℕ, zero, suc}}
 use Rattle.lists.{specs.Kit.{arith, ltb, eqb, ltb-true, ltb-false, eqb-true, eqb-false}, specs.Lists.{range, filter}, proofs.Tests.{bool_cases, never}}
 use Rattle.lists.{proofs.Tests.{and_left, and_right, or_cases}, proofs.Range.{range_append, range_in}, proofs.Filter.{filter_none, filter_append}}
 use Rattle.lists.{proofs.Map.{flat_map_none, flat_map_append}}

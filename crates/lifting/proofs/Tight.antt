@@ -1,6 +1,7 @@
 -- A pair that lifts a radio begins at a tight end. Of the pair's group the radio that stands first in the order has all its neighbours of the
 -- group later. It is no other than an end, which has at least k of them, and then it has no more.
-use Rattle.lists.{specs.Kit.{◌≡◌, refl, sym, ap, ◌∙◌, ◌⊎◌, inl, inr, Bool, true, false, ◌&&◌, cond, List, ℕ, zero, suc, ◌≤◌, ◌<◌, arith, le_antisymm, ltb, leb}}
+use Rattle.std.specs.Prelude.{◌≡◌, ◌⊎◌, ◌&&◌, ◌≤◌, ◌<◌}
+use Rattle.lists.{specs.Kit.{refl, sym, ap, ◌∙◌, inl, inr, Bool, true, false, cond, List, ℕ, zero, suc, arith, le_antisymm, ltb, leb}}
 use Rattle.lists.{specs.Kit.{eqb, eqb-true, eqb-false, eq-eqb, leb-true, leb-false, le-leb, ltb-true, ltb-false, lt-ltb}, proofs.Tests.{bool_cases, never}}
 use Rattle.lists.{proofs.Tests.{and_both}}
 use Rattle.mesh.{specs.Limits.{max_neighbours}, specs.Graph.{Graph, proper, link_of, linked, neighbours_in}, specs.Cores.{number}, specs.Valid.{Valid}}

@@ -1,6 +1,7 @@
 -- Worked cases of one link that lifts a radio, as one table: a site, a radio, and the first pair that lifts it or none. That every row is
 -- right is `lift_cases` in proofs/Cases.antt. Definitions only.
-use Rattle.lists.specs.Kit.{Bool, true, false, ◌&&◌, List, [], ◌∷◌, ℕ}
+use Rattle.std.specs.Prelude.{◌&&◌, ◌∷◌}
+use Rattle.lists.specs.Kit.{Bool, true, false, List, [], ℕ}
 use Rattle.mesh.specs.Graph.{Link, link_of, same_link, graph}
 use Rattle.calls.specs.Lift.{lifting}
 

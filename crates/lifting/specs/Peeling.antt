@@ -8,7 +8,8 @@
 --   Taken g v cs ds       the counters when v is taken
 --   Peeling g k a cs      radios were taken of whose neighbours at most k stayed, and a was not
 -- Laws are in proofs/Peeling.antt. Definitions only.
-use Rattle.lists.specs.Kit.{◌≡◌, Bool, true, false, ◌&&◌, ◌||◌, List, ℕ, suc, ◌+◌, ◌≤◌, ◌<◌, ltb, get_or}
+use Rattle.std.specs.Prelude.{◌≡◌, ◌&&◌, ◌||◌, ◌+◌, ◌≤◌, ◌<◌}
+use Rattle.lists.specs.Kit.{Bool, true, false, List, ℕ, suc, ltb, get_or}
 use Rattle.mesh.specs.{Limits.{max_neighbours}, Graph.{Graph, linked, neighbours_in}, Cores.{number}}
 
 unfoldable pub left : (counters : List ℕ) → (v : ℕ) → Bool

@@ -1,11 +1,12 @@
--- What a caller has of the answer (document 02, W212). g is the graph in the tables, l the pair given.
+-- What a caller has of the answer (document 02, W-212). g is the graph in the tables, l the pair given.
 --   IsPair g l        two radios, the lower one first
 --   FirstLift g r l   l lifts r, and no pair before it does
 --   NoLift g r        no pair lifts r
 --   Raises g v l       with the link l, which a link call would take up now, the core number of v by the largest group is greater
 --   LiftRight         l is the first pair that lifts v; it raises v; taking it up is accepted and lists v
--- That they hold is `lift_core`, `lift-accepted`, `lift_right` in proofs/Answers.antt. Definitions only.
-use Rattle.lists.specs.{Kit.{◌≡◌, true, false, List, ℕ, ◌≤◌, ◌<◌, length, take}, Lists.{In}}
+-- That they hold is `lift_core`, `lift_accepted`, `lift_right` in proofs/Answers.antt. Definitions only.
+use Rattle.std.specs.Prelude.{◌≡◌, ◌≤◌, ◌<◌}
+use Rattle.lists.specs.{Kit.{true, false, List, ℕ, length, take}, Lists.{In}}
 use Rattle.mesh.specs.{Limits.{max_neighbours}, Graph.{Link, Graph, link_before, relinked, Allowed}, Cores.{Core}, Tables.{Tables, graph_in}}
 use Rattle.calls.specs.{Outcomes.{link_outcome}, Lift.{lifts}}
 

@@ -3,7 +3,8 @@
 --   NoneBelow g r a      no pair whose lower radio is below a lifts r
 --   Untried g r a rest    of the pairs whose lower radio is a, only ones with a radio of `rest` can lift r
 -- Laws are in proofs/Search.antt. Definitions only.
-use Rattle.lists.specs.Kit.{◌≡◌, Bool, true, false, ◌&&◌, ℕ, ◌<◌, eqb}
+use Rattle.std.specs.Prelude.{◌≡◌, ◌&&◌, ◌<◌}
+use Rattle.lists.specs.Kit.{Bool, true, false, ℕ, eqb}
 use Rattle.mesh.specs.{Limits.{max_neighbours}, Graph.{link_of, Graph}, Levels.{lower_level}}
 use Rattle.calls.specs.{Questions.{can_switch, has_room}, Lift.{lifts}}
 

@@ -2,9 +2,10 @@
 --   Ordered g place        numbers never fall along the order, and no radio has more later neighbours than its number
 --   later g place v        how many neighbours of v stand later in the order than v
 --   tight g place k r v    v has number k and exactly k later neighbours, and stands no later than r
---   first-end place a b    the end of the pair a, b that stands first in the order, where a walk of its link begins
+--   first_end place a b    the end of the pair a, b that stands first in the order, where a walk of its link begins
 -- That only a pair whose first end is tight lifts r is `tight_refutes` in proofs/Tight.antt. Definitions only.
-use Rattle.lists.specs.Kit.{◌≡◌, Bool, ◌&&◌, cond, ℕ, ◌≤◌, ◌<◌, ltb, leb, eqb}
+use Rattle.std.specs.Prelude.{◌≡◌, ◌&&◌, ◌≤◌, ◌<◌}
+use Rattle.lists.specs.Kit.{Bool, cond, ℕ, ltb, leb, eqb}
 use Rattle.mesh.specs.{Graph.{Graph, neighbours_in}, Cores.{number}}
 
 unfoldable pub later : Graph → (place : ℕ → ℕ) → (v : ℕ) → ℕ

@@ -1,5 +1,6 @@
 -- Laws of `all` and `same`: tests of every entry, and equality of two lists.
-use Rattle.lists.specs.Kit.{◌≡◌, refl, ap₂, ap, sym, ◌∙◌, inl, inr, Bool, ◌&&◌, true, false, List, ◌∷◌, [], ◌++◌, ℕ, ◌<◌, arith, length, eqb, eq-eqb}
+use Rattle.std.specs.Prelude.{◌≡◌, ◌&&◌, ◌∷◌, ◌++◌, ◌<◌}
+use Rattle.lists.specs.Kit.{refl, ap₂, ap, sym, ◌∙◌, inl, inr, Bool, true, false, List, [], ℕ, arith, length, eqb, eq-eqb}
 use Rattle.lists.specs.Kit.{eqb-true, ⊎_elim}
 use Rattle.lists.specs.Lists.{all, In, range, same}
 use Rattle.lists.proofs.{Tests.{and_left, and_right, and_both, never, bool_cases, iff_eq}, Range.{in_range, range_in}}

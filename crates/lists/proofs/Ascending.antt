@@ -1,5 +1,6 @@
 -- Laws of lists in order: `Ascending` (each entry below the later ones), `Rising` (numbers never fall), `AscendingBelow`.
-use Rattle.lists.specs.Kit.{refl, ◌≡◌, sym, ap, ◌∙◌, ◌⊎◌, inl, inr, Bool, true, false, cond, List, [], ◌∷◌, ◌++◌, ℕ, ◌≤◌, ◌<◌, zero, suc, ◌+◌, arith}
+use Rattle.std.specs.Prelude.{◌≡◌, ◌⊎◌, ◌∷◌, ◌++◌, ◌≤◌, ◌<◌, ◌+◌}
+use Rattle.lists.specs.Kit.{refl, sym, ap, ◌∙◌, inl, inr, Bool, true, false, cond, List, [], ℕ, zero, suc, arith}
 use Rattle.lists.specs.Kit.{length, get_or}
 use Rattle.lists.specs.{Lists.{In, head_or, Ascending, range, filter, member}, Facts.{Rising, AscendingBelow, Distinct}}
 use Rattle.lists.proofs.{Member.{in_cases, in_left, member_in, in_member, get_d_of_in}, Filter.{member_filter, filter_ext, filter_one, distinct_filter}}

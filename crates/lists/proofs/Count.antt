@@ -1,6 +1,7 @@
 -- Laws of `count`: parts, other tests, tests that pass nowhere or somewhere.
-use Rattle.lists.specs.Kit.{◌≡◌, sym, ◌∙◌, refl, ap, inl, inr, ◌⊎◌, Bool, true, false, ◌||◌, cond, not, ◌&&◌, and_comm, List, [], ◌∷◌, ◌++◌, map, ℕ, suc}
-use Rattle.lists.specs.Kit.{◌+◌, ◌<◌, ◌≤◌, zero, le_antisymm, arith, length, ⊎_elim}
+use Rattle.std.specs.Prelude.{◌≡◌, ◌⊎◌, ◌||◌, ◌&&◌, ◌∷◌, ◌++◌, ◌+◌, ◌<◌, ◌≤◌}
+use Rattle.lists.specs.Kit.{sym, ◌∙◌, refl, ap, inl, inr, Bool, true, false, cond, not, and_comm, List, [], map, ℕ, suc}
+use Rattle.lists.specs.Kit.{zero, le_antisymm, arith, length, ⊎_elim}
 use Rattle.lists.specs.Lists.{count, In}
 use Rattle.lists.proofs.Tests.{never, bit_one, bit_le, bit_true, bool_cases, bit_false}
 

@@ -1,5 +1,6 @@
 -- Laws of lists without repeats, and of permutations.
-use Rattle.lists.specs.Kit.{sym, ◌≡◌, ap, refl, ◌⊎◌, inl, inr, Bool, true, false, cond, List, [], ◌∷◌, ◌++◌, ℕ, suc, ◌+◌, ◌<◌, zero, ◌≤◌, arith, le_trans}
+use Rattle.std.specs.Prelude.{◌≡◌, ◌⊎◌, ◌∷◌, ◌++◌, ◌+◌, ◌<◌, ◌≤◌}
+use Rattle.lists.specs.Kit.{sym, ap, refl, inl, inr, Bool, true, false, cond, List, [], ℕ, suc, zero, arith, le_trans}
 use Rattle.lists.specs.Kit.{length, get_or, eqb, eq-eqb, eqb-true, ⊎_elim}
 use Rattle.lists.specs.{Lists.{In, count}, Facts.{Distinct, Permutation}}
 use Rattle.lists.proofs.{Member.{in_cases, get_d_of_in, in_get_d, in_left, in_right, split_in, in_drop}, Tests.{never, bool_cases, bit_true, bit_false}}

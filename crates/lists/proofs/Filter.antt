@@ -1,5 +1,6 @@
 -- Laws of `filter`: membership, counts, parts, tests one after the other.
-use Rattle.lists.specs.Kit.{◌≡◌, sym, ap, ◌∙◌, refl, ◌⊎◌, inl, inr, Bool, true, false, cond, ◌&&◌, not, List, [], ◌∷◌, ◌++◌, append-nil, ℕ, ◌+◌, ◌-◌, ◌≤◌}
+use Rattle.std.specs.Prelude.{◌≡◌, ◌⊎◌, ◌&&◌, ◌∷◌, ◌++◌, ◌+◌, ◌-◌, ◌≤◌}
+use Rattle.lists.specs.Kit.{sym, ap, ◌∙◌, refl, inl, inr, Bool, true, false, cond, not, List, [], append-nil, ℕ}
 use Rattle.lists.specs.Kit.{arith, length, ⊎_elim}
 use Rattle.lists.specs.{Lists.{filter, In, member, count, range}, Facts.{Distinct}}
 use Rattle.lists.proofs.{Tests.{bool_cases, never}, Member.{in_member, not_member}, Range.{range_in, range_append}, Count.{count_le_length}}

@@ -1,7 +1,8 @@
 -- Invariants of loops over a list, after i entries: one for each kind of loop.
 --   Folding        each entry changes a state: what is left gives what the whole gives
 --   CountedFrom   entries that pass a test are counted
-use Rattle.lists.specs.Kit.{◌≡◌, refl, sym, ap, ◌∙◌, Bool, List, [], ◌∷◌, ◌++◌, ℕ, ◌+◌, ◌^◌, ◌≤◌, ◌<◌, arith, add-one, length, get_or, take, drop}
+use Rattle.std.specs.Prelude.{◌≡◌, ◌∷◌, ◌++◌, ◌+◌, ◌^◌, ◌≤◌, ◌<◌}
+use Rattle.lists.specs.Kit.{refl, sym, ap, ◌∙◌, Bool, List, [], ℕ, arith, add-one, length, get_or, take, drop}
 use Rattle.lists.specs.Kit.{drop_of_length-le, length-take-le, get_or-take, drop-cons, drop-length}
 use mir.{Syntax.{w64}, Val.{bool_byte, Fits}}
 use Rattle.lists.specs.{Facts.{folded}, Lists.{count}}

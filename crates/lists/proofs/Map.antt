@@ -1,7 +1,8 @@
 -- Laws of `map` and `flat_map`, and of tables given by a rule: map f over a range.
-use Rattle.lists.specs.Kit.{◌≡◌, ap, ◌∙◌, refl, ap₂, sym, inl, inr, map, List, [], ◌∷◌, ListAsMemᴰ, List·Memᴰ·cases-cons, List·Memᴰ·not-nil, ⊎_elim}
-use Rattle.lists.specs.Kit.{List·Memᴰ·head, List·Memᴰ·tail, flat_map, List·Memᴰ·append-cases, Memᴰ·append-left, Memᴰ·append-right, ◌++◌, append_assoc, ℕ}
-use Rattle.lists.specs.Kit.{zero, suc, ◌+◌, ◌<◌, ◌≤◌, arith, get_or, length, drop, take, replicate, drop-cons}
+use Rattle.std.specs.Prelude.{◌≡◌, ◌∷◌, ◌++◌, ◌+◌, ◌<◌, ◌≤◌}
+use Rattle.lists.specs.Kit.{ap, ◌∙◌, refl, ap₂, sym, inl, inr, map, List, [], ListAsMemᴰ, List·Memᴰ·cases-cons, List·Memᴰ·not-nil, ⊎_elim}
+use Rattle.lists.specs.Kit.{List·Memᴰ·head, List·Memᴰ·tail, flat_map, List·Memᴰ·append-cases, Memᴰ·append-left, Memᴰ·append-right, append_assoc, ℕ}
+use Rattle.lists.specs.Kit.{zero, suc, arith, get_or, length, drop, take, replicate, drop-cons}
 use Rattle.lists.specs.Lists.{range, In, head_or}
 
 pub get_d_map_range : {A : Type 0} (d : A) (f : ℕ → A) (i k v : ℕ) → v < k → get_or (map f (range i k)) v d ≡ f (i + v)

@@ -1,5 +1,6 @@
 -- Laws of membership, as a type (`In`) and as a test (`member`), and of the first entry.
-use Rattle.lists.specs.Kit.{◌≡◌, refl, ap, inl, inr, ◌⊎◌, Bool, true, false, ◌||◌, or-true, List, [], ◌∷◌, ◌++◌, ℕ, zero, suc, ◌<◌, arith, eqb, length}
+use Rattle.std.specs.Prelude.{◌≡◌, ◌⊎◌, ◌||◌, ◌∷◌, ◌++◌, ◌<◌}
+use Rattle.lists.specs.Kit.{refl, ap, inl, inr, Bool, true, false, or-true, List, [], ℕ, zero, suc, arith, eqb, length}
 use Rattle.lists.specs.Kit.{get_or, eqb-true, eq-eqb, ⊎_elim}
 use Rattle.lists.specs.Lists.{member, In, head_or}
 use Rattle.lists.proofs.Tests.{never, bool_cases}

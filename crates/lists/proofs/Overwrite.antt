@@ -1,6 +1,7 @@
 -- Laws of stores: entries in front (`overwrite`), one after the other (`sets`), inside a table given by a rule.
-use Rattle.lists.specs.Kit.{◌≡◌, refl, ap, ◌∙◌, sym, ap₂, cond, List, [], ◌∷◌, ◌++◌, map, append-nil, append_assoc, ℕ, zero}
-use Rattle.lists.specs.Kit.{suc, ◌+◌, ◌-◌, ◌<◌, ◌≤◌, min, arith, zero-add, length, take, drop, set, drop_of_length-le, get_or, length-append, ⊎_elim}
+use Rattle.std.specs.Prelude.{◌≡◌, ◌∷◌, ◌++◌, ◌+◌, ◌-◌, ◌<◌, ◌≤◌}
+use Rattle.lists.specs.Kit.{refl, ap, ◌∙◌, sym, ap₂, cond, List, [], map, append-nil, append_assoc, ℕ, zero}
+use Rattle.lists.specs.Kit.{suc, min, arith, zero-add, length, take, drop, set, drop_of_length-le, get_or, length-append, ⊎_elim}
 use Rattle.lists.specs.Kit.{take-append-drop, take_at, take_all, drop-cons, set_at, set-append_left, get_or-take, sets, set_out, drop-nil, drop_at}
 use Rattle.lists.specs.Kit.{drop-drop, eqb, ltb, eq-eqb, ne_eqb, ltb-true, ltb-false}
 use Rattle.lists.specs.Lists.{overwrite, range}

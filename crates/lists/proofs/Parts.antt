@@ -1,6 +1,7 @@
 -- Laws of parts: parts of equal length joined, a part of a part, lists of bytes, zeros.
-use Rattle.lists.specs.Kit.{◌≡◌, sym, ap, ◌∙◌, refl, ap₂, Bool, true, false, cond, List, [], ◌∷◌, ◌++◌, flat_map, ℕ, zero, suc, ◌+◌, ◌*◌}
-use Rattle.lists.specs.Kit.{◌<◌, ◌≤◌, min, ◌-◌, arith, mul-suc, zero-min, suc-min-suc, sub-zero, zero-sub, suc-sub-suc, add-one, replicate, ⊎_elim}
+use Rattle.std.specs.Prelude.{◌≡◌, ◌∷◌, ◌++◌, ◌+◌, ◌*◌, ◌<◌, ◌≤◌, ◌-◌}
+use Rattle.lists.specs.Kit.{sym, ap, ◌∙◌, refl, ap₂, Bool, true, false, cond, List, [], flat_map, ℕ, zero, suc}
+use Rattle.lists.specs.Kit.{min, arith, mul-suc, zero-min, suc-min-suc, sub-zero, zero-sub, suc-sub-suc, add-one, replicate, ⊎_elim}
 use Rattle.lists.specs.Kit.{length-replicate, get_or-replicate, length, get_or, take, drop, length-append, List·getD-append, length-drop, take-append-drop}
 use Rattle.lists.specs.Kit.{List·getD-eq-default, get_or-append-add, drop-append-add, take_at, drop-drop, take-take, get_or-drop, take-nil, drop-cons, ltb}
 use Rattle.lists.specs.Kit.{ltb-true, ltb-false}

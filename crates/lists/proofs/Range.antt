@@ -1,5 +1,6 @@
 -- Laws of `range`, and of lists that hold each number below n once.
-use Rattle.lists.specs.Kit.{◌≡◌, ap, ◌∙◌, refl, sym, inl, inr, Bool, false, not, true, List, [], ◌∷◌, ◌++◌, ℕ, ◌+◌, ◌-◌, ◌≤◌, ◌<◌, zero, suc, arith}
+use Rattle.std.specs.Prelude.{◌≡◌, ◌∷◌, ◌++◌, ◌+◌, ◌-◌, ◌≤◌, ◌<◌}
+use Rattle.lists.specs.Kit.{ap, ◌∙◌, refl, sym, inl, inr, Bool, false, not, true, List, [], ℕ, zero, suc, arith}
 use Rattle.lists.specs.Kit.{eq-or-lt_of_le, add-one, eqb, get_or, length, eq-eqb, ⊎_elim}
 use Rattle.lists.specs.{Lists.{range, count, In}, Facts.{EachOnce, Distinct}}
 use Rattle.lists.proofs.{Count.{count_append, count_none, count_pos, count_not, count_all}, Distinct.{distinct_one, count_sub, permutation_in}}

@@ -1,5 +1,6 @@
 -- Laws of `total`: the sum of a function over a list.
-use Rattle.lists.specs.Kit.{refl, ◌≡◌, inl, inr, Bool, cond, List, [], ◌∷◌, ℕ, ◌*◌, ◌≤◌, ◌+◌, arith, mul-suc, length}
+use Rattle.std.specs.Prelude.{◌≡◌, ◌∷◌, ◌*◌, ◌≤◌, ◌+◌}
+use Rattle.lists.specs.Kit.{refl, inl, inr, Bool, cond, List, [], ℕ, arith, mul-suc, length}
 use Rattle.lists.specs.Lists.{In, total, count}
 
 pub total_le : (f : ℕ → ℕ) (most : ℕ) (xs : List ℕ) → ((x : ℕ) → In x xs → f x ≤ most) → total f xs ≤ most * length xs

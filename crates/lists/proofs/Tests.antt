@@ -1,5 +1,6 @@
 -- Laws of tests: cases, && and ||, a test as 0 or 1, `cond`.
-use Rattle.lists.specs.Kit.{◌≡◌, refl, sym, ◌⊎◌, inl, inr, Bool, true, false, cond, ◌&&◌, ◌||◌, or-true, Bool·beq, ℕ, ◌≤◌, ◌<◌, ◌+◌, arith, ltb, eqb, leb}
+use Rattle.std.specs.Prelude.{◌≡◌, ◌⊎◌, ◌&&◌, ◌||◌, ◌≤◌, ◌<◌, ◌+◌}
+use Rattle.lists.specs.Kit.{refl, sym, inl, inr, Bool, true, false, cond, or-true, Bool·beq, ℕ, arith, ltb, eqb, leb}
 use Rattle.lists.specs.Kit.{ltb-true, ltb-false, lt-ltb, leb-true, le-leb}
 use mir.Val.{bool_byte}
 

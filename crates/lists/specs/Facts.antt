@@ -7,7 +7,8 @@
 --   Rising num xs          no later entry has a smaller number
 --   Bytes xs               every entry is below 256
 -- Laws are in proofs/. Definitions only.
-use Rattle.lists.specs.Kit.{◌≡◌, Bool, List, [], ◌∷◌, ℕ, ◌≤◌}
+use Rattle.std.specs.Prelude.{◌≡◌, ◌∷◌, ◌≤◌}
+use Rattle.lists.specs.Kit.{Bool, List, [], ℕ}
 use Rattle.lists.specs.Lists.{range, count, filter, member, In, EntriesBelow}
 
 unfoldable pub folded : {S : Type 0} → (ℕ → S → S) → List ℕ → S → S

@@ -6,13 +6,14 @@
 --   member v xs         is v an entry of xs
 --   all f xs            does every entry of xs pass the test f
 --   same xs ys          are the two lists equal
---   head-or d xs        the first entry of xs, or d where there is none
+--   head_or d xs        the first entry of xs, or d where there is none
 --   overwrite xs ys     the list ys with xs in front: its later entries keep their content
 --   In v xs             v is an entry of xs
 --   Ascending xs        each entry is below all later ones
 --   EntriesBelow k xs  every entry is below k: 256 for a table of bytes, 65,536 for one of 16-bit entries
 -- What only proofs and contracts say of lists is in Facts.antt; laws are in proofs/. Definitions only.
-use Rattle.lists.specs.Kit.{◌≡◌, ◌⊎◌, Bool, true, false, ◌&&◌, ◌||◌, cond, List, [], ◌∷◌, ◌++◌, ℕ, zero, suc, ◌+◌, ◌<◌, eqb, length, drop, get_or}
+use Rattle.std.specs.Prelude.{◌≡◌, ◌⊎◌, ◌&&◌, ◌||◌, ◌∷◌, ◌++◌, ◌+◌, ◌<◌}
+use Rattle.lists.specs.Kit.{Bool, true, false, cond, List, [], ℕ, zero, suc, eqb, length, drop, get_or}
 
 -- ---- lists worked out
 

@@ -1,7 +1,8 @@
 -- Laws of links and neighbours.
 -- In order: what a list of links joins, a link put in or taken out, proper links, graphs one link apart, neighbours in a set.
-use Rattle.lists.specs.Kit.{◌≡◌, refl, sym, ap, ◌∙◌, ◌⊎◌, inl, inr, Bool, true, false, ◌&&◌, ◌||◌, not, cond, and-true, and-false, or_comm, or-true, List, []}
-use Rattle.lists.{specs.Kit.{◌∷◌, ℕ, ◌≤◌, ◌<◌, arith, le_antisymm, ltb, eqb, ltb-true, ltb-false, lt-ltb, eqb-true, eq-eqb}, specs.Lists.{range, count, filter}}
+use Rattle.std.specs.Prelude.{◌≡◌, ◌⊎◌, ◌&&◌, ◌||◌, ◌∷◌, ◌≤◌, ◌<◌}
+use Rattle.lists.specs.Kit.{refl, sym, ap, ◌∙◌, inl, inr, Bool, true, false, not, cond, and-true, and-false, or_comm, or-true, List, []}
+use Rattle.lists.{specs.Kit.{ℕ, arith, le_antisymm, ltb, eqb, ltb-true, ltb-false, lt-ltb, eqb-true, eq-eqb}, specs.Lists.{range, count, filter}}
 use Rattle.lists.specs.Kit.{⊎_elim}
 use Rattle.lists.{specs.Lists.{member, In}, specs.Facts.{Distinct, EachOnce}, proofs.Tests.{bool_cases, never, and_left, and_right, and_both, or_cases}}
 use Rattle.lists.{proofs.Tests.{or_left, or_right, iff_eq, swap_or}, proofs.Member.{member_in, in_member}, proofs.Range.{in_range, range_in, distinct_range}}

@@ -1,6 +1,7 @@
 -- The limits in the code are the limits in the definitions: what `Site`'s constants hand out is, by each function's own
 -- contract, the number of specs/Limits.antt, and each contract is met.
-use Rattle.lists.specs.Kit.{◌≡◌, refl}
+use Rattle.std.specs.Prelude.{◌≡◌}
+use Rattle.lists.specs.Kit.{refl}
 use seplogic.Ra.Ura.{Ura}
 use types.Logic.{Logic}
 use contract.Monad.{fact}
@@ -16,7 +17,6 @@ use Rattle.mesh.proofs.Site.row_length.Met as row_length_proof
 use Rattle.mesh.proofs.Site.row_length.Statement as row_length_statement
 
 module _ {M : Type 1} {𝓤 : Ura M} (𝓛 : Logic 𝓤) where
-
   pub radios_say : (κs : _) (A : _) (run : _) (r : _) → radio_limit.ensures-1 𝓛 κs A run r ≡ fact 𝓤 (r ≡ max_radios)
   radios_say κs A run r = refl
 

@@ -1,5 +1,6 @@
 -- Question 1 as what it asks, both ways.
-use Rattle.lists.{specs.Kit.{◌≡◌, true, ℕ, ◌≤◌, leb, leb-true, le-leb}, proofs.Tests.{and_left, and_right, and_both}}
+use Rattle.std.specs.Prelude.{◌≡◌, ◌≤◌}
+use Rattle.lists.{specs.Kit.{true, ℕ, leb, leb-true, le-leb}, proofs.Tests.{and_left, and_right, and_both}}
 use Rattle.mesh.specs.Limits.{max_radios, size_good}
 
 pub size_good_true : (n : ℕ) → size_good n ≡ true → (1 ≤ n) × (n ≤ max_radios)

@@ -2,14 +2,15 @@
 --   Reachable g over v w     links lead from v to w over radios that pass the test `over`
 --   at_least g k             the test: radios with number k or more
 --   InCore g v k w          document 01: w is in the connected core of v at level k
---   reached, core-of         the same, worked out by rounds, as an ascending list
---   InBackbone g v          v's number is the greatest in its own connected part, and not 0 (document 02, W202)
+--   reached, core_of         the same, worked out by rounds, as an ascending list
+--   InBackbone g v          v's number is the greatest in its own connected part, and not 0 (document 02, W-202)
 --   backbone g               the same, worked out, as an ascending list
---   site-backbone g          document 01's backbone, by the greatest number of the site; it serves `backbone_one_part` alone
+--   site_backbone g          document 01's backbone, by the greatest number of the site; it serves `backbone_one_part` alone
 -- The connected part of v is its connected core at level 0. That rounds give what is reachable is `core_of_iff` in
 -- proofs/Trees/Reach.antt; of the backbone it is `backbone_iff` in proofs/Trees/Listed.antt, and there `backbone_one_part` says that
 -- a site in one part has document 01's backbone. Definitions only.
-use Rattle.lists.specs.{Kit.{◌≡◌, Bool, true, ◌&&◌, ◌||◌, List, [], ◌∷◌, map, ℕ, zero, suc, ◌≤◌, ◌<◌, max, ltb, leb, eqb}, Lists.{filter, member}}
+use Rattle.std.specs.Prelude.{◌≡◌, ◌&&◌, ◌||◌, ◌∷◌, ◌≤◌, ◌<◌}
+use Rattle.lists.specs.{Kit.{Bool, true, List, [], map, ℕ, zero, suc, max, ltb, leb, eqb}, Lists.{filter, member}}
 use Rattle.mesh.specs.{Graph.{Graph, radios, linked, neighbours_among}, Cores.{number, numbers}}
 
 -- ---- connected cores
@@ -39,7 +40,7 @@ core_of g v k = reached g.n g (at_least g k) (v ∷ [])
 
 -- ---- backbone
 
--- document 01: backbone, as W202 has it. The number is the greatest in the radio's own connected part, and not 0
+-- document 01: backbone, as W-202 has it. The number is the greatest in the radio's own connected part, and not 0
 pub record InBackbone (g : Graph) (v : ℕ) : Type 0 where
   pub is_radio : v < g.n
   pub positive : 1 ≤ number g v
@@ -55,7 +56,7 @@ backbone g =
     let num = number g in
     filter (λ v. ltb 0 (num v) && eqb (num v) (greatest (map num (core_of g v 0)))) (radios g)
 
--- document 01: backbone, before W202. The radios whose number is the greatest at the site; none if that is 0
+-- document 01: backbone, before W-202. The radios whose number is the greatest at the site; none if that is 0
 unfoldable pub site_backbone : Graph → List ℕ
 site_backbone g =
     let num = number g in

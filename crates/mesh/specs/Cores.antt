@@ -6,7 +6,8 @@
 --   number g v        the core number of v: how many of these have v
 --   numbers g         the core numbers by radio
 -- That `number` is the core number is `number_core` in proofs/Cores/Peeling.antt. Definitions only.
-use Rattle.lists.specs.{Kit.{◌≡◌, Bool, true, cond, List, [], ◌∷◌, map, ℕ, zero, suc, ◌+◌, ◌≤◌, ◌<◌, leb, eqb, length}, Lists.{filter, member}}
+use Rattle.std.specs.Prelude.{◌≡◌, ◌∷◌, ◌+◌, ◌≤◌, ◌<◌}
+use Rattle.lists.specs.{Kit.{Bool, true, cond, List, [], map, ℕ, zero, suc, leb, eqb, length}, Lists.{filter, member}}
 use Rattle.mesh.specs.Graph.{Graph, radios, linked, neighbours_among, neighbours_in}
 
 -- ---- the largest group

@@ -3,14 +3,15 @@
 --   Graph                    n radios, numbered 0 to n - 1, and their links; a site's order is no part of it
 --   InLinks l ls            l is one of the links ls
 --   linked g a b             is there a link between a and b
---   neighbours-among f v xs  how many radios of xs are neighbours of v, where f tells neighbours
---   neighbours-in g v s      how many neighbours v has in the set s
+--   neighbours_among f v xs  how many radios of xs are neighbours of v, where f tells neighbours
+--   neighbours_in g v s      how many neighbours v has in the set s
 --   degree g v               how many neighbours v has
 --   relinked up a b g        the graph with the link between a and b taken up or down
 --   Allowed most up a b g    questions 4 to 7 of a link call got yes, where `most` bounds the neighbours of a radio
 --   proper, ascending        links as an image lists them: lower radio first, radios below n, by lower and then higher
 -- Laws are in proofs/GraphLaws.antt. Definitions only.
-use Rattle.lists.specs.{Kit.{◌≡◌, ◌⊎◌, Bool, true, not, ◌&&◌, ◌||◌, cond, List, [], ◌∷◌, ℕ, ◌<◌, ltb, eqb}, Lists.{range, count, member}}
+use Rattle.std.specs.Prelude.{◌≡◌, ◌⊎◌, ◌&&◌, ◌||◌, ◌∷◌, ◌<◌}
+use Rattle.lists.specs.{Kit.{Bool, true, not, cond, List, [], ℕ, ltb, eqb}, Lists.{range, count, member}}
 
 -- an unordered pair of radios, the lower one first
 pub record Link : Type 0 where

@@ -1,22 +1,23 @@
 -- The site image: blocks of 512 bytes, numbers little-endian.
 --   word, long               a number as two or four bytes
---   check-sum bs             the sum of byte × (position + 1)
+--   check_sum bs             the sum of byte × (position + 1)
 --   block kind index bytes   a block: kind, zero, index, payload filled up with zeros, check
 --   block_at g xs i          block i of the image of the graph g with the order xs
---   image-of g xs            the image
---   word_at, image-order, image-links, image-graph   read back
---   whole-blocks             question 9, reading: a multiple of 512 bytes, not 0
---   checks-good              question 10: every block passes its check
+--   image_of g xs            the image
+--   word_at, image_order, image_links, image_graph   read back
+--   whole_blocks             question 9, reading: a multiple of 512 bytes, not 0
+--   checks_good              question 10: every block passes its check
 --   is_image_within          question 11, worked out, where `most` bounds the bits of a row
---   is-image n bs            the same with a site's own bound
+--   is_image n bs            the same with a site's own bound
 --   TablesImage n bs        question 11: the bytes are the image of some sound tables with this n
---   other-size n bs          question 15, worked out: the header says another n, and the bytes are the image of sound tables with that
+--   other_size n bs          question 15, worked out: the header says another n, and the bytes are the image of sound tables with that
 --   OtherSize n bs          question 15: the bytes are the image of some sound tables with another n
 --   ImageOfNone bs         question 11 after 15: the bytes are the image of no sound tables
---   payload-at bs i          the payload of block i, as the block reader gives it
+--   payload_at bs i          the payload of block i, as the block reader gives it
 -- That `is_image` is `TablesImage` and `other_size` is `OtherSize` is `is_image_tables` (proofs/Images/Tables.antt) and
 -- `other_size_iff` (proofs/Images/OtherSize.antt). Definitions only.
-use Rattle.lists.specs.{Kit.{◌≡◌, Bool, ◌&&◌, not, cond, true, List, [], ◌∷◌, ◌++◌, map, flat_map, ℕ, zero, suc, ◌+◌, ◌*◌, ◌-◌, ◌/◌, ◌%◌, ltb, eqb, length}}
+use Rattle.std.specs.Prelude.{◌≡◌, ◌&&◌, ◌∷◌, ◌++◌, ◌+◌, ◌*◌, ◌-◌, ◌/◌, ◌%◌}
+use Rattle.lists.specs.{Kit.{Bool, not, cond, true, List, [], map, flat_map, ℕ, zero, suc, ltb, eqb, length}}
 use Rattle.lists.specs.{Kit.{get_or, take, drop, replicate}, Lists.{range, all, same, EntriesBelow}}
 use Rattle.mesh.specs.{Graph.{Link, Graph, graph, proper, ascending}, Tables.{Tables, graph_in, tables_of, TablesOfSize}, Limits.{max_neighbours}}
 use Rattle.mesh.specs.{Limits.{size_good}, Sound.{sound, sound_within}}
@@ -161,7 +162,7 @@ pub record TablesImage (n : ℕ) (image : List ℕ) : Type 0 where
   pub is_sound : sound n tables ≡ true
   pub written : image_of (graph_in n tables.links) tables.order ≡ image
 
--- ---- another size (document 02, W207)
+-- ---- another size (document 02, W-207)
 
 -- question 15, worked out: the header says another n, and the bytes are the image of sound tables with that
 unfoldable pub other_size : (n : ℕ) → (image : List ℕ) → Bool

@@ -1,15 +1,16 @@
 -- Levels, and how a link call changes the order.
 --   changed up a b g      the radios whose core number differs when the link a-b goes up or down, ascending
 --   step_of up cs         document 01: the step, +1 or -1, or 0 when nothing changed
---   lower-level g a b     document 01: K, the smaller number of the two ends
---   stretch-start g k     how many radios have less than k: where the stretch of level k starts in the order
---   stretch-length g k    how many radios have k: how long that stretch is
+--   lower_level g a b     document 01: K, the smaller number of the two ends
+--   stretch_start g k     how many radios have less than k: where the stretch of level k starts in the order
+--   stretch_length g k    how many radios have k: how long that stretch is
 --   laid_out              document 01's rule "the next is always the first, in the former order, with at most .. neighbours among .."
---   stretch-up            document 01: how a link going up lays the stretch out anew
---   stretch-down          document 01: how a link going down lays the stretch out anew
---   new-order up a b g xs the order after the call: xs with the stretch of level K laid out anew
+--   stretch_up            document 01: how a link going up lays the stretch out anew
+--   stretch_down          document 01: how a link going down lays the stretch out anew
+--   new_order up a b g xs the order after the call: xs with the stretch of level K laid out anew
 -- Laws are in proofs/Links/Call.antt. Definitions only.
-use Rattle.lists.specs.{Kit.{Bool, true, false, not, cond, List, [], ◌∷◌, ◌++◌, ℕ, zero, suc, ◌+◌, ◌-◌, min, ltb, leb, eqb, ℤ, pos, negsuc, length, take, drop}}
+use Rattle.std.specs.Prelude.{◌∷◌, ◌++◌, ◌+◌, ◌-◌}
+use Rattle.lists.specs.{Kit.{Bool, true, false, not, cond, List, [], ℕ, zero, suc, min, ltb, leb, eqb, ℤ, pos, negsuc, length, take, drop}}
 use Rattle.lists.specs.{Lists.{count, filter, member}}
 use Rattle.mesh.specs.{Graph.{Graph, radios, linked, neighbours_among, relinked}, Cores.{number}}
 

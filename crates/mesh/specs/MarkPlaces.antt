@@ -3,7 +3,8 @@
 --   heads x ps             the first of the places has the name x
 --   moved_up, moved_down   bytes of a store moved one place up or down
 -- Laws are in proofs/Marks/. Definitions only.
-use Rattle.lists.specs.{Kit.{Bool, false, cond, List, [], ◌∷◌, ◌++◌, ℕ, suc, ◌+◌, ◌-◌, take, drop}, Lists.{same}}
+use Rattle.std.specs.Prelude.{◌∷◌, ◌++◌, ◌+◌, ◌-◌}
+use Rattle.lists.specs.{Kit.{Bool, false, cond, List, [], ℕ, suc, take, drop}, Lists.{same}}
 use Rattle.mesh.specs.Marks.{place_bytes, before, name_in}
 
 -- ---- where a name stands

@@ -1,26 +1,27 @@
--- Named marks (document 02, W211): a lent store of 8 places, each a name, an image of sound tables and zeros to its end.
---   name-bytes, place-bytes, places, store_bytes   sizes
---   is-alphanumeric c        A to Z, 0 to 9
+-- Named marks (document 02, W-211): a lent store of 8 places, each a name, an image of sound tables and zeros to its end.
+--   name_bytes, place_bytes, places, store_bytes   sizes
+--   is_alphanumeric c        A to Z, 0 to 9
 --   is_name x          8 bytes: A to Z and 0 to 9, at least one, then spaces
 --   before x y         x stands before y, by bytes
 --   name_in p          the name of the place p
---   image-size n bs    how many bytes the image at the front of bs has, by its own count of links
---   image-in n p       the image of the place p
---   is-zeros bs        every byte is zero
---   is-mark n p        the place p is a name, an image of sound tables with n radios, and zeros to its end
+--   image_size n bs    how many bytes the image at the front of bs has, by its own count of links
+--   image_in n p       the image of the place p
+--   is_zeros bs        every byte is zero
+--   is_mark n p        the place p is a name, an image of sound tables with n radios, and zeros to its end
 --   place_of x bs      the place of the name x and the image bs
 --   places_of k bs     the first k places of the store bs
---   marks-in bs        the used places of the store bs: the ones before the first that is all zero
---   are-marks n x ps   the places ps are marks in rising order of name, the first after the name x
+--   marks_in bs        the used places of the store bs: the ones before the first that is all zero
+--   are_marks n x ps   the places ps are marks in rising order of name, the first after the name x
 --   is_store n bs      the used places are marks in rising order of name, no name twice; all after them is zero
 --   store_of ps        the store whose used places are ps
---   has-mark x ps, found x ps   is there a place with the name x, and which
---   with-mark p ps     the places with p at its name's place in the order, in place of a mark of that name
---   without-mark x ps  the places without the one of the name x
---   place_at bs i, name-at bs i   place i of the store bs, and its name
+--   has_mark x ps, found x ps   is there a place with the name x, and which
+--   with_mark p ps     the places with p at its name's place in the order, in place of a mark of that name
+--   without_mark x ps  the places without the one of the name x
+--   place_at bs i, name_at bs i   place i of the store bs, and its name
 --   MarkRules, StoreRules   W-211's rules, place by place, as the request says them; `store_good_iff` has that `is_store` decides them
 -- Laws are in proofs/Marks/. Definitions only.
-use Rattle.lists.specs.{Kit.{◌≡◌, Bool, true, false, ◌&&◌, ◌||◌, cond, List, [], ◌∷◌, ◌++◌, flat_map, ℕ, zero, suc, ◌+◌, ◌*◌, ◌-◌, ◌≤◌, ◌<◌, ltb, leb, eqb}}
+use Rattle.std.specs.Prelude.{◌≡◌, ◌&&◌, ◌||◌, ◌∷◌, ◌++◌, ◌+◌, ◌*◌, ◌-◌, ◌≤◌, ◌<◌}
+use Rattle.lists.specs.{Kit.{Bool, true, false, cond, List, [], flat_map, ℕ, zero, suc, ltb, leb, eqb}}
 use Rattle.lists.specs.{Kit.{length, get_or, take, drop, replicate}, Lists.{all, same}}
 use Rattle.mesh.specs.Image.{block_bytes, block_count, word_at, is_image}
 

@@ -1,13 +1,14 @@
 -- k-orders.
---   each-once n xs       the list xs holds each radio below n once, and nothing else
+--   each_once n xs       the list xs holds each radio below n once, and nothing else
 --   rising num xs        the numbers never fall along xs
---   few-later f num xs   no radio of xs has more later neighbours than its number, where f tells neighbours
+--   few_later f num xs   no radio of xs has more later neighbours than its number, where f tells neighbours
 --   is_k_order g xs      document 01: core numbers never fall along it, and no radio has more later neighbours than its core number
---   later-in f v xs      the neighbours of v that stand after v in xs, in their order
+--   later_in f v xs      the neighbours of v that stand after v in xs, in their order
 --   nobody               no radio
 --   FirstLater f v w xs   w is the first neighbour of v that stands after v in xs: there is none between
 -- Laws are in proofs/Cores/Orders.antt. Definitions only.
-use Rattle.lists.specs.{Kit.{◌≡◌, Bool, true, false, ◌&&◌, cond, List, [], ◌∷◌, ◌++◌, ℕ, leb, eqb, length}, Lists.{range, count, filter, all, In}}
+use Rattle.std.specs.Prelude.{◌≡◌, ◌&&◌, ◌∷◌, ◌++◌}
+use Rattle.lists.specs.{Kit.{Bool, true, false, cond, List, [], ℕ, leb, eqb, length}, Lists.{range, count, filter, all, In}}
 use Rattle.mesh.specs.{Graph.{Graph, linked, neighbours_among}, Cores.{number}}
 
 -- document 01: the order holds each radio once
@@ -30,7 +31,7 @@ unfoldable pub is_k_order : Graph → List ℕ → Bool
 is_k_order g xs =
     let num = number g in each_once g.n xs && (rising num xs && few_later (linked g) num xs)
 
--- ---- later neighbours (document 02, W206)
+-- ---- later neighbours (document 02, W-206)
 
 -- the neighbours of v after v, in their order; of the first v, where it stands several times, and none where it does not stand
 unfoldable pub later_in : (neighbour : ℕ → ℕ → Bool) → (v : ℕ) → List ℕ → List ℕ

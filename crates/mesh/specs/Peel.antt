@@ -4,7 +4,8 @@
 --   Peels f most others left taken stuck the same, until none fits
 --   bound up K                           the most neighbours at level K: K going up, K - 1 going down
 -- Laws are in proofs/Links/Peel.antt. Definitions only.
-use Rattle.lists.specs.{Kit.{◌≡◌, Bool, true, false, List, [], ◌∷◌, ◌++◌, ℕ, ◌+◌, ◌-◌, ◌≤◌, ◌<◌}, Lists.{count, In}}
+use Rattle.std.specs.Prelude.{◌≡◌, ◌∷◌, ◌++◌, ◌+◌, ◌-◌, ◌≤◌, ◌<◌}
+use Rattle.lists.specs.{Kit.{Bool, true, false, List, [], ℕ}, Lists.{count, In}}
 
 module _ (f : ℕ → ℕ → Bool) (most : ℕ) (others : List ℕ) where
   pub data Takes : (left taken now : List ℕ) → Type 0 where

@@ -3,13 +3,14 @@
 --   symmetric          rows are symmetric
 --   irreflexive        no radio is its own neighbour
 --   within             no bit at n or above
---   row-degree, few    at most so many bits a row
+--   row_degree, few    at most so many bits a row
 --   enough             each radio has at least its number of neighbours whose number is not below its own
---   rows-proper        the four conditions on rows, where `most` bounds the bits of a row
---   sound-within       all conditions, where `most` bounds the bits of a row
+--   rows_proper        the four conditions on rows, where `most` bounds the bits of a row
+--   sound_within       all conditions, where `most` bounds the bits of a row
 --   sound n t          document 01: the tables t of n radios are sound
 -- The conditions on the order alone are `each_once`, `rising` and `few_later` of specs/Orders.antt. Definitions only.
-use Rattle.lists.specs.{Kit.{Bool, ◌&&◌, not, Bool·beq, List, ℕ, ◌-◌, leb, get_or}, Lists.{range, count, all}}
+use Rattle.std.specs.Prelude.{◌&&◌, ◌-◌}
+use Rattle.lists.specs.{Kit.{Bool, not, Bool·beq, List, ℕ, leb, get_or}, Lists.{range, count, all}}
 use Rattle.mesh.specs.{Limits.{max_radios, max_neighbours}, Orders.{each_once, rising, few_later}, Tables.{Tables, marked}}
 
 -- ---- rows

@@ -1,10 +1,10 @@
--- The staircase tree (document 02, W209, following document 004): the fewest links that show how strongly radios hang together.
+-- The staircase tree (document 02, W-209, following document 004): the fewest links that show how strongly radios hang together.
 --   weight g l           the smaller of its ends' numbers
 --   falling wt top ls    the links of ls by weight falling from top, links of one weight in the order of ls
 --   Joined n ks a b      the links ks lead from a to b;  `joined` is the test
 --   keep n ks ls         the links of ls taken in turn: one is kept when its ends are not yet joined by kept ones
 --   staircase g          the kept links, in the order in which they are taken
---   link-entries ks      the links as a table of 16-bit entries lists them: lower radio, higher radio
+--   link_entries ks      the links as a table of 16-bit entries lists them: lower radio, higher radio
 --   Acyclic n fs         no link of fs joins two radios that its other links join
 --   Spanning g fs        fs is a spanning forest: links of the graph, acyclic, joining whatever the graph joins
 --   weighs wt fs         the sum of the weights
@@ -16,7 +16,8 @@
 --   InTurn wt ks        weights fall along ks; among equal ones the lower radio rises, and then the higher one
 --   StaircaseTree g ks  what the kept links are shown to be
 -- That `staircase` is such a tree is `staircase_tree` in crate forests. Definitions only.
-use Rattle.lists.specs.{Kit.{◌≡◌, ◌⊎◌, ◌↔◌, Bool, true, ◌&&◌, ◌||◌, cond, List, [], ◌∷◌, ◌++◌, ℕ, zero, suc, ◌+◌, ◌≤◌, ◌<◌, min, ltb, leb, eqb, length}}
+use Rattle.std.specs.Prelude.{◌≡◌, ◌⊎◌, ◌↔◌, ◌&&◌, ◌||◌, ◌∷◌, ◌++◌, ◌+◌, ◌≤◌, ◌<◌}
+use Rattle.lists.specs.{Kit.{Bool, true, cond, List, [], ℕ, zero, suc, min, ltb, leb, eqb, length}}
 use Rattle.lists.specs.{Lists.{member}}
 use Rattle.mesh.specs.{Graph.{Link, Graph, graph, InLinks, link_before}, Cores.{number, numbers}, Connected.{Reachable, InCore, reached, greatest}}
 

@@ -1,15 +1,16 @@
 -- The lent tables, read as bits and numbers.
 --   Tables             links, numbers and order, as lists of bytes and entries
 --   marked ts a b      document 01: bit b of row a of the links table ts is set
---   put-bit on a b ts  the links table ts with bit b of row a set or cleared
---   put-link           both bits of a link set or cleared
---   bit-table n f      the table of that shape, of n rows, with bit b of row a by the test f
---   links-table g      the links table that marks exactly the links of g, each in both rows
---   graph-in n ts      the graph that the links table ts marks, read back from the bits above the diagonal
---   tables-of g xs     the tables of the graph g with the order xs
+--   put_bit on a b ts  the links table ts with bit b of row a set or cleared
+--   put_link           both bits of a link set or cleared
+--   bit_table n f      the table of that shape, of n rows, with bit b of row a by the test f
+--   links_table g      the links table that marks exactly the links of g, each in both rows
+--   graph_in n ts      the graph that the links table ts marks, read back from the bits above the diagonal
+--   tables_of g xs     the tables of the graph g with the order xs
 --   TablesOfSize     tables of n radios as they are lent: lengths, and rows of bytes
 -- Laws are in proofs/Tables/. Definitions only.
-use Rattle.lists.specs.{Kit.{◌≡◌, Bool, cond, List, map, flat_map, ℕ, zero, suc, ◌+◌, ◌*◌, ◌-◌, ◌/◌, ◌%◌, ◌^◌, eqb, length, get_or, set}, Lists.{EntriesBelow}}
+use Rattle.std.specs.Prelude.{◌≡◌, ◌+◌, ◌*◌, ◌-◌, ◌/◌, ◌%◌, ◌^◌}
+use Rattle.lists.specs.{Kit.{Bool, cond, List, map, flat_map, ℕ, zero, suc, eqb, length, get_or, set}, Lists.{EntriesBelow}}
 use Rattle.lists.specs.{Lists.{range, filter}}
 use Rattle.mesh.specs.{Limits.{row_bytes}, Graph.{Link, Graph, graph, linked}, Cores.{numbers}}
 

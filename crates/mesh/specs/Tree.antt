@@ -6,10 +6,11 @@
 --   IsNode g x          the record x is a node of the shell tree, other than the root
 --   IsTree g xs         xs is the answer: the root, then the nodes, by level and then name ascending
 --   NodeName g v x      x is the name of the node whose shell has v
---   tree g, node-name    the same, worked out
+--   tree g, node_name    the same, worked out
 -- That the tree worked out is the one defined by sets, and the only one, is `tree_iff` in proofs/Trees/Unique.antt; of names it
 -- is `node_name_iff` there. Definitions only.
-use Rattle.lists.specs.{Kit.{◌≡◌, ◌⊎◌, ◌↔◌, Bool, true, false, ◌&&◌, cond, List, [], ◌∷◌, map, flat_map, ListAsMemᴰ, ℕ, zero, suc, ◌≤◌, ◌<◌, eqb}, Lists.{range}}
+use Rattle.std.specs.Prelude.{◌≡◌, ◌⊎◌, ◌↔◌, ◌&&◌, ◌∷◌, ◌≤◌, ◌<◌}
+use Rattle.lists.specs.{Kit.{Bool, true, false, cond, List, [], map, flat_map, ListAsMemᴰ, ℕ, zero, suc, eqb}, Lists.{range}}
 use Rattle.lists.specs.{Lists.{filter, head_or}}
 use Rattle.mesh.specs.{Graph.{Graph, radios}, Cores.{number}, Connected.{InCore, core_of}, declared.Node.{Node}}
 

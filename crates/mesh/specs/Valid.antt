@@ -1,7 +1,8 @@
 -- What every accepted call keeps: the hypotheses of the theory.
 --   Valid most g xs      g has proper links in their order and at most so many neighbours a radio, and xs is a k-order of it
 --   smaller, larger      of the graphs before and after a link call, the one without the link and the one with it
-use Rattle.lists.specs.Kit.{◌≡◌, Bool, true, false, List, ℕ, ◌≤◌, ◌<◌}
+use Rattle.std.specs.Prelude.{◌≡◌, ◌≤◌, ◌<◌}
+use Rattle.lists.specs.Kit.{Bool, true, false, List, ℕ}
 use Rattle.mesh.specs.{Graph.{Graph, degree, relinked, proper, ascending}, Orders.{is_k_order}}
 
 pub record Valid (most : ℕ) (g : Graph) (xs : List ℕ) : Type 0 where

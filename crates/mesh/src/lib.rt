@@ -1,10 +1,12 @@
 // What a site is: its description with the three limits, and the record of a shell tree's node.
 // The definitions of document 01 are in specs/, their theory in proofs/. Nothing is refused here: there is no call.
-ghost use Rattle.lists.specs.Kit.{◌≡◌};
+#![tactic(auto)]
+
+ghost use Rattle.std.specs.Prelude.{◌≡◌};
 ghost use Rattle.mesh.specs.Limits.{max_radios, max_neighbours, row_bytes};
 
 // The description of a site: how many radios it has.
-#[derive(Drop)]
+#[derive(Clone, Copy)]
 pub struct Site {
     pub radios: u32,
 }
@@ -47,7 +49,7 @@ impl Site {
 
 // A node of the shell tree.
 #[repr(C)]
-#[derive(Drop)]
+#[derive(Clone, Copy)]
 pub struct Node {
     pub name: u16,
     pub level: u16,

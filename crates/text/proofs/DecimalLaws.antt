@@ -1,6 +1,7 @@
 -- Laws of `decimal`: one digit, a digit more, the length, and that every byte is a digit.
-use Rattle.lists.specs.Kit.{◌≡◌, refl, sym, ap, ◌∙◌, List, [], ◌∷◌, ◌++◌, append-nil, append_assoc, ℕ, zero, suc, ◌+◌, ◌*◌, ◌/◌}
-use Rattle.lists.specs.Kit.{◌%◌, ◌^◌, ◌≤◌, ◌<◌, arith, pow-succ', ltb, length, drop, set, length-append, length-set, drop_of_length-le, ltb-true, ltb-false}
+use Rattle.std.specs.Prelude.{◌≡◌, ◌∷◌, ◌++◌, ◌+◌, ◌*◌, ◌/◌, ◌%◌, ◌^◌, ◌≤◌, ◌<◌}
+use Rattle.lists.specs.Kit.{refl, sym, ap, ◌∙◌, List, [], append-nil, append_assoc, ℕ, zero, suc}
+use Rattle.lists.specs.Kit.{arith, pow-succ', ltb, length, drop, set, length-append, length-set, drop_of_length-le, ltb-true, ltb-false}
 use Rattle.lists.specs.Kit.{⊎_elim}
 use Rattle.lists.proofs.Tests.{bool_cases}
 use Rattle.text.specs.Text.{digit_byte, digits_in, decimal}

@@ -1,5 +1,6 @@
 -- Laws of `put`: one text after another, lengths, the place, and what stands in the buffer where the text fits.
-use Rattle.lists.specs.Kit.{◌≡◌, refl, sym, ap, ◌∙◌, true, false, cond, List, [], ◌∷◌, ◌++◌, map, ℕ, suc, ◌+◌, ◌≤◌, ◌<◌, min, arith}
+use Rattle.std.specs.Prelude.{◌≡◌, ◌∷◌, ◌++◌, ◌+◌, ◌≤◌, ◌<◌}
+use Rattle.lists.specs.Kit.{refl, sym, ap, ◌∙◌, List, [], map, ℕ, suc, min, arith}
 use Rattle.lists.specs.Kit.{add-one, ltb, length, take, drop, get_or, set, length-set, drop_of_length-le, drop-cons, set_out, sets, sets-eq, lt-ltb, le-ltb}
 use Rattle.lists.{specs.Kit.{ltb-true, ltb-false, ⊎_elim}, proofs.Tests.{bool_cases}}
 use Rattle.text.specs.{Text.{space, line_feed, decimal, further_fields}, Print.{Buffer, buffer_at, max_place, next_place, put, Puts}}

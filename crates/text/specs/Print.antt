@@ -1,13 +1,14 @@
 -- Text put into a lent buffer, byte after byte from a place on. The texts themselves are calls' `Replay`.
 --   Buffer          the lent bytes, with the place of the next byte
---   buffer-at bytes at   a buffer from its parts
---   max-place       the largest place, at which counting stops
+--   buffer_at bytes at   a buffer from its parts
+--   max_place       the largest place, at which counting stops
 --   next_place at   the place after one byte
 --   put b text      the buffer after the text is put: a byte past the end is left out, and counted
 --   Puts b text c   putting the text takes the buffer b to c
 -- What put comes to, where the text fits and where it does not, is proved in proofs/PrintLaws.antt.
 -- Definitions only.
-use Rattle.lists.specs.Kit.{◌≡◌, cond, List, [], ◌∷◌, ℕ, ◌+◌, ltb, set}
+use Rattle.std.specs.Prelude.{◌≡◌, ◌∷◌, ◌+◌}
+use Rattle.lists.specs.Kit.{cond, List, [], ℕ, ltb, set}
 
 -- lent bytes, with the place of the next byte
 pub record Buffer : Type 0 where

@@ -1,10 +1,11 @@
 -- Text as bytes: words, decimal numbers, lines of fields.
 --   bytes_of text        a text as bytes
---   space, line-feed     two bytes
+--   space, line_feed     two bytes
 --   decimal x            a number in decimal digits, no leading zeros
---   printed-line f fs    fields parted by single spaces, ended by a line feed
+--   printed_line f fs    fields parted by single spaces, ended by a line feed
 -- Laws of digits are in proofs/DecimalLaws.antt. Definitions only.
-use Rattle.lists.specs.Kit.{List, [], ◌∷◌, ◌++◌, ℕ, ◌+◌, zero, suc, ◌/◌, ◌%◌}
+use Rattle.std.specs.Prelude.{◌∷◌, ◌++◌, ◌+◌, ◌/◌, ◌%◌}
+use Rattle.lists.specs.Kit.{List, [], ℕ, zero, suc}
 use Prim.Native.{Char.{code}, String.{String, [] as empty_text, ◌∷◌ as text}}
 
 -- a text as bytes, one for each character: texts here are ASCII

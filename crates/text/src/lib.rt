@@ -1,7 +1,10 @@
 // Text put into a lent buffer: bytes, words, decimal numbers, the rest of a line. Each function puts its text from the place `at`
 // on and answers the place after it. A byte past the buffer's end is left out and still counted, so an answer above the length
 // tells that the text did not fit, and how long the buffer must be. All other bytes keep their content.
-ghost use Rattle.lists.specs.Kit.{◌≡◌, [], ◌∷◌, map, ◌<◌, ◌≤◌, length, drop};
+#![tactic(auto)]
+
+ghost use Rattle.std.specs.Prelude.{◌≡◌, ◌∷◌, ◌<◌, ◌≤◌};
+ghost use Rattle.lists.specs.Kit.{[], map, length, drop};
 ghost use Rattle.text.specs.Text.{space, digit_byte, decimal, further_fields};
 ghost use Rattle.text.specs.Print.{buffer_at, Puts};
 

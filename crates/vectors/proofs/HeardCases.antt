@@ -1,6 +1,7 @@
 -- A worked hearing, computed from the definitions: four radios, of which 0, 1 and 2 are linked with each other. 1 hears 2 and is not heard
 -- by it, and 2 and 3 hear each other.
-use Rattle.lists.specs.{Kit.{◌≡◌, refl, ap, Bool, true, false, List, [], ◌∷◌, ◌++◌, ℕ, length, replicate}, Lists.{range}}
+use Rattle.std.specs.Prelude.{◌≡◌, ◌∷◌, ◌++◌}
+use Rattle.lists.specs.{Kit.{refl, ap, Bool, true, false, List, [], ℕ, length, replicate}, Lists.{range}}
 use Rattle.mesh.specs.{Graph.{Link, graph, link_of, neighbours_in}, Sound.{sound}, Tables.{Tables, tables, put_digit, put_bit, put_link, row_links, graph_in}}
 use Rattle.mesh.specs.{Tables.{tables_of}}
 use Rattle.calls.{specs.Questions.{lengths_of, site_refusal}, specs.Switches.{switch, switched, tables_after}, specs.Heard.{agreed, agreed_degree, heard_alone}}

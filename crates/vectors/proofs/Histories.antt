@@ -1,6 +1,7 @@
 -- Every history is right: computed on pairs and order, and so by `all_by_state` over the contracts' own outcomes. Group by group, since
 -- many rows in one declaration take longer than the same rows in several, and a declaration may compute only so much.
-use Rattle.lists.specs.Kit.{◌≡◌, refl, true}
+use Rattle.std.specs.Prelude.{◌≡◌}
+use Rattle.lists.specs.Kit.{refl, true}
 use Rattle.calls.{specs.Worked.{AllRight}, proofs.WorkedState.{all_state_right, compute}, proofs.WorkedLaws.{all_by_state, all_right_append}}
 use Rattle.vectors.specs.Histories.{refusals, cliques, joins, rises, falls, trees, printing, tables, images, random_small, random_middle, random_large}
 use Rattle.vectors.specs.Histories.{histories}

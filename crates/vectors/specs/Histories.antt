@@ -9,12 +9,13 @@
 --   printing        numbers of two and three digits
 --   tables          soundness, with damaged tables
 --   images          image reading, with damaged images
---   random-small    random calls at 2 to 5 radios
---   random-middle   random calls at 6 and 7 radios
---   random-large    random calls at 8 radios
+--   random_small    random calls at 2 to 5 radios
+--   random_middle   random calls at 6 and 7 radios
+--   random_large    random calls at 8 radios
 --   histories       all of them, 64 rows
 -- That every row is right is `histories_right` in proofs/Histories.antt. Definitions only.
-use Rattle.lists.specs.Kit.{true, false, List, [], ◌∷◌, ◌++◌}
+use Rattle.std.specs.Prelude.{◌∷◌, ◌++◌}
+use Rattle.lists.specs.Kit.{true, false, List, []}
 use Rattle.mesh.specs.Tree.{root_name, node, root}
 use Rattle.calls.specs.Worked.{Row, row, up, down, risen, fallen, unchanged, refused, last_answers, all_numbers, whole_order, shell_tree, connected_core}
 use Rattle.calls.specs.Worked.{backbone_radios, image_checks, printed, put, soundness, image_reading}

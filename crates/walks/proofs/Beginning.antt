@@ -1,10 +1,11 @@
 -- A link that goes up, from the beginning end on: what stands before that end in the order stays where it is, and the rest is any
 -- peel of the rest of the level.
 --   order_from    the new order is what stood before, and a peel of the rest
---   before-kept   entries before the beginning end's place never move
---   order-walked, changed-walked   the new order and the changed radios by any peel of the level from that end on
+--   before_kept   entries before the beginning end's place never move
+--   order_walked, changed_walked   the new order and the changed radios by any peel of the level from that end on
 --   unmoved       the quick path: that end has at most K later neighbours after the call, and nothing moves or rises
-use Rattle.lists.{specs.Kit.{◌≡◌, refl, sym, ap, ◌∙◌, ◌⊎◌, inl, inr, true, false, List, [], ◌∷◌, ◌++◌, append-nil, append_assoc, ℕ, ◌+◌, ◌≤◌, ◌<◌, min, arith}}
+use Rattle.std.specs.Prelude.{◌≡◌, ◌⊎◌, ◌∷◌, ◌++◌, ◌+◌, ◌≤◌, ◌<◌}
+use Rattle.lists.{specs.Kit.{refl, sym, ap, ◌∙◌, inl, inr, true, false, List, [], append-nil, append_assoc, ℕ, min, arith}}
 use Rattle.lists.{specs.Kit.{ltb, eqb, length, take, take_at, eqb-true, eq-eqb, ltb-true, le-ltb}, specs.Lists.{count, filter, member, In}}
 use Rattle.lists.{specs.Facts.{Rising}, proofs.Member.{in_left, in_cases}, proofs.Filter.{in_filter, filter_append, filter_none}}
 use Rattle.lists.{proofs.Distinct.{distinct_right}, proofs.Range.{once_in, once_distinct}, proofs.Ascending.{rising_left, rising_right, rising_before}}

@@ -1,7 +1,8 @@
 -- Entries before the beginning end's place never move, of each link that a batch or a hearing takes up.
---   each-begins    of allowed links, one after the other, from good tables
---   batch-begins, hear-begins   of the links of a batch, and of a hearing
-use Rattle.lists.specs.Kit.{◌≡◌, refl, sym, ◌∙◌, ap, subst, Bool, true, List, [], ◌∷◌, ℕ, length}
+--   each_begins    of allowed links, one after the other, from good tables
+--   batch_begins, hear_begins   of the links of a batch, and of a hearing
+use Rattle.std.specs.Prelude.{◌≡◌, ◌∷◌}
+use Rattle.lists.specs.Kit.{refl, sym, ◌∙◌, ap, subst, Bool, true, List, [], ℕ, length}
 use Rattle.mesh.specs.{Limits.{max_neighbours}, Graph.{Link, graph, relinked, new_links, Allowed}, Tables.{Tables, graph_in}, Sound.{sound}}
 use Rattle.calls.{specs.Questions.{lengths_of, site_refusal}, specs.Switches.{Switch, switched, AllAllowed}, specs.Batches.{list_length, batch_refusal}}
 use Rattle.calls.{specs.Batches.{batch_switches}, specs.Heard.{heard_lengths, hear_refusal, heard_switches}, proofs.ChainLaws.{site_zero}}

@@ -1,6 +1,7 @@
 -- The walk's answer is the present call's: at its end the order table, from the beginning end on, is document 01's, and the radios
 -- that rise are the candidates that are left.
-use Rattle.lists.specs.{Kit.{◌≡◌, ap, ◌∙◌, ◌⊎◌, Bool, true, false, List, [], ◌∷◌, ◌++◌, append_assoc, ℕ, zero, suc, ◌≤◌, ◌<◌, arith, ltb, length, drop, take}}
+use Rattle.std.specs.Prelude.{◌≡◌, ◌⊎◌, ◌∷◌, ◌++◌, ◌≤◌, ◌<◌}
+use Rattle.lists.specs.{Kit.{ap, ◌∙◌, Bool, true, false, List, [], append_assoc, ℕ, zero, suc, arith, ltb, length, drop, take}}
 use Rattle.lists.specs.{Kit.{take-append-drop}, Lists.{filter, member, In}}
 use Rattle.mesh.{specs.Graph.{Graph, linked, relinked, Allowed}, specs.Cores.{number}, specs.Levels.{changed, lower_level, new_order}}
 use Rattle.mesh.{proofs.Links.LevelCut.{mids, highs}, specs.Valid.{Valid}}

@@ -1,8 +1,9 @@
 -- The walk from the earlier end is the peel.
---   takes-then      one run of takings after another
+--   takes_then      one run of takings after another
 --   takes_front     entries with at most so many later neighbours are taken in their order: the prefix law
---   peels-from      a peel of the level is its front, unchanged, and a peel of the rest
-use Rattle.lists.{specs.Kit.{◌≡◌, refl, ap, ◌∙◌, inl, inr, Bool, List, [], ◌∷◌, ◌++◌, append-nil, append_assoc, ℕ, zero, suc, ◌+◌, ◌≤◌, ◌<◌, arith, length}}
+--   peels_from      a peel of the level is its front, unchanged, and a peel of the rest
+use Rattle.std.specs.Prelude.{◌≡◌, ◌∷◌, ◌++◌, ◌+◌, ◌≤◌, ◌<◌}
+use Rattle.lists.{specs.Kit.{refl, ap, ◌∙◌, inl, inr, Bool, List, [], append-nil, append_assoc, ℕ, zero, suc, arith, length}}
 use Rattle.lists.{specs.Kit.{get_or, take, drop, take-append-drop, drop-cons}, specs.Lists.{count, In}, proofs.Count.{count_append, count_ext}}
 use Rattle.mesh.{proofs.Cores.Orders.{FewLater}, specs.Peel.{Takes, none, first, Peels}, proofs.Links.Peel.{takes_more}}
 use Rattle.walks.specs.Walk.{FewFront}

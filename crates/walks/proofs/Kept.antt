@@ -1,17 +1,17 @@
 -- Entries before the beginning end's place never move: of every order after a link came up, by the outcomes of the public calls.
---   beginning-kept   the order of the definitions
---   link-begins      after a link call
---   commit-begins    after a committing
-use Rattle.lists.{specs.Kit.{◌≡◌, refl, ap, ◌∙◌, ◌⊎◌, inl, inr, true, false, List, [], ◌∷◌, ◌++◌, ℕ, eqb, ℤ, length, get_or, take, take_at, get_or_at, eqb-true}}
+--   beginning_kept   the order of the definitions
+--   link_begins      after a link call
+--   commit_begins    after a committing
+use Rattle.std.specs.Prelude.{◌≡◌, ◌⊎◌, ◌∷◌, ◌++◌}
+use Rattle.lists.{specs.Kit.{refl, ap, ◌∙◌, inl, inr, true, false, List, [], ℕ, eqb, ℤ, length, get_or, take, take_at, get_or_at, eqb-true}}
 use Rattle.lists.{specs.Kit.{eqb-false}, specs.Lists.{In}, proofs.Tests.{bool_cases}, proofs.Range.{once_in}}
-use Rattle.mesh.{specs.Limits.{max_neighbours}, specs.Graph.{Graph, Allowed}, specs.Cores.{number}, specs.Levels.{new_order}, specs.Tables.{Tables, graph_in}}
+use Rattle.mesh.{specs.Limits.{max_neighbours}, specs.Graph.{Graph, Allowed}, specs.Levels.{new_order}, specs.Tables.{Tables, graph_in}}
 use Rattle.mesh.{specs.Sound.{sound}, specs.Valid.{Valid}, proofs.Cores.KOrders.{k_order_certificate}, proofs.Images.Tables.{valid_graph_in}}
 use Rattle.calls.{specs.Questions.{lengths_of}, specs.Switches.{switched}, specs.Outcomes.{Linked, Tabled, link_outcome, commit_outcome}}
 use Rattle.calls.{proofs.ChainLaws.{link_zero, commit_zero}, proofs.ContractLaws.{accepted_is}}
 use Rattle.walks.specs.Results.{before_ends, BeginningKept}
 use Rattle.walks.proofs.Beginning as beginning
 use Rattle.calls.specs.declared.Reply.{Reply}
-use Rattle.calls.specs.Chains.{link_refusal}
 
 -- a list cut at the first end that it has
 pub record Cut (a b : ℕ) (xs : List ℕ) : Type 0 where

@@ -3,10 +3,11 @@
 --   Walking      so many radios are taken, how far the front is, the counters and the places due
 --   Released     what taking x writes: candidates among its neighbours lose one, and are due when they fall short
 --   Held         what holding x writes: its counter, and its later neighbours of the part are due
---   turn-leave   x is taken
---   turn-hold    x is held
-use Rattle.lists.{specs.Kit.{◌≡◌, refl, sym, ap, ◌∙◌, ◌⊎◌, inl, inr, Bool, true, false, not, ◌&&◌, cond, List, [], ◌∷◌, ◌++◌, append-nil, append_assoc, ℕ}}
-use Rattle.lists.{specs.Kit.{zero, suc, ◌+◌, ◌≤◌, ◌<◌, arith, add-zero, add-suc, le_antisymm, ltb, leb, eqb, length, get_or, take, drop, length-drop}}
+--   turn_leave   x is taken
+--   turn_hold    x is held
+use Rattle.std.specs.Prelude.{◌≡◌, ◌⊎◌, ◌&&◌, ◌∷◌, ◌++◌, ◌+◌, ◌≤◌, ◌<◌}
+use Rattle.lists.{specs.Kit.{refl, sym, ap, ◌∙◌, inl, inr, Bool, true, false, not, cond, List, [], append-nil, append_assoc, ℕ}}
+use Rattle.lists.{specs.Kit.{zero, suc, arith, add-zero, add-suc, le_antisymm, ltb, leb, eqb, length, get_or, take, drop, length-drop}}
 use Rattle.lists.{specs.Kit.{length-append, take-append-drop, drop_of_length-le, drop-cons, get_or-drop, take_at, take_all, take-suc, leb-true, leb-false}}
 use Rattle.lists.{specs.Kit.{le-leb, lt-leb, eqb-true, eqb-false, ltb-true, ltb-false, lt-ltb, le-ltb, not-true}, specs.Lists.{range, count, filter, member}}
 use Rattle.lists.{specs.Lists.{In}, specs.Facts.{Distinct, Rising}, proofs.Tests.{bool_cases, never, and_left, and_right, and_both, bit_true, bit_false}}

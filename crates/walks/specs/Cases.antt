@@ -1,6 +1,7 @@
 -- The worked case of the walk: where the paper lays a radio elsewhere, document 01's order is kept. That the row is right is `cases_right` in
 -- proofs/Cases.antt. Definitions only.
-use Rattle.lists.specs.Kit.{List, [], ◌∷◌}
+use Rattle.std.specs.Prelude.{◌∷◌}
+use Rattle.lists.specs.Kit.{List, []}
 use Rattle.calls.specs.Worked.{up, risen, unchanged, last_answers, all_numbers, whole_order, Row, row}
 
 -- 5 radios, links 1-2, 1-4, 0-3, 0-2, 1-3, 3-4, and last 0-4. The last call takes candidates back, the first in the order first; document

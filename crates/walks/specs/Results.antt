@@ -1,9 +1,10 @@
--- What a caller has of the order after a link came up (document 02, W213): nothing before the beginning end moves.
---   before-ends a b xs   the entries of xs before the first end of the link a-b
+-- What a caller has of the order after a link came up (document 02, W-213): nothing before the beginning end moves.
+--   before_ends a b xs   the entries of xs before the first end of the link a-b
 --   BeginningKept       these stand as they stood; the entry after them is the beginning end, the lower one, with equal numbers the earlier
 --   EachBegins          so it is of each link that goes up, of links taken up and down one after the other: of a batch, and of a hearing
 -- Definitions only.
-use Rattle.lists.specs.Kit.{◌≡◌, ◌⊎◌, true, ◌||◌, cond, List, [], ◌∷◌, ℕ, eqb, length, get_or, take}
+use Rattle.std.specs.Prelude.{◌≡◌, ◌⊎◌, ◌||◌, ◌∷◌}
+use Rattle.lists.specs.Kit.{true, cond, List, [], ℕ, eqb, length, get_or, take}
 use Rattle.mesh.specs.{Graph.{Graph}, Cores.{number}, Levels.{lower_level}, Tables.{Tables, graph_in}}
 use Rattle.calls.specs.Switches.{Switch, switched}
 

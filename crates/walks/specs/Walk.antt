@@ -3,10 +3,11 @@
 -- candidate that falls short is taken back.
 --   Part f part pos   the part of the level from the beginning end on, and where its radios stand in it
 --   FewFront         radios that have few later neighbours
---   left-of           a radio's neighbours that are candidates, not yet looked at, or above
+--   left_of           a radio's neighbours that are candidates, not yet looked at, or above
 --   Walking           so many radios are taken, how far the front is, the candidates, their counters and the places due
 -- Laws are in proofs/Turns.antt. Definitions only.
-use Rattle.lists.specs.{Kit.{◌≡◌, Bool, true, false, List, [], ◌∷◌, ◌++◌, ℕ, ◌+◌, ◌≤◌, ◌<◌, leb, length, get_or, drop}, Lists.{count, member, In}}
+use Rattle.std.specs.Prelude.{◌≡◌, ◌∷◌, ◌++◌, ◌+◌, ◌≤◌, ◌<◌}
+use Rattle.lists.specs.{Kit.{Bool, true, false, List, [], ℕ, leb, length, get_or, drop}, Lists.{count, member, In}}
 use Rattle.lists.specs.{Facts.{Distinct, Rising}}
 use Rattle.mesh.specs.Peel.{Takes}
 

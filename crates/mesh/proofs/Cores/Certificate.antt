@@ -1,7 +1,8 @@
 -- The order is a certificate: numbers that meet the local conditions along an order are the core numbers.
 -- Why: the first member, in the order, of any group has all its group neighbours later, so the group's k is at most that
 -- member's number, which is at most any later member's; and the radios numbered k or more are a group.
-use Rattle.lists.{specs.Kit.{◌≡◌, refl, ◌⊎◌, inl, inr, Bool, true, false, ◌&&◌, and-false, List, [], ◌∷◌, ℕ, ◌≤◌, ◌<◌, arith, le_antisymm, le_trans, le_refl}}
+use Rattle.std.specs.Prelude.{◌≡◌, ◌⊎◌, ◌&&◌, ◌∷◌, ◌≤◌, ◌<◌}
+use Rattle.lists.{specs.Kit.{refl, inl, inr, Bool, true, false, and-false, List, [], ℕ, arith, le_antisymm, le_trans, le_refl}}
 use Rattle.lists.{specs.Kit.{le_of_eq, leb, leb-true, le-leb}, specs.Lists.{count, In}, specs.Facts.{EachOnce, Rising}, proofs.Tests.{bool_cases, never}}
 use Rattle.lists.{proofs.Tests.{bit_false, and_left}, proofs.Count.{count_mono}, proofs.Range.{once_in, once_below}}
 use Rattle.mesh.specs.{Graph.{Graph, linked}, Cores.{Group, Core}}

@@ -1,5 +1,6 @@
 -- A k-order is a certificate of the core numbers, and a certificate is a k-order.
-use Rattle.lists.{specs.Kit.{◌≡◌, sym, true, false, ◌&&◌, List, ℕ, ◌<◌, le_of_eq}, proofs.Tests.{and_left, and_right, and_both}, proofs.Range.{once_below}}
+use Rattle.std.specs.Prelude.{◌≡◌, ◌&&◌, ◌<◌}
+use Rattle.lists.{specs.Kit.{sym, true, false, List, ℕ, le_of_eq}, proofs.Tests.{and_left, and_right, and_both}, proofs.Range.{once_below}}
 use Rattle.lists.{proofs.Ascending.{rising_cong}}
 use Rattle.mesh.specs.{Graph.{Graph, linked}, Cores.{number}, Orders.{each_once, rising, few_later, is_k_order}}
 use Rattle.mesh.proofs.Cores.{Orders.{each_once_of, of_each_once, rising_of, of_rising, few_later_of, of_few_later, few_later_cong}}

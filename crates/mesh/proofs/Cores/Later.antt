@@ -2,8 +2,9 @@
 --   later_in_at         they are the neighbours among the entries after its place
 --   in_later_in         each stands in the order
 --   first_is_first      the first of them is a neighbour, and there is none between
---   nobody-none         nobody exactly when there are none
-use Rattle.lists.{specs.Kit.{◌≡◌, refl, ap, ◌⊎◌, inl, inr, ◌↔◌, Bool, true, false, List, [], ◌∷◌, ◌++◌, ℕ, zero, suc, ◌<◌, arith, eqb, length, get_or, drop}}
+--   nobody_none         nobody exactly when there are none
+use Rattle.std.specs.Prelude.{◌≡◌, ◌⊎◌, ◌↔◌, ◌∷◌, ◌++◌, ◌<◌}
+use Rattle.lists.{specs.Kit.{refl, ap, inl, inr, Bool, true, false, List, [], ℕ, zero, suc, arith, eqb, length, get_or, drop}}
 use Rattle.lists.{specs.Kit.{eqb-true, eq-eqb, ne_eqb}, specs.Lists.{filter, head_or, In}, proofs.Tests.{bool_cases}, proofs.Filter.{in_filter}}
 use Rattle.lists.specs.Kit.{⊎_elim}
 use Rattle.mesh.specs.{Orders.{later_in, nobody, FirstLater}}
@@ -40,7 +41,7 @@ first_passing g (x ∷ xs) w ws e = go (first_passing g xs w ws) (bool_cases (g 
         before ys u h (inl q) = rw (← q) t
         before ys u h (inr m) = h m
 
--- ---- later-in
+-- ---- later_in
 
 module _ (f : ℕ → ℕ → Bool) (v : ℕ) where
   pub later_in_at : (xs : List ℕ) (p : ℕ) → p < length xs → get_or xs p 0 ≡ v → ((j : ℕ) → j < p → get_or xs j 0 ≡ v → ⊥)

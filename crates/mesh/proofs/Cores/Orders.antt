@@ -1,5 +1,6 @@
 -- Laws of orders: the conditions of a k-order as types, with a bridge to each test, and how they pass along parts of a list.
-use Rattle.lists.{specs.Kit.{◌≡◌, refl, inl, inr, Bool, true, List, [], ◌∷◌, ◌++◌, ℕ, ◌≤◌, ◌<◌, arith, le_trans, leb, eqb, length, leb-true, le-leb, eqb-true}}
+use Rattle.std.specs.Prelude.{◌≡◌, ◌∷◌, ◌++◌, ◌≤◌, ◌<◌}
+use Rattle.lists.{specs.Kit.{refl, inl, inr, Bool, true, List, [], ℕ, arith, le_trans, leb, eqb, length, leb-true, le-leb, eqb-true}}
 use Rattle.lists.{specs.Kit.{eq-eqb}, specs.Lists.{range, count, all, In}, specs.Facts.{Distinct, Permutation, EachOnce, Rising}, proofs.Tests.{and_left}}
 use Rattle.lists.{proofs.Tests.{and_right, and_both}, proofs.Range.{once_in, once_distinct, once_length, once_from}, proofs.Distinct.{distinct_one}}
 use Rattle.lists.{proofs.Count.{count_append, count_mid, count_mono, count_some, count_pos}, proofs.All.{all_below, below_all}}

@@ -1,5 +1,6 @@
 -- Peeling computes core numbers: each list of `cores` is the largest group of its k, and `number` is the core number.
-use Rattle.lists.specs.Kit.{◌≡◌, refl, sym, ap, ◌∙◌, ◌⊎◌, inl, inr, Bool, true, false, ◌&&◌, cond, List, [], ◌∷◌, ℕ, zero, suc, ◌+◌, ◌≤◌, ◌<◌, arith, ⊎_elim}
+use Rattle.std.specs.Prelude.{◌≡◌, ◌⊎◌, ◌&&◌, ◌∷◌, ◌+◌, ◌≤◌, ◌<◌}
+use Rattle.lists.specs.Kit.{refl, sym, ap, ◌∙◌, inl, inr, Bool, true, false, cond, List, [], ℕ, zero, suc, arith, ⊎_elim}
 use Rattle.lists.{specs.Kit.{le_trans, le_refl, le_of_eq, leb, eqb, length, get_or, leb-true, leb-false, le-leb, eqb-true, eqb-false}, specs.Lists.{range, count}}
 use Rattle.lists.{specs.Lists.{member, In}, specs.Facts.{Distinct}, proofs.Tests.{bool_cases, never, bit_true, bit_false}, proofs.Member.{member_in, in_member}}
 use Rattle.lists.{proofs.Member.{not_member}, proofs.Count.{count_le_length, all_or_less}, proofs.Range.{distinct_range, in_range, range_in, length_range}}

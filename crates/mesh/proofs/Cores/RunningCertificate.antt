@@ -1,7 +1,8 @@
 -- How a reader decides that an order is a k-order: it takes the running maxima of the later-neighbour counts for numbers, and
 -- asks of them only that each radio has at least its number of neighbours whose number is not below its own.
 -- The other conditions hold by themselves: running maxima never fall, and none is below its radio's count.
-use Rattle.lists.{specs.Kit.{◌≡◌, sym, ap, ◌∙◌, inl, inr, ◌↔◌, Bool, true, false, List, [], ◌∷◌, map, ℕ, ◌≤◌, ◌<◌, max, arith, le_trans, le_of_eq, leb}}
+use Rattle.std.specs.Prelude.{◌≡◌, ◌↔◌, ◌∷◌, ◌≤◌, ◌<◌}
+use Rattle.lists.{specs.Kit.{sym, ap, ◌∙◌, inl, inr, Bool, true, false, List, [], map, ℕ, max, arith, le_trans, le_of_eq, leb}}
 use Rattle.lists.{specs.Kit.{leb-true, le-leb}, specs.Lists.{count, In}, specs.Facts.{EachOnce, Rising}, proofs.Range.{once_in}, proofs.Map.{head_eq, tail_eq}}
 use Rattle.lists.{proofs.Map.{map_eq_in}}
 use Rattle.mesh.specs.{Graph.{Graph, linked, neighbours_among}, Cores.{number}, Orders.{is_k_order}}

@@ -2,7 +2,8 @@
 -- At least: each count is at most its radio's number, and numbers never fall. At most: while the maximum so far is below the
 -- number of the next radio v, everybody before v has a smaller number, so the largest group that has v stands from v on, and
 -- v's neighbours in it are later.
-use Rattle.lists.{specs.Kit.{◌≡◌, refl, ap, ap₂, ◌∙◌, ◌⊎◌, inl, inr, Bool, true, false, ◌&&◌, List, [], ◌∷◌, map, ℕ, ◌≤◌, ◌<◌, max, arith, le_trans}}
+use Rattle.std.specs.Prelude.{◌≡◌, ◌⊎◌, ◌&&◌, ◌∷◌, ◌≤◌, ◌<◌}
+use Rattle.lists.{specs.Kit.{refl, ap, ap₂, ◌∙◌, inl, inr, Bool, true, false, List, [], map, ℕ, max, arith, le_trans}}
 use Rattle.lists.{specs.Lists.{range, count, In}, specs.Facts.{EachOnce, Rising}, proofs.Tests.{never, and_left, and_right, trichotomy}}
 use Rattle.lists.{proofs.Range.{range_in, distinct_range, once_in, once_below}, proofs.Distinct.{count_sub}}
 use Rattle.mesh.specs.{Graph.{Graph, radios, linked, neighbours_among, neighbours_in}, Cores.{Group, Core, number}, Orders.{is_k_order}}

@@ -1,6 +1,7 @@
 -- Laws of a block and of the payloads.
 -- In order: a block's bytes by place, its length, its check; the payloads of kind 1 and kind 2, entry by entry.
-use Rattle.lists.{specs.Kit.{◌≡◌, refl, sym, ap, ◌∙◌, List, ◌∷◌, ◌++◌, flat_map, ℕ, zero, suc, ◌+◌, ◌*◌, ◌-◌, ◌/◌, ◌%◌, ◌≤◌, ◌<◌, min, arith, length, get_or}}
+use Rattle.std.specs.Prelude.{◌≡◌, ◌∷◌, ◌++◌, ◌+◌, ◌*◌, ◌-◌, ◌/◌, ◌%◌, ◌≤◌, ◌<◌}
+use Rattle.lists.{specs.Kit.{refl, sym, ap, ◌∙◌, List, flat_map, ℕ, zero, suc, min, arith, length, get_or}}
 use Rattle.lists.{specs.Kit.{take, drop, replicate, length-append, length-take, length-drop, length-replicate, List·getD-append, get_or-append-add, get_or-take}}
 use Rattle.lists.{specs.Kit.{get_or-drop, take_at, drop_at}, specs.Facts.{Bytes}, proofs.Parts.{bytes_replicate, length_flat_map, get_d_flat_map, bytes_cons}}
 use Rattle.lists.{proofs.Parts.{bytes_append, bytes_flat_map, get_d_append_zeros}}

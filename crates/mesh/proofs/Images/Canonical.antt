@@ -1,9 +1,10 @@
 -- When bytes are the image of what they list: place by place, as a reader decides it.
 --   Canonical n bs      length, head of each block, checks and padding are as an image of n radios has them
---   canonical-written   then what is read from the bytes is written as these bytes
---   written-canonical   and only then
+--   canonical_written   then what is read from the bytes is written as these bytes
+--   written_canonical   and only then
 --   is_image_canonical  question 11: canonical bytes that list a valid site
-use Rattle.lists.specs.Kit.{◌≡◌, refl, sym, ap, ap₂, subst, ◌∙◌, ◌↔◌, true, List, ◌++◌, ℕ, zero, suc, ◌+◌, ◌*◌, ◌-◌, ◌/◌, ◌%◌, ◌≤◌, ◌<◌}
+use Rattle.std.specs.Prelude.{◌≡◌, ◌↔◌, ◌++◌, ◌+◌, ◌*◌, ◌-◌, ◌/◌, ◌%◌, ◌≤◌, ◌<◌}
+use Rattle.lists.specs.Kit.{refl, sym, ap, ap₂, subst, ◌∙◌, true, List, ℕ, zero, suc}
 use Rattle.lists.specs.Kit.{arith, ltb, length, get_or, take, drop, length-map, take-append-drop, List·getD-eq-default, get_or-take, length-take-le, ext_get_or}
 use Rattle.lists.{specs.Kit.{ltb-true, ltb-false, ⊎_elim}, specs.Lists.{range}, specs.Facts.{Bytes}, proofs.Tests.{bool_cases}, proofs.Range.{length_range}}
 use Rattle.lists.{proofs.All.{all_below, same_eq}, proofs.Parts.{flat_map_take_drop, get_d_append_zeros}, proofs.Map.{get_d_map_range}}

@@ -1,8 +1,9 @@
 -- Questions 9 and 10 and the block reader, for any bytes, in the form in which a loop decides them.
---   four-at, long-at       four bytes at a place, and the number they stand for
+--   four_at, long_at       four bytes at a place, and the number they stand for
 --   block_check_value      a block passes its check when the sum of its first 508 bytes is the number in its last four
 --   payload-at-image-of    what the block reader gives back of an image
-use Rattle.lists.{specs.Kit.{◌≡◌, sym, ap, ap₂, ◌∙◌, List, [], ◌∷◌, ℕ, zero, suc, ◌+◌, ◌*◌, ◌≤◌, ◌<◌, arith, eqb, length, get_or, take, drop, length-take}}
+use Rattle.std.specs.Prelude.{◌≡◌, ◌∷◌, ◌+◌, ◌*◌, ◌≤◌, ◌<◌}
+use Rattle.lists.{specs.Kit.{sym, ap, ap₂, ◌∙◌, List, [], ℕ, zero, suc, arith, eqb, length, get_or, take, drop, length-take}}
 use Rattle.lists.{specs.Kit.{length-drop, get_or-take, get_or-drop, take-take, length-take-le, ext_get_or, eqb-true, eq-eqb}, specs.Lists.{same}, specs.Facts.{Bytes}}
 use Rattle.lists.{proofs.Tests.{iff_eq}, proofs.All.{same_refl, same_eq}, proofs.Parts.{get_d_bytes, bytes_take, bytes_drop}}
 use Rattle.mesh.specs.Image.{block_bytes, long, check_sum, block_check}

@@ -1,5 +1,6 @@
 -- Laws of the image's definitions that writing and reading rest on.
-use Rattle.lists.specs.Kit.{◌≡◌, ap, ◌∙◌, List, [], ◌∷◌, ◌++◌, ℕ, suc, ◌+◌, ◌*◌, arith, add-zero, length}
+use Rattle.std.specs.Prelude.{◌≡◌, ◌∷◌, ◌++◌, ◌+◌, ◌*◌}
+use Rattle.lists.specs.Kit.{ap, ◌∙◌, List, [], ℕ, suc, arith, add-zero, length}
 use Rattle.mesh.specs.Image.{weighted_sum, check_sum}
 
 weighted_sum_snoc : (i : ℕ) (bs : List ℕ) (x : ℕ) → weighted_sum i (bs ++ (x ∷ [])) ≡ weighted_sum i bs + x * (i + length bs)

@@ -1,6 +1,7 @@
 -- Laws of the image as a whole.
 -- In order: kind and payload of block i, an image's length and bytes, block i in the image, questions 9 and 10.
-use Rattle.lists.{specs.Kit.{◌≡◌, refl, ap, ◌∙◌, Bool, true, false, cond, List, ◌++◌, ℕ, zero, suc, ◌+◌, ◌*◌, ◌-◌, ◌/◌, ◌%◌, ◌≤◌, ◌<◌, arith, ltb, length}}
+use Rattle.std.specs.Prelude.{◌≡◌, ◌++◌, ◌+◌, ◌*◌, ◌-◌, ◌/◌, ◌%◌, ◌≤◌, ◌<◌}
+use Rattle.lists.{specs.Kit.{refl, ap, ◌∙◌, Bool, true, false, cond, List, ℕ, zero, suc, arith, ltb, length}}
 use Rattle.lists.{specs.Kit.{get_or, take, drop, eq-eqb, ne_eqb, lt-ltb, le-ltb}, specs.Lists.{range, same}, specs.Facts.{Bytes}, proofs.Range.{length_range}}
 use Rattle.lists.{proofs.Range.{get_d_range}, proofs.All.{below_all, same_refl}, proofs.Parts.{take_drop_flat_map, bytes_append, bytes_flat_map}}
 use Rattle.mesh.specs.{Graph.{Graph}, Image.{block_bytes, payload_bytes, word, long, check_sum, block, order_blocks, block_count, order_payload}}

@@ -1,7 +1,8 @@
 -- Question 15: the image of sound tables with another n.
 --   other_size_iff       what is worked out from the header's n is the image of some sound tables with another n
 --   is_image_not_other   an image of n radios is of no other size
-use Rattle.lists.{specs.Kit.{◌≡◌, ap, ◌↔◌, true, false, ◌&&◌, not, List, ℕ, ◌≤◌, eqb, eqb-false, eq-eqb, ne_eqb, not-true}, proofs.Tests.{and_left}}
+use Rattle.std.specs.Prelude.{◌≡◌, ◌↔◌, ◌&&◌, ◌≤◌}
+use Rattle.lists.{specs.Kit.{ap, true, false, not, List, ℕ, eqb, eqb-false, eq-eqb, ne_eqb, not-true}, proofs.Tests.{and_left}}
 use Rattle.lists.{proofs.Tests.{and_right, and_both}}
 use Rattle.mesh.specs.{Limits.{max_radios, size_good}, Image.{word_at, is_image, TablesImage, other_size, OtherSize}}
 use Rattle.mesh.proofs.{Sizes.{size_good_true}, Images.Sites.{is_image_radios}, Images.Tables.{is_image_tables}}

@@ -1,6 +1,7 @@
 -- What is read from an image is what was written.
 -- In order: words at their places, the order, the links, both round trips.
-use Rattle.lists.{specs.Kit.{◌≡◌, sym, ap, ◌∙◌, List, [], ◌∷◌, map, ℕ, zero, suc, ◌+◌, ◌*◌, ◌/◌, ◌%◌, ◌≤◌, ◌<◌, arith, length, get_or, List·getD-append}}
+use Rattle.std.specs.Prelude.{◌≡◌, ◌∷◌, ◌+◌, ◌*◌, ◌/◌, ◌%◌, ◌≤◌, ◌<◌}
+use Rattle.lists.{specs.Kit.{sym, ap, ◌∙◌, List, [], map, ℕ, zero, suc, arith, length, get_or, List·getD-append}}
 use Rattle.lists.{specs.Kit.{get_or-append-add}, specs.Lists.{range}, proofs.Map.{map_range_of_get_d}}
 use Rattle.mesh.specs.{Graph.{Link, Graph, graph}, Image.{block_bytes, payload_bytes, block_entries, block_links, word, blocks_for, order_blocks}}
 use Rattle.mesh.specs.{Image.{block_count, link_bytes, links_payload, image_of, word_at, entry_at, image_order, image_link, image_links, image_graph}}

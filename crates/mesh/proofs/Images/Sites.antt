@@ -1,10 +1,11 @@
 -- Question 11, and both round trips: what is written is read back, and what is read is what was written.
---   read-written        a valid site, written and read
+--   read_written        a valid site, written and read
 --   written_read        an accepted image, read and written
 --   is_image_radios     its header says its n
 --   image_injective     valid sites with equal images are equal
 --   is_image_iff        accepted are exactly the images of valid sites with this n
-use Rattle.lists.{specs.Kit.{◌≡◌, refl, sym, ap, ap₂, ◌∙◌, ◌↔◌, Bool, true, ◌&&◌, List, ℕ, ◌≤◌, ◌<◌, arith, length, get_or}, specs.Lists.{same}}
+use Rattle.std.specs.Prelude.{◌≡◌, ◌↔◌, ◌&&◌, ◌≤◌, ◌<◌}
+use Rattle.lists.{specs.Kit.{refl, sym, ap, ap₂, ◌∙◌, Bool, true, List, ℕ, arith, length, get_or}, specs.Lists.{same}}
 use Rattle.lists.{specs.Facts.{EachOnce}, proofs.Tests.{and_right, and_both}, proofs.Range.{once_length, once_below}, proofs.All.{same_refl, same_eq}}
 use Rattle.lists.{proofs.Member.{in_get_d}}
 use Rattle.mesh.specs.{Limits.{max_radios, max_neighbours}, Graph.{Graph, proper, ascending}, Tables.{tables_of}, Sound.{sound, sound_within}}

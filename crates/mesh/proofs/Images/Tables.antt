@@ -3,7 +3,8 @@
 --   tables_of_graph_in   sound tables are the tables of the site that they mark
 --   is_image_tables      accepted are exactly the images of sound tables with this n
 --   tables_read_written  sound tables, written and read
-use Rattle.lists.{specs.Kit.{◌≡◌, refl, sym, ap, ap₂, ◌∙◌, ◌↔◌, true, ◌&&◌, List, ℕ, ◌≤◌, ◌<◌, arith, le_trans, le_of_eq, leb}, proofs.Tests.{and_left}}
+use Rattle.std.specs.Prelude.{◌≡◌, ◌↔◌, ◌&&◌, ◌≤◌, ◌<◌}
+use Rattle.lists.{specs.Kit.{refl, sym, ap, ap₂, ◌∙◌, true, List, ℕ, arith, le_trans, le_of_eq, leb}, proofs.Tests.{and_left}}
 use Rattle.lists.{proofs.Tests.{and_right}, specs.Facts.{Bytes}}
 use Rattle.mesh.specs.{Limits.{max_radios, max_neighbours}, Graph.{Graph}, Cores.{number, numbers}, Tables.{Tables, tables, graph_in, tables_of}}
 use Rattle.mesh.specs.{Tables.{TablesOfSize}, Sound.{symmetric, irreflexive, within, few, rows_proper, number_in, sound_within, sound}}

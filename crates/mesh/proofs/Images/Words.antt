@@ -1,5 +1,6 @@
 -- Laws of numbers as little-endian bytes, and how large a block's check can be.
-use Rattle.lists.{specs.Kit.{◌≡◌, refl, ap, ◌∙◌, List, [], ◌∷◌, ℕ, zero, suc, ◌+◌, ◌*◌, ◌/◌, ◌%◌, ◌≤◌, ◌<◌, arith, mul-suc, mul-le-mul, div-div-eq-div-mul}}
+use Rattle.std.specs.Prelude.{◌≡◌, ◌∷◌, ◌+◌, ◌*◌, ◌/◌, ◌%◌, ◌≤◌, ◌<◌}
+use Rattle.lists.{specs.Kit.{refl, ap, ◌∙◌, List, [], ℕ, zero, suc, arith, mul-suc, mul-le-mul, div-div-eq-div-mul}}
 use Rattle.lists.{specs.Kit.{length, get_or}, specs.Facts.{Bytes}, proofs.Parts.{get_d_bytes, bytes_cons}}
 use Rattle.mesh.specs.Image.{word, long, weighted_sum, check_sum, word_at}
 

@@ -1,7 +1,8 @@
 -- An accepted link call on a site: its peel, the numbers after it, the changed radios, and document 01's new order, which is
 -- the peel's. Up and down alike.
-use Rattle.lists.specs.Kit.{◌≡◌, refl, sym, ap, subst, ◌∙◌, ◌⊎◌, inl, inr, Bool, true, false, ◌&&◌, ◌||◌, not, cond, Bool·not-not, List, ◌++◌, append_assoc}
-use Rattle.lists.specs.Kit.{ℕ, suc, ◌-◌, ◌≤◌, ◌<◌, arith, ltb, eqb, length, ltb-true, eqb-true, eqb-false, eq-eqb, ne_eqb, not-true, not-false, ⊎_elim}
+use Rattle.std.specs.Prelude.{◌≡◌, ◌⊎◌, ◌&&◌, ◌||◌, ◌++◌, ◌-◌, ◌≤◌, ◌<◌}
+use Rattle.lists.specs.Kit.{refl, sym, ap, subst, ◌∙◌, inl, inr, Bool, true, false, not, cond, Bool·not-not, List, append_assoc}
+use Rattle.lists.specs.Kit.{ℕ, suc, arith, ltb, eqb, length, ltb-true, eqb-true, eqb-false, eq-eqb, ne_eqb, not-true, not-false, ⊎_elim}
 use Rattle.lists.{specs.Lists.{range, filter, member, In}, specs.Facts.{Distinct}, proofs.Tests.{bool_cases, never, and_both, or_cases, or_left, or_right}}
 use Rattle.lists.{proofs.Member.{in_cases, member_in, in_member, not_member}, proofs.Count.{count_pos}, proofs.Range.{in_range, range_in, once_in, once_below}}
 use Rattle.lists.{proofs.Range.{once_distinct}, proofs.Distinct.{permutation_in}, proofs.Filter.{in_filter, filter_in, member_filter, filter_ext}}

@@ -2,7 +2,8 @@
 -- has the link, and include an end of it.
 -- Why: take the radios that one of them reaches over changed radios. With no end among them, they and the radios above the level
 -- would be a group of the larger number in the graph without the link already.
-use Rattle.lists.specs.Kit.{◌≡◌, refl, sym, ap, ◌∙◌, ◌⊎◌, inl, inr, Bool, true, false, ◌||◌, List, [], ◌∷◌, ℕ, suc, ◌≤◌, ◌<◌, arith, le_trans, le_of_eq, leb}
+use Rattle.std.specs.Prelude.{◌≡◌, ◌⊎◌, ◌||◌, ◌∷◌, ◌≤◌, ◌<◌}
+use Rattle.lists.specs.Kit.{refl, sym, ap, ◌∙◌, inl, inr, Bool, true, false, List, [], ℕ, suc, arith, le_trans, le_of_eq, leb}
 use Rattle.lists.{specs.Kit.{leb-true, le-leb, ⊎_elim}, specs.Lists.{member}, proofs.Tests.{bool_cases, never, or_cases, or_left, or_right}}
 use Rattle.mesh.specs.{Graph.{Graph, linked, neighbours_in}, Cores.{Group, number}, Connected.{Reachable, here, onward, reached}}
 use Rattle.mesh.proofs.{GraphLaws.{Ends, Adds, adds_cases, adds_has, linked_sym, neighbours_in_mono}, Cores.Certificate.{core_enough}}

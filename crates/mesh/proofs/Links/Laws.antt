@@ -1,12 +1,13 @@
 -- What an accepted link call on a valid site keeps and changes, up and down alike: the theorems that demand 3 rests on.
---   link-valid       links, degrees and k-order are valid again
---   link-level       changed radios stood at the lower end's level
+--   link_valid       links, degrees and k-order are valid again
+--   link_level       changed radios stood at the lower end's level
 --   link_by_one      they change by one: up from the graph without the link to the graph with it
---   link-connected   they are connected through one another alone, in the graph that has the link
---   link_has_end     they include an end (which stood at that level, by link-level)
---   link-below, link-above, link-stretch   the order changes in the stretch of that level alone, which is laid out as document 01 says
---   link-table       two bits of the links table change
-use Rattle.lists.{specs.Kit.{◌≡◌, refl, sym, ap, ◌∙◌, ◌⊎◌, inl, inr, Bool, true, false, List, ◌++◌, append_assoc, ℕ, suc, ◌+◌, ◌≤◌, ◌<◌, arith, le_trans, eqb}}
+--   link_connected   they are connected through one another alone, in the graph that has the link
+--   link_has_end     they include an end (which stood at that level, by link_level)
+--   link_below, link_above, link_stretch   the order changes in the stretch of that level alone, which is laid out as document 01 says
+--   link_table       two bits of the links table change
+use Rattle.std.specs.Prelude.{◌≡◌, ◌⊎◌, ◌++◌, ◌+◌, ◌≤◌, ◌<◌}
+use Rattle.lists.{specs.Kit.{refl, sym, ap, ◌∙◌, inl, inr, Bool, true, false, List, append_assoc, ℕ, suc, arith, le_trans, eqb}}
 use Rattle.lists.{specs.Kit.{length, take, drop, eqb-true, eqb-false}, specs.Lists.{range, member}, proofs.Tests.{bool_cases}, proofs.Count.{count_all}}
 use Rattle.lists.{proofs.Count.{count_mono}, proofs.Range.{distinct_range}}
 use Rattle.mesh.specs.{Limits.{max_radios}, Graph.{Graph, radios, linked, neighbours_among, degree, relinked, Allowed}, Cores.{number}, Levels.{changed}}

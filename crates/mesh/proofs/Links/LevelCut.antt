@@ -1,6 +1,7 @@
 -- An order along which numbers never fall is cut into the radios below a level, at it and above it; the level's entries are
 -- one stretch, and `stretch_start` and `stretch_length` say where it stands.
-use Rattle.lists.{specs.Kit.{◌≡◌, refl, sym, ap, ◌∙◌, ◌⊎◌, inl, inr, List, [], ◌∷◌, ◌++◌, append_assoc, ℕ, ◌+◌, ◌≤◌, ◌<◌, arith, ltb, eqb, length}}
+use Rattle.std.specs.Prelude.{◌≡◌, ◌⊎◌, ◌∷◌, ◌++◌, ◌+◌, ◌≤◌, ◌<◌}
+use Rattle.lists.{specs.Kit.{refl, sym, ap, ◌∙◌, inl, inr, List, [], append_assoc, ℕ, arith, ltb, eqb, length}}
 use Rattle.lists.{specs.Kit.{length-append, take, drop, take_at, drop_at, lt-ltb, le-ltb, eq-eqb, ne_eqb}, specs.Lists.{filter}, specs.Facts.{EachOnce}}
 use Rattle.lists.{specs.Facts.{Rising}, proofs.Tests.{trichotomy}, proofs.Filter.{filter_none, length_filter}}
 use Rattle.mesh.specs.{Graph.{Graph, radios}, Cores.{number}, Levels.{stretch_start, stretch_length}}

@@ -1,5 +1,6 @@
 -- What one link more or less changes: at most one neighbour a radio, none below the lower end's level or above it.
-use Rattle.lists.{specs.Kit.{◌≡◌, refl, sym, ap, ◌∙◌, ◌⊎◌, inl, inr, Bool, true, false, cond, List, ℕ, suc, ◌≤◌, ◌<◌, min, arith, eqb, eq-eqb, ne_eqb}}
+use Rattle.std.specs.Prelude.{◌≡◌, ◌⊎◌, ◌≤◌, ◌<◌}
+use Rattle.lists.{specs.Kit.{refl, sym, ap, ◌∙◌, inl, inr, Bool, true, false, cond, List, ℕ, suc, min, arith, eqb, eq-eqb, ne_eqb}}
 use Rattle.lists.{specs.Lists.{count}, specs.Facts.{Distinct}, proofs.Tests.{iff_eq}, proofs.Distinct.{count_one_more}, proofs.Count.{count_mono}}
 use Rattle.mesh.specs.{Graph.{Graph, linked, relinked}, Valid.{smaller, larger}, Peel.{bound}}
 use Rattle.mesh.proofs.{GraphLaws.{Ends, Adds, adds_keeps, adds_cases}, Links.PeelSound.{Moves}}

@@ -1,6 +1,7 @@
--- Laws of the peel: what is taken and what is left, in which order, and when it ends. A loop grows `Takes` at its end (takes-more) and ends with `Peels`;
+-- Laws of the peel: what is taken and what is left, in which order, and when it ends. A loop grows `Takes` at its end (takes_more) and ends with `Peels`;
 -- document 01's rule is the same peel (laid_out_is).
-use Rattle.lists.{specs.Kit.{◌≡◌, refl, sym, ap, ◌∙◌, ◌⊎◌, inl, inr, Bool, true, false, not, List, [], ◌∷◌, ◌++◌, append_assoc, ℕ, zero, suc, ◌+◌, ◌≤◌, ◌<◌}}
+use Rattle.std.specs.Prelude.{◌≡◌, ◌⊎◌, ◌∷◌, ◌++◌, ◌+◌, ◌≤◌, ◌<◌}
+use Rattle.lists.{specs.Kit.{refl, sym, ap, ◌∙◌, inl, inr, Bool, true, false, not, List, [], append_assoc, ℕ, zero, suc}}
 use Rattle.lists.{specs.Kit.{arith, leb, length, length-append, leb-true, leb-false, le-leb, lt-leb, eq-eqb, ne_eqb}, specs.Lists.{count, filter, member, In}}
 use Rattle.lists.{specs.Facts.{Distinct, Permutation}, proofs.Tests.{bool_cases, bit_false}, proofs.Member.{in_left, in_right, in_member, not_member}}
 use Rattle.lists.{proofs.Count.{count_append, count_mid, count_not, count_all}, proofs.Distinct.{permutation_in, distinct_mid}, proofs.Filter.{in_filter}}

@@ -1,6 +1,7 @@
 -- One level peeled anew, after a link went up or down, gives a certificate of the new numbers: one proof for both directions.
 -- K is the level, `most` the bound of the peel: K going up, K - 1 going down. Taken radios get `most`, stuck ones one more.
-use Rattle.lists.specs.Kit.{◌≡◌, refl, sym, ap, ◌∙◌, ◌⊎◌, inl, inr, Bool, true, false, ◌&&◌, cond, List, ◌++◌, ℕ, suc, ◌+◌, ◌≤◌, ◌<◌, arith, le_trans, ⊎_elim}
+use Rattle.std.specs.Prelude.{◌≡◌, ◌⊎◌, ◌&&◌, ◌++◌, ◌+◌, ◌≤◌, ◌<◌}
+use Rattle.lists.specs.Kit.{refl, sym, ap, ◌∙◌, inl, inr, Bool, true, false, cond, List, ℕ, suc, arith, le_trans, ⊎_elim}
 use Rattle.lists.{specs.Kit.{le_of_eq, leb, leb-true, le-leb}, specs.Lists.{range, count, filter, member, In}, specs.Facts.{Distinct, Permutation, EachOnce}}
 use Rattle.lists.{specs.Facts.{Rising}, proofs.Tests.{bool_cases, and_both}, proofs.Member.{in_left, in_cases, member_in, in_member, not_member}}
 use Rattle.lists.{proofs.Count.{count_append, count_mono}, proofs.Distinct.{distinct_right, distinct_apart}, proofs.Range.{distinct_range, once_in}}

@@ -2,7 +2,8 @@
 --   graph_in_same       tables with the same marks above the diagonal mark the same graph
 --   graph_in_put_link   sound tables, both bits of a link put: the graph with the link changed
 --   rows_put_link       and its rows are proper again
-use Rattle.lists.{specs.Kit.{◌≡◌, sym, ap, ◌∙◌, ◌⊎◌, inl, inr, Bool, true, false, ◌&&◌, cond, List, ℕ, ◌*◌, ◌≤◌, ◌<◌, arith, le_trans, le_of_eq, ltb, length}}
+use Rattle.std.specs.Prelude.{◌≡◌, ◌⊎◌, ◌&&◌, ◌*◌, ◌≤◌, ◌<◌}
+use Rattle.lists.{specs.Kit.{sym, ap, ◌∙◌, inl, inr, Bool, true, false, cond, List, ℕ, arith, le_trans, le_of_eq, ltb, length}}
 use Rattle.lists.{specs.Kit.{ltb-true, ltb-false}, specs.Lists.{range}, proofs.Tests.{bool_cases, and_left, and_right}, proofs.Count.{count_ext}}
 use Rattle.lists.{proofs.Range.{range_in}}
 use Rattle.mesh.specs.{Limits.{max_radios, max_neighbours, row_bytes}, Graph.{Link, Graph, graph, linked, relinked, Allowed}, Levels.{new_order}}

@@ -2,7 +2,8 @@
 --   replaced    a place written over place r
 --   inserted    the places from r on moved one place up, and a place written over place r
 --   taken_out   the places after r moved one place down, and the last used place zeroed
-use Rattle.lists.{specs.Kit.{◌≡◌, refl, sym, ap, ap₂, ◌∙◌, List, [], ◌∷◌, ◌++◌, flat_map, append_assoc, ℕ, zero, suc, ◌+◌, ◌*◌, ◌-◌, ◌≤◌, ◌<◌, arith, length}}
+use Rattle.std.specs.Prelude.{◌≡◌, ◌∷◌, ◌++◌, ◌+◌, ◌*◌, ◌-◌, ◌≤◌, ◌<◌}
+use Rattle.lists.{specs.Kit.{refl, sym, ap, ap₂, ◌∙◌, List, [], flat_map, append_assoc, ℕ, zero, suc, arith, length}}
 use Rattle.lists.{specs.Kit.{take, drop, replicate, length-append, length-drop, length-replicate, take-append-drop, replicate-append-replicate, take_at}}
 use Rattle.lists.{specs.Kit.{drop_at, drop-drop, take-take, length-take-le, take-append-le}, proofs.Parts.{drop_replicate}}
 use Rattle.mesh.specs.{Marks.{place_bytes, places, store_bytes, store_of}, MarkPlaces.{moved_up, moved_down}}

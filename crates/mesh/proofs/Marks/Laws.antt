@@ -1,12 +1,13 @@
 -- The store of marks: a good store is the store of its marks, and the marks of a store of marks are these.
 --   Marks n ps       at most 8 marks in rising order of name
---   store-marks      a good store of full length is the store of its marks
+--   store_marks      a good store of full length is the store of its marks
 --   marks_store_of, length_store_of, is_store_of   the store of marks has these marks and full length, and is good
---   place-mark       a name and an image make a mark, and are what it holds
---   mark-place       a mark is the place of its name and its image
+--   place_mark       a name and an image make a mark, and are what it holds
+--   mark_place       a mark is the place of its name and its image
 -- In order: zeros, places, the store, one place.
-use Rattle.lists.specs.Kit.{◌≡◌, refl, sym, ap, ap₂, ◌∙◌, Bool, true, false, ◌&&◌, cond, List, [], ◌∷◌, ◌++◌, flat_map, append_assoc, ℕ, zero}
-use Rattle.lists.specs.Kit.{suc, ◌+◌, ◌*◌, ◌-◌, ◌≤◌, ◌<◌, arith, zero-add, suc-add, mul-suc, leb, eqb, length, take, drop, replicate, length-append, ⊎_elim}
+use Rattle.std.specs.Prelude.{◌≡◌, ◌&&◌, ◌∷◌, ◌++◌, ◌+◌, ◌*◌, ◌-◌, ◌≤◌, ◌<◌}
+use Rattle.lists.specs.Kit.{refl, sym, ap, ap₂, ◌∙◌, Bool, true, false, cond, List, [], flat_map, append_assoc, ℕ, zero}
+use Rattle.lists.specs.Kit.{suc, arith, zero-add, suc-add, mul-suc, leb, eqb, length, take, drop, replicate, length-append, ⊎_elim}
 use Rattle.lists.specs.Kit.{length-drop, length-replicate, take-append-drop, List·getD-append, take_at, drop_at, drop-drop, length-take-le, eqb-true, ne_eqb}
 use Rattle.lists.{specs.Kit.{leb-true}, specs.Lists.{all}, proofs.Tests.{never, and_left, and_right, and_both, or_cases}}
 use Rattle.mesh.specs.{Limits.{max_radios}, Image.{block_bytes, block_count, word_at, image_graph, image_order, is_image}, Marks.{name_bytes}}

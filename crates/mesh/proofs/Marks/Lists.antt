@@ -1,7 +1,8 @@
 -- Laws of places in rising order of name: a mark more, a mark less, and a mark found.
 --   RisingMarks n x ps    the places ps are marks of full length in rising order of name, the first after the name x
 -- In order: names that stand before, with a mark, without one.
-use Rattle.lists.{specs.Kit.{◌≡◌, refl, sym, ap, subst, ◌∙◌, ◌⊎◌, inl, inr, Bool, true, false, ◌||◌, cond, List, [], ◌∷◌, ℕ, suc, ◌+◌, arith, length}}
+use Rattle.std.specs.Prelude.{◌≡◌, ◌⊎◌, ◌||◌, ◌∷◌, ◌+◌}
+use Rattle.lists.{specs.Kit.{refl, sym, ap, subst, ◌∙◌, inl, inr, Bool, true, false, cond, List, [], ℕ, suc, arith, length}}
 use Rattle.lists.{specs.Lists.{same}, proofs.Tests.{bool_cases, never}, proofs.All.{same_refl, same_eq}}
 use Rattle.mesh.specs.Marks.{place_bytes, before, name_in, is_mark, has_mark, found, with_mark, without_mark}
 use Rattle.mesh.proofs.Marks.NameOrder.{before_trans, before_differ, before_total}

@@ -1,5 +1,6 @@
 -- The order of names, by bytes: a strict total order of lists.
-use Rattle.lists.specs.Kit.{◌≡◌, refl, sym, ◌⊎◌, inl, inr, true, false, ◌&&◌, List, [], ◌∷◌, ℕ, ◌<◌, arith, ltb, eqb, ltb-true, eqb-true, lt-ltb, eq-eqb}
+use Rattle.std.specs.Prelude.{◌≡◌, ◌⊎◌, ◌&&◌, ◌∷◌, ◌<◌}
+use Rattle.lists.specs.Kit.{refl, sym, inl, inr, true, false, List, [], ℕ, arith, ltb, eqb, ltb-true, eqb-true, lt-ltb, eq-eqb}
 use Rattle.lists.specs.Kit.{⊎_elim}
 use Rattle.lists.{specs.Lists.{same}, proofs.Tests.{never, and_left, and_right, and_both, or_left, or_right, or_cases, bool_cases, trichotomy}}
 use Rattle.lists.proofs.All.{same_eq}

@@ -1,9 +1,10 @@
 -- Where a name stands or is to stand among places in rising order: laws of `rank`.
 --   ranked             the name is there exactly if the place at its rank has it
 --   found_at           then that place is the mark
---   with_at, with-new  a mark set is put at its rank, in place of the one of its name or before the ones that follow
+--   with_at, with_new  a mark set is put at its rank, in place of the one of its name or before the ones that follow
 --   without_at         a mark removed leaves the places before and after it
-use Rattle.lists.specs.Kit.{◌≡◌, refl, ap, ◌∙◌, ◌⊎◌, inl, inr, Bool, true, false, cond, List, [], ◌∷◌, ◌++◌, ℕ, suc, ◌≤◌, arith, length, get_or, take, drop}
+use Rattle.std.specs.Prelude.{◌≡◌, ◌⊎◌, ◌∷◌, ◌++◌, ◌≤◌}
+use Rattle.lists.specs.Kit.{refl, ap, ◌∙◌, inl, inr, Bool, true, false, cond, List, [], ℕ, suc, arith, length, get_or, take, drop}
 use Rattle.lists.specs.Kit.{⊎_elim}
 use Rattle.lists.{specs.Lists.{same}, proofs.Tests.{bool_cases, never}, proofs.All.{same_refl, same_eq}}
 use Rattle.mesh.specs.{Marks.{before, name_in, has_mark, found, with_mark, without_mark}, MarkPlaces.{rank, heads}}

@@ -1,7 +1,8 @@
 -- `is_store` decides W-211's rules place by place.
---   mark-at           mark i is place i
+--   mark_at           mark i is place i
 --   store_good_iff    a store of full length is good exactly if it keeps the rules
-use Rattle.lists.{specs.Kit.{◌≡◌, refl, sym, ap, ap₂, ◌∙◌, Bool, true, false, cond, List, [], ◌∷◌, ◌++◌, ℕ, zero, suc, ◌+◌, ◌*◌, ◌-◌, ◌≤◌, ◌<◌, arith, eqb}}
+use Rattle.std.specs.Prelude.{◌≡◌, ◌∷◌, ◌++◌, ◌+◌, ◌*◌, ◌-◌, ◌≤◌, ◌<◌}
+use Rattle.lists.{specs.Kit.{refl, sym, ap, ap₂, ◌∙◌, Bool, true, false, cond, List, [], ℕ, zero, suc, arith, eqb}}
 use Rattle.lists.{specs.Kit.{length, get_or, take, drop, drop_of_length-le, take-append-drop, drop-drop, take-take}, specs.Lists.{all}, proofs.Tests.{and_left}}
 use Rattle.lists.{proofs.Tests.{and_right, and_both, never}}
 use Rattle.mesh.specs.{Limits.{max_radios}, Marks.{name_bytes, place_bytes, places, store_bytes, before, is_name, is_zeros, name_in, image_in, is_mark}}

@@ -1,6 +1,7 @@
 -- Links in their order.
 -- In order: membership of links, a link before another, sorted lists of links, members and neighbours.
-use Rattle.lists.specs.Kit.{◌≡◌, refl, sym, ap, ap₂, subst, ◌∙◌, ◌⊎◌, inl, inr, true, false, ◌&&◌, ◌||◌, List, [], ◌∷◌, ◌++◌, ℕ, ◌<◌, arith, ltb, eqb, ⊎_elim}
+use Rattle.std.specs.Prelude.{◌≡◌, ◌⊎◌, ◌&&◌, ◌||◌, ◌∷◌, ◌++◌, ◌<◌}
+use Rattle.lists.specs.Kit.{refl, sym, ap, ap₂, subst, ◌∙◌, inl, inr, true, false, List, [], ℕ, arith, ltb, eqb, ⊎_elim}
 use Rattle.lists.{specs.Kit.{ltb-true, lt-ltb, le-ltb, eqb-true, eq-eqb}, specs.Lists.{member}, proofs.Tests.{never, and_left, and_right, and_both, or_cases}}
 use Rattle.lists.proofs.Tests.{or_left, or_right, trichotomy}
 use Rattle.mesh.specs.Graph.{Link, InLinks, other_ends, link, link_before, ascending}

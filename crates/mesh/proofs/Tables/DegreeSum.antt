@@ -1,9 +1,10 @@
 -- How many links there are: each counts in the degrees of both its ends.
---   degrees-total        the degrees of a graph add up to twice its links
+--   degrees_total        the degrees of a graph add up to twice its links
 --   row-degrees-total    the bits of the rows add up to twice the links that they mark
 --   length-graph-in      the links that rows mark, row by row
---   links-few            so a limit on neighbours limits the links; `links_most`, `block_count_most` with document 01's limits
-use Rattle.lists.{specs.Kit.{◌≡◌, refl, ap, subst, ◌∙◌, ◌⊎◌, inl, inr, true, false, ◌||◌, cond, List, [], ◌∷◌, ℕ, ◌+◌, ◌*◌, ◌≤◌, ◌<◌, arith, eqb, length}}
+--   links_few            so a limit on neighbours limits the links; `links_most`, `block_count_most` with document 01's limits
+use Rattle.std.specs.Prelude.{◌≡◌, ◌⊎◌, ◌||◌, ◌∷◌, ◌+◌, ◌*◌, ◌≤◌, ◌<◌}
+use Rattle.lists.{specs.Kit.{refl, ap, subst, ◌∙◌, inl, inr, true, false, cond, List, [], ℕ, arith, eqb, length}}
 use Rattle.lists.{specs.Kit.{eqb-true, eqb-false, eq-eqb}, specs.Lists.{range, count, member, total}, proofs.Tests.{bool_cases, bit_true, bit_false, iff_eq}}
 use Rattle.lists.{proofs.Range.{range_in, length_range, count_range_one}, proofs.Count.{count_none, count_cong, count_or}, proofs.Sums.{total_le, total_cong}}
 use Rattle.lists.{proofs.Sums.{total_none, total_bits}}

@@ -1,5 +1,6 @@
 -- Laws of the digits of a number, and of one digit put.
-use Rattle.lists.specs.Kit.{◌≡◌, refl, sym, ap, ◌∙◌, ◌⊎◌, inl, inr, Bool, true, false, cond, ℕ, zero, suc, ◌+◌, ◌*◌, ◌-◌, ◌/◌, ◌%◌, ◌^◌, ◌≤◌, ◌<◌, arith}
+use Rattle.std.specs.Prelude.{◌≡◌, ◌⊎◌, ◌+◌, ◌*◌, ◌-◌, ◌/◌, ◌%◌, ◌^◌, ◌≤◌, ◌<◌}
+use Rattle.lists.specs.Kit.{refl, sym, ap, ◌∙◌, inl, inr, Bool, true, false, cond, ℕ, zero, suc, arith}
 use Rattle.lists.specs.Kit.{pow-succ', div-div-eq-div-mul, zero-div, eqb, eqb·zero-suc, eqb·suc-zero, eqb·suc-suc, eqb-true, eqb-false, ⊎_elim}
 use Rattle.lists.proofs.Tests.{bool_cases, bit_one, bit_digit}
 use Rattle.mesh.specs.Tables.{digit, put_digit, from_digits}

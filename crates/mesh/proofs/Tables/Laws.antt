@@ -1,7 +1,8 @@
 -- Laws of the links table.
 -- In order: parts of equal length joined, bytes, marks of a table, one bit and one link put, tables of bits, the table of a graph.
-use Rattle.lists.{specs.Kit.{◌≡◌, refl, sym, ap, ap₂, ◌∙◌, ◌⊎◌, inl, inr, Bool, true, false, ◌&&◌, ◌||◌, cond, and_comm, List, [], ◌++◌, flat_map, ℕ, zero, suc}}
-use Rattle.lists.{specs.Kit.{◌+◌, ◌*◌, ◌/◌, ◌%◌, ◌≤◌, ◌<◌, arith, mod-lt, zero-lt-suc, mul-suc, eqb, length, get_or, set, replicate, length-set, length-append}}
+use Rattle.std.specs.Prelude.{◌≡◌, ◌⊎◌, ◌&&◌, ◌||◌, ◌++◌, ◌+◌, ◌*◌, ◌/◌, ◌%◌, ◌≤◌, ◌<◌}
+use Rattle.lists.{specs.Kit.{refl, sym, ap, ap₂, ◌∙◌, inl, inr, Bool, true, false, cond, and_comm, List, [], flat_map, ℕ, zero, suc}}
+use Rattle.lists.{specs.Kit.{arith, mod-lt, zero-lt-suc, mul-suc, eqb, length, get_or, set, replicate, length-set, length-append}}
 use Rattle.lists.{specs.Kit.{length-replicate, get_or-replicate, List·getD-append, get_or-append-add, get_or-set_same, get_or-set_other, ext_get_or, eqb-true, eqb-false}}
 use Rattle.lists.{specs.Kit.{eq-eqb, ne_eqb}, specs.Lists.{range, member}, specs.Facts.{Bytes}, proofs.Tests.{bool_cases}, proofs.Range.{length_range}}
 use Rattle.lists.{proofs.Map.{length-map, get_d_map_range}, proofs.Parts.{bytes_replicate}}

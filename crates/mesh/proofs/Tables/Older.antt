@@ -1,8 +1,9 @@
 -- Tables and images from before the bound on neighbours was raised.
---   few-more, sound_within_more   rows and tables within a bound are within a greater one
+--   few_more, sound_within_more   rows and tables within a bound are within a greater one
 --   is_image_within_more          and so are images
---   older-image                   an image of tables that were sound is one of tables that are
-use Rattle.lists.{specs.Kit.{◌≡◌, true, ◌&&◌, List, ℕ, ◌≤◌, arith, leb, le-leb}, specs.Lists.{same}, proofs.Tests.{and_left, and_right, and_both}}
+--   older_image                   an image of tables that were sound is one of tables that are
+use Rattle.std.specs.Prelude.{◌≡◌, ◌&&◌, ◌≤◌}
+use Rattle.lists.{specs.Kit.{true, List, ℕ, arith, leb, le-leb}, specs.Lists.{same}, proofs.Tests.{and_left, and_right, and_both}}
 use Rattle.lists.{proofs.All.{below_all}}
 use Rattle.mesh.specs.{Limits.{max_neighbours, former_neighbours}, Graph.{proper, ascending}, Orders.{each_once, rising, few_later}, Tables.{Tables}}
 use Rattle.mesh.specs.{Tables.{marked, tables_of}, Sound.{symmetric, irreflexive, within, row_degree, few, rows_proper, enough, number_in, sound_within}}

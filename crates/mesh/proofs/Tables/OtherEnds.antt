@@ -1,7 +1,8 @@
 -- The other ends of a radio's links are its neighbours, each once: so links can be counted as they are listed.
 --   distinct_other_ends   no neighbour comes twice
 --   ends_neighbours_in    the other ends that pass are the neighbours that pass
-use Rattle.lists.{specs.Kit.{◌≡◌, ap, ◌∙◌, ◌⊎◌, inl, inr, Bool, true, false, ◌&&◌, cond, List, [], ◌∷◌, ℕ, arith, le_antisymm, eqb, eqb-true}}
+use Rattle.std.specs.Prelude.{◌≡◌, ◌⊎◌, ◌&&◌, ◌∷◌}
+use Rattle.lists.{specs.Kit.{ap, ◌∙◌, inl, inr, Bool, true, false, cond, List, [], ℕ, arith, le_antisymm, eqb, eqb-true}}
 use Rattle.lists.{specs.Lists.{range, count, In}, specs.Facts.{Distinct}, proofs.Tests.{bool_cases, and_left, and_right, and_both}, proofs.Member.{member_in}}
 use Rattle.lists.{proofs.Member.{in_member}, proofs.Range.{in_range, distinct_range}, proofs.Distinct.{count_sub}}
 use Rattle.mesh.specs.Graph.{Link, Graph, radios, linked, neighbours_in, other_ends, proper, ascending}

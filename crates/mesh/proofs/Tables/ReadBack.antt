@@ -1,8 +1,9 @@
 -- The links table read back as a graph.
 -- In order: members of joined lists of links, the links that a table marks, their order, the round trips, neighbours and
 -- degrees.
-use Rattle.lists.specs.Kit.{◌≡◌, refl, sym, ap, subst, ◌∙◌, ◌⊎◌, inl, inr, Bool, true, false, cond, List, [], ◌∷◌, map, flat_map, ℕ, zero, suc, ◌*◌, ◌-◌, ◌≤◌}
-use Rattle.lists.{specs.Kit.{◌<◌, arith, ltb, length, ltb-true, ltb-false}, specs.Lists.{range, filter, In}, specs.Facts.{Bytes}, proofs.Tests.{bool_cases}}
+use Rattle.std.specs.Prelude.{◌≡◌, ◌⊎◌, ◌∷◌, ◌*◌, ◌-◌, ◌≤◌, ◌<◌}
+use Rattle.lists.specs.Kit.{refl, sym, ap, subst, ◌∙◌, inl, inr, Bool, true, false, cond, List, [], map, flat_map, ℕ, zero, suc}
+use Rattle.lists.{specs.Kit.{arith, ltb, length, ltb-true, ltb-false}, specs.Lists.{range, filter, In}, specs.Facts.{Bytes}, proofs.Tests.{bool_cases}}
 use Rattle.lists.specs.Kit.{⊎_elim}
 use Rattle.lists.{proofs.Tests.{iff_eq, trichotomy}, proofs.Range.{in_range, range_in}, proofs.Filter.{in_filter, filter_in}}
 use Rattle.mesh.specs.{Limits.{max_radios, row_bytes}, Graph.{Link, InLinks, Graph, graph, radios, linked, degree, neighbours_among, proper, ascending}}

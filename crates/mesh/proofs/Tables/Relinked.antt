@@ -1,6 +1,7 @@
 -- One link more or less.
 -- In order: the links stay in their order, the neighbours that change, the links table that changes.
-use Rattle.lists.{specs.Kit.{◌≡◌, refl, sym, ap, subst, ◌∙◌, ◌⊎◌, inl, inr, Bool, true, false, ◌||◌, not, cond, List, [], ◌∷◌, ℕ, ◌≤◌, ◌<◌, eqb, eq-eqb}}
+use Rattle.std.specs.Prelude.{◌≡◌, ◌⊎◌, ◌||◌, ◌∷◌, ◌≤◌, ◌<◌}
+use Rattle.lists.{specs.Kit.{refl, sym, ap, subst, ◌∙◌, inl, inr, Bool, true, false, not, cond, List, [], ℕ, eqb, eq-eqb}}
 use Rattle.lists.{proofs.Tests.{bool_cases, never, and_both}}
 use Rattle.mesh.specs.{Limits.{max_radios}, Graph.{Link, InLinks, Graph, linked, link, link_before, same_link, with_link, without_link, new_links}}
 use Rattle.mesh.specs.{Graph.{relinked, proper, ascending}, Tables.{put_link, links_table}}

@@ -1,6 +1,7 @@
 -- The conditions on rows of the links table, as facts about marks, and the rows of a graph's table.
 -- In order: each condition from its test and back, the bits of a row counted, the table of a graph.
-use Rattle.lists.specs.Kit.{◌≡◌, sym, ◌∙◌, ◌⊎◌, inl, inr, Bool, true, false, not, Bool·beq, List, ℕ, ◌-◌, ◌≤◌, ◌<◌, arith, le_antisymm, ltb, leb, leb-true}
+use Rattle.std.specs.Prelude.{◌≡◌, ◌⊎◌, ◌-◌, ◌≤◌, ◌<◌}
+use Rattle.lists.specs.Kit.{sym, ◌∙◌, inl, inr, Bool, true, false, not, Bool·beq, List, ℕ, arith, le_antisymm, ltb, leb, leb-true}
 use Rattle.lists.{specs.Kit.{le-leb, not-true, ltb-true, ltb-false}, specs.Lists.{range, count, all, In}, proofs.Tests.{bool_cases, never, beq_eq, eq_beq}}
 use Rattle.lists.specs.Kit.{⊎_elim}
 use Rattle.lists.{proofs.Range.{in_range, range_in, distinct_range}, proofs.All.{all_in, in_all, all_below, below_all}, proofs.Distinct.{count_sub}}

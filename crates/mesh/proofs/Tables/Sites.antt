@@ -1,5 +1,6 @@
 -- Valid sites to start from: a cleared one, and one read from an image.
-use Rattle.lists.{specs.Kit.{◌≡◌, refl, inl, inr, true, false, ◌&&◌, List, [], ◌∷◌, map, ℕ, zero, suc, ◌≤◌, arith, le_of_eq, replicate}, specs.Lists.{range}}
+use Rattle.std.specs.Prelude.{◌≡◌, ◌&&◌, ◌∷◌, ◌≤◌}
+use Rattle.lists.{specs.Kit.{refl, inl, inr, true, false, List, [], map, ℕ, zero, suc, arith, le_of_eq, replicate}, specs.Lists.{range}}
 use Rattle.lists.{specs.Lists.{count, member, same, In}, specs.Facts.{Rising}, proofs.Tests.{and_left, and_right}, proofs.Count.{count_none}}
 use Rattle.lists.{proofs.Range.{range_in}}
 use Rattle.mesh.specs.{Limits.{max_radios, max_neighbours}, Graph.{graph, radios, other_ends, linked, neighbours_among, degree, proper, ascending}}

@@ -1,9 +1,10 @@
 -- Sound tables are exactly the ones with proper rows, core numbers and a k-order.
---   sound-iff     soundness by the local conditions, on any tables of the right lengths
---   valid-sound   the tables of a valid site are sound
---   sound-valid   sound tables of proper ascending links are a valid site's
+--   sound_iff     soundness by the local conditions, on any tables of the right lengths
+--   valid_sound   the tables of a valid site are sound
+--   sound_valid   sound tables of proper ascending links are a valid site's
 -- Each takes the bound on a row's bits as a parameter.
-use Rattle.lists.{specs.Kit.{◌≡◌, refl, sym, ap, ◌∙◌, ◌↔◌, Bool, true, false, ◌&&◌, List, ℕ, ◌≤◌, ◌<◌, arith, le_trans, le_of_eq, leb, length, get_or, ext_get_or}}
+use Rattle.std.specs.Prelude.{◌≡◌, ◌↔◌, ◌&&◌, ◌≤◌, ◌<◌}
+use Rattle.lists.{specs.Kit.{refl, sym, ap, ◌∙◌, Bool, true, false, List, ℕ, arith, le_trans, le_of_eq, leb, length, get_or, ext_get_or}}
 use Rattle.lists.{specs.Kit.{leb-true, le-leb}, specs.Lists.{range, count, In}, specs.Facts.{EachOnce}, proofs.Tests.{and_left, and_right, and_both}}
 use Rattle.lists.{proofs.Count.{count_ext}, proofs.Range.{once_below, range_in}, proofs.All.{all_below, below_all}, proofs.Ascending.{rising_cong}}
 use Rattle.mesh.specs.{Limits.{max_radios}, Graph.{Graph, radios, linked, neighbours_in, proper, ascending}, Cores.{number, numbers}, Orders.{each_once}}

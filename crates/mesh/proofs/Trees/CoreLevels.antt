@@ -1,5 +1,6 @@
 -- Connected cores at one level and at two.
-use Rattle.lists.{specs.Kit.{◌≡◌, sym, ◌∙◌, true, ℕ, ◌≤◌, ◌<◌, arith, leb-true, le-leb}, specs.Lists.{range, member}, proofs.Tests.{iff_eq}}
+use Rattle.std.specs.Prelude.{◌≡◌, ◌≤◌, ◌<◌}
+use Rattle.lists.{specs.Kit.{sym, ◌∙◌, true, ℕ, arith, leb-true, le-leb}, specs.Lists.{range, member}, proofs.Tests.{iff_eq}}
 use Rattle.lists.{proofs.Filter.{filter_ext}}
 use Rattle.mesh.specs.{Graph.{Graph, radios}, Cores.{number}, Connected.{here, at_least, InCore, core_of}}
 use Rattle.mesh.proofs.Trees.Reach.{reachable_below, reachable_passes, reachable_trans, reachable_sym, reachable_mono, core_of_iff, core_of_ascending}

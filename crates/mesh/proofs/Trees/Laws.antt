@@ -1,8 +1,9 @@
 -- The shell tree that is worked out is document 01's: `tree_right`. That the names by radio are right is `node_name_right` in
 -- ShellNames.antt.
 -- In order: entries of maps and of joined lists, core numbers are at most n, the nodes of a level, their order, the tree.
-use Rattle.lists.{specs.Kit.{◌≡◌, refl, ap, ◌⊎◌, inl, inr, Bool, ◌&&◌, List, [], ◌∷◌, ◌++◌, map, flat_map, ListAsMemᴰ, List·Memᴰ·head, List·Memᴰ·tail}}
-use Rattle.lists.{specs.Kit.{List·Memᴰ·append-cases, ℕ, zero, suc, ◌≤◌, ◌<◌, arith, eqb, length, eqb-true, eq-eqb}, specs.Lists.{range, filter, member}}
+use Rattle.std.specs.Prelude.{◌≡◌, ◌⊎◌, ◌&&◌, ◌∷◌, ◌++◌, ◌≤◌, ◌<◌}
+use Rattle.lists.{specs.Kit.{refl, ap, inl, inr, Bool, List, [], map, flat_map, ListAsMemᴰ, List·Memᴰ·head, List·Memᴰ·tail}}
+use Rattle.lists.{specs.Kit.{List·Memᴰ·append-cases, ℕ, zero, suc, arith, eqb, length, eqb-true, eq-eqb}, specs.Lists.{range, filter, member}}
 use Rattle.lists.{specs.Lists.{Ascending}, proofs.Tests.{bit_one, and_left, and_right, and_both}, proofs.Range.{in_range, range_in}, proofs.Filter.{in_filter}}
 use Rattle.lists.{proofs.Filter.{filter_in}, proofs.Ascending.{ascending_range, ascending_filter}, proofs.Map.{mem_map, map_mem, mem_flat_map, flat_map_mem}}
 use Rattle.mesh.specs.{Graph.{Graph, radios}, Cores.{number, cores, cores_from, depth, peeled}, declared.Node.{Node}, Tree.{node, IsNode, NodeBefore}}

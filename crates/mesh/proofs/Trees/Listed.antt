@@ -1,6 +1,7 @@
 -- The lists of radios that calls answer: they are ascending, and which radios the backbone has; of a site in one part it is
 -- document 01's.
-use Rattle.lists.{specs.Kit.{◌≡◌, refl, ap, ◌↔◌, inl, inr, Bool, true, ◌&&◌, List, [], ◌∷◌, map, ℕ, zero, suc, ◌≤◌, ◌<◌, arith, ltb, eqb, length, get_or}}
+use Rattle.std.specs.Prelude.{◌≡◌, ◌↔◌, ◌&&◌, ◌∷◌, ◌≤◌, ◌<◌}
+use Rattle.lists.{specs.Kit.{refl, ap, inl, inr, Bool, true, List, [], map, ℕ, zero, suc, arith, ltb, eqb, length, get_or}}
 use Rattle.lists.{specs.Kit.{ltb-true, eqb-true, lt-ltb, eq-eqb}, specs.Lists.{range, filter, member, In, Ascending}, proofs.Tests.{and_left, and_right}}
 use Rattle.lists.{proofs.Tests.{and_both, iff_eq}, proofs.Member.{member_in, in_member}, proofs.Range.{in_range, range_in}, proofs.Filter.{in_filter}}
 use Rattle.lists.{proofs.Filter.{filter_in, filter_ext}, proofs.Ascending.{ascending_range, ascending_filter}}

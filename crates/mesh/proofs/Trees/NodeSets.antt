@@ -1,7 +1,8 @@
 -- Laws of the shell tree's sets.
 -- In order: shells, connected cores as sets, node sets (they are the connected cores with a radio of their own level), names,
 -- parents (there is one at most).
-use Rattle.lists.specs.Kit.{◌≡◌, refl, sym, ◌∙◌, inl, inr, ◌↔◌, Bool, true, List, [], ◌∷◌, ℕ, suc, ◌≤◌, ◌<◌, arith, le_antisymm, eqb, eqb-true}
+use Rattle.std.specs.Prelude.{◌≡◌, ◌↔◌, ◌∷◌, ◌≤◌, ◌<◌}
+use Rattle.lists.specs.Kit.{refl, sym, ◌∙◌, inl, inr, Bool, true, List, [], ℕ, suc, arith, le_antisymm, eqb, eqb-true}
 use Rattle.lists.{specs.Kit.{eqb-false, eq-eqb, ⊎_elim}, specs.Lists.{member, In}, proofs.Tests.{bool_cases}, proofs.Member.{member_in, in_member}}
 use Rattle.lists.proofs.Filter.{in_filter, filter_in}
 use Rattle.mesh.specs.{Graph.{Graph}, Cores.{number}, Connected.{InCore, core_of}, Tree.{CoreSet, NodeSet, Named, Contains, Parent, shell}}

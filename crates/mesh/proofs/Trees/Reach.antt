@@ -1,6 +1,7 @@
 -- Reachable radios: laws of reachability, the rounds of `reached` take in exactly the reachable radios, and so connected cores
 -- as lists. More on connected cores is in CoreLevels.antt.
-use Rattle.lists.specs.Kit.{◌≡◌, refl, sym, ap, ◌∙◌, ◌⊎◌, inl, inr, ◌↔◌, Bool, true, false, ◌&&◌, ◌||◌, not, List, [], ◌∷◌, ℕ, zero, suc, ◌+◌, ◌≤◌, ◌<◌}
+use Rattle.std.specs.Prelude.{◌≡◌, ◌⊎◌, ◌↔◌, ◌&&◌, ◌||◌, ◌∷◌, ◌+◌, ◌≤◌, ◌<◌}
+use Rattle.lists.specs.Kit.{refl, sym, ap, ◌∙◌, inl, inr, Bool, true, false, not, List, [], ℕ, zero, suc}
 use Rattle.lists.{specs.Kit.{arith, ltb, length, ltb-true, lt-ltb, not-true}, specs.Lists.{range, count, filter, member, In}, specs.Facts.{AscendingBelow}}
 use Rattle.lists.specs.Kit.{⊎_elim}
 use Rattle.lists.{proofs.Tests.{bool_cases, never, and_left, and_right, and_both, or_cases, or_left, or_right, iff_eq}, proofs.Member.{member_in, in_member}}

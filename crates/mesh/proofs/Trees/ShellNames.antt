@@ -1,6 +1,7 @@
 -- The names that the shell tree works out: of a radio's node, and of a node's parent.
 -- In order: increasing lists and their first entry, the name of a shell, the node of a radio, the parent of a node.
-use Rattle.lists.{specs.Kit.{◌≡◌, refl, ◌∙◌, ◌⊎◌, inl, inr, Bool, true, false, List, [], ◌∷◌, ℕ, zero, suc, ◌≤◌, ◌<◌, arith, eqb, ne_eqb}, specs.Lists.{range}}
+use Rattle.std.specs.Prelude.{◌≡◌, ◌⊎◌, ◌∷◌, ◌≤◌, ◌<◌}
+use Rattle.lists.{specs.Kit.{refl, ◌∙◌, inl, inr, Bool, true, false, List, [], ℕ, zero, suc, arith, eqb, ne_eqb}, specs.Lists.{range}}
 use Rattle.lists.{specs.Lists.{member, head_or, In, Ascending}, proofs.Tests.{bool_cases, never, trichotomy}, proofs.Ascending.{ascending_range}}
 use Rattle.lists.{proofs.Ascending.{ascending_filter, head_or_lowest}, proofs.Member.{head_or_in, head_or_any}}
 use Rattle.mesh.specs.{Graph.{Graph, radios}, Cores.{number}, Connected.{core_of}, Tree.{root_name, CoreSet, NodeSet, Named}}

@@ -1,6 +1,7 @@
 -- Document 01 decides the shell tree: `tree_iff` and `node_name_iff` say that the answer worked out is the only one.
-use Rattle.lists.specs.Kit.{◌≡◌, refl, sym, ap, ap₂, ◌∙◌, ◌⊎◌, inl, inr, ◌↔◌, List, [], ◌∷◌, ListAsMemᴰ, List·Memᴰ·head, List·Memᴰ·tail, List·Memᴰ·cases-cons}
-use Rattle.lists.specs.Kit.{List·Memᴰ·not-nil, ℕ, zero, suc, ◌<◌, arith}
+use Rattle.std.specs.Prelude.{◌≡◌, ◌⊎◌, ◌↔◌, ◌∷◌, ◌<◌}
+use Rattle.lists.specs.Kit.{refl, sym, ap, ap₂, ◌∙◌, inl, inr, List, [], ListAsMemᴰ, List·Memᴰ·head, List·Memᴰ·tail, List·Memᴰ·cases-cons}
+use Rattle.lists.specs.Kit.{List·Memᴰ·not-nil, ℕ, zero, suc, arith}
 use Rattle.mesh.specs.{Graph.{Graph}, Cores.{number}, declared.Node.{Node}, Tree.{root, NodeBefore, NodesAscending, IsTree, NodeName, tree}}
 use Rattle.mesh.specs.{Tree.{node_name}}
 use Rattle.mesh.proofs.Trees.{NodeSets.{core_has, core_has_self, node_set_of_radio, named_unique}, ShellNames.{node_name_right}, Laws.{tree_right}}
