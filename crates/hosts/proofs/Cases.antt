@@ -1,17 +1,18 @@
 -- Three calls of a host, in cells: four blocks, in which three tables of two radios and an answer table of two entries hold anything. The
 -- host clears the tables, takes the link between the two radios up, and takes it down again.
---   three-calls    the three runs, what each returns, and every cell of the four tables after each
-use Rattle.lists.specs.{Kit.{◌≡◌, refl, sym, ◌∙◌, subst, ∥∥₁_prop, ∥∥₁_elim, ∥∥₁_map, Bool, true, false, List, [], ◌∷◌, ◌++◌, map, ℕ, zero, suc, arith, pos}}
+--   three_calls    the three runs, what each returns, and every cell of the four tables after each
+use Rattle.std.specs.Prelude.{◌≡◌, ◌∷◌, ◌++◌}
+use Rattle.lists.specs.{Kit.{refl, sym, ◌∙◌, subst, ∥∥₁_prop, ∥∥₁_elim, ∥∥₁_map, Bool, true, false, List, [], map, ℕ, zero, suc, arith, pos}}
 use Rattle.lists.specs.{Kit.{negsuc, length, replicate, lit<}, Lists.{overwrite}}
 use mir.{Mem.{byte}, Syntax.{w8, w16, w32, ty_int}, Val.{Val, vint, vstruct, vcons, vnil}}
-use prog.{Memory.{Memory}, Machine.{done}, Routine.{Routine}}
-use Rattle.machine.{specs.Cells.{Form, Inputs, Stands, All, Sized, GoodList, Ready, Runs, span, pointer, passed, writes}, specs.Made.{Fitting, blocks}}
+use prog.{Memory.{Memory}, Machine.{done}, Routine.{Routine, step}}
+use Rattle.machine.{specs.Cells.{Form, Inputs, Stands, Open, All, Sized, GoodList, Ready, Runs, span, pointer, passed, writes}, specs.Made.{Fitting, blocks}}
 use Rattle.machine.{proofs.Left.{ran_lengths, ran_held}, proofs.Made.{made_ready}, proofs.Again.{stands_still}}
 use Rattle.mesh.specs.Tables.{Tables, tables, graph_in, row_links, put_link, put_bit, put_digit}
 use Rattle.calls.{specs.Questions.{site_refusal, answer_length}, specs.Outcomes.{Tabled, tabled, Linked, linked_with, reply, clear_outcome, link_outcome}}
 use Rattle.calls.{specs.Switches.{switched}, proofs.WorkedState.{compute}}
 use Rattle.hosts.specs.Public.{clear, link, Public, of_book, call, bytes, words, number_value, reply_value}
-use Rattle.hosts.proofs.Made.{RoomAt, aligned_of, room_still}
+use Rattle.hosts.proofs.Made.{RoomAt, aligned_of, room_still, still_open}
 use Rattle.calls.specs.declared.Reply.{Reply}
 
 -- ---- tables in blocks 0 to 2, the answer table in block 3
@@ -27,6 +28,7 @@ record InBlock (σ : Memory) (F : Form) (b k : ℕ) (xs : List F.Value) : Type 0
   stands : Stands σ (span F (b, 0) xs)
   held : All F.Holds xs
   room : RoomAt σ F.ty (b, 0)
+  open_there : Open σ (span F (b, 0) xs)
   long : length xs ≡ k
 
 record State (σ : Memory) (t : Tables) (w : List ℕ) : Type 0 where
@@ -48,6 +50,7 @@ module _ (σ : Memory) (t : Tables) (w : List ℕ) (q : State σ t w) where
       (λ b i x y. absurd (omega (arith, x.0, y.0)), (λ b i x y. absurd (omega (arith, x.0, y.0)), tt)),
       ((λ b i x y. absurd (omega (arith, x.0, y.0)), tt), (tt, tt)),
     );
+    writes_open = (q.links.open_there, (q.numbers.open_there, (q.order.open_there, tt)));
     good = (
       lit< tt,
       (
@@ -69,6 +72,7 @@ module _ (σ : Memory) (t : Tables) (w : List ℕ) (q : State σ t w) where
         ((λ b i x y. absurd (omega (arith, x.0, y.0)), tt), (tt, tt)),
       ),
     );
+    writes_open = (q.links.open_there, (q.numbers.open_there, (q.order.open_there, (q.answer.open_there, tt))));
     good = (
       lit< tt,
       (
@@ -92,7 +96,7 @@ module _ (σ : Memory) (t : Tables) (w : List ℕ) (q : State σ t w) where
 record Called (ρ : Routine) (vs : List Val) (v : Val) (σ : Memory) (t : Tables) (w : List ℕ) : Type 0 where
   steps : ℕ
   memory : Memory
-  returns : ρ.step steps vs σ ≡ done (v, memory)
+  returns : step ρ steps vs σ ≡ done (v, memory)
   state : State memory t w
 
 module _ (ρ : Public → Routine) (runs : (x : Public) → Runs (ρ x) (call x)) (σ : Memory) (t : Tables) (w : List ℕ) (q : State σ t w) where
@@ -111,12 +115,14 @@ module _ (ρ : Public → Routine) (runs : (x : Public) → Runs (ρ x) (call x)
             stands = h.stand.0;
             held = (ran_held h).0;
             room = still (ty_int w8) (0, 0) q.links.room;
+            open_there = still_open σ h.memory h.blocks_kept w8 (0, 0) _ _ (ran_lengths h).0 q.links.stands q.links.open_there;
             long = (ran_lengths h).0 ∙ q.links.long;
           };
           numbers = record {
             stands = h.stand.1.0;
             held = (ran_held h).1.0;
             room = still (ty_int w8) (1, 0) q.numbers.room;
+            open_there = still_open σ h.memory h.blocks_kept w8 (1, 0) _ _ (ran_lengths h).1.0 q.numbers.stands q.numbers.open_there;
             long = (ran_lengths h).1.0
                 ∙ q.numbers.long;
           };
@@ -124,6 +130,7 @@ module _ (ρ : Public → Routine) (runs : (x : Public) → Runs (ρ x) (call x)
             stands = h.stand.1.1.0;
             held = (ran_held h).1.1.0;
             room = still (ty_int w16) (2, 0) q.order.room;
+            open_there = still_open σ h.memory h.blocks_kept w16 (2, 0) _ _ (ran_lengths h).1.1.0 q.order.stands q.order.open_there;
             long = (ran_lengths h).1.1.0
                 ∙ q.order.long;
           };
@@ -134,6 +141,7 @@ module _ (ρ : Public → Routine) (runs : (x : Public) → Runs (ρ x) (call x)
             ) q.answer.stands;
             held = q.answer.held;
             room = still (ty_int w16) (3, 0) q.answer.room;
+            open_there = still_open σ h.memory h.blocks_kept w16 (3, 0) w w refl q.answer.stands q.answer.open_there;
             long = q.answer.long;
           };
         };
@@ -154,12 +162,14 @@ module _ (ρ : Public → Routine) (runs : (x : Public) → Runs (ρ x) (call x)
             stands = h.stand.0;
             held = (ran_held h).0;
             room = still (ty_int w8) (0, 0) q.links.room;
+            open_there = still_open σ h.memory h.blocks_kept w8 (0, 0) _ _ (ran_lengths h).0 q.links.stands q.links.open_there;
             long = (ran_lengths h).0 ∙ q.links.long;
           };
           numbers = record {
             stands = h.stand.1.0;
             held = (ran_held h).1.0;
             room = still (ty_int w8) (1, 0) q.numbers.room;
+            open_there = still_open σ h.memory h.blocks_kept w8 (1, 0) _ _ (ran_lengths h).1.0 q.numbers.stands q.numbers.open_there;
             long = (ran_lengths h).1.0
                 ∙ q.numbers.long;
           };
@@ -167,6 +177,7 @@ module _ (ρ : Public → Routine) (runs : (x : Public) → Runs (ρ x) (call x)
             stands = h.stand.1.1.0;
             held = (ran_held h).1.1.0;
             room = still (ty_int w16) (2, 0) q.order.room;
+            open_there = still_open σ h.memory h.blocks_kept w16 (2, 0) _ _ (ran_lengths h).1.1.0 q.order.stands q.order.open_there;
             long = (ran_lengths h).1.1.0
                 ∙ q.order.long;
           };
@@ -174,6 +185,7 @@ module _ (ρ : Public → Routine) (runs : (x : Public) → Runs (ρ x) (call x)
             stands = h.stand.1.1.1.0;
             held = (ran_held h).1.1.1.0;
             room = still (ty_int w16) (3, 0) q.answer.room;
+            open_there = still_open σ h.memory h.blocks_kept w16 (3, 0) _ _ (ran_lengths h).1.1.1.0 q.answer.stands q.answer.open_there;
             long = (ran_lengths h).1.1.1.0 ∙ q.answer.long;
           };
         };
@@ -238,11 +250,12 @@ fitting = (
 first_state : State memory anything (8 ∷ 8 ∷ [])
 first_state =
     let w = (made_ready (call (of_book (link true))).params at_first fitting).writes_stand in
+    let o = (made_ready (call (of_book (link true))).params at_first fitting).writes_open in
     record {
-      links = record { stands = w.0; held = sevens_held 128; room = ((1, (span bytes (0, 0) (replicate 128 7)).2), refl, tt); long = refl };
-      numbers = record { stands = w.1.0; held = (lit< tt, (lit< tt, tt)); room = ((1, (span bytes (1, 0) (9 ∷ 9 ∷ [])).2), refl, tt); long = refl };
-      order = record { stands = w.1.1.0; held = (lit< tt, (lit< tt, tt)); room = ((2, (span words (2, 0) (5 ∷ 5 ∷ [])).2), refl, tt); long = refl };
-      answer = record { stands = w.1.1.1.0; held = (lit< tt, (lit< tt, tt)); room = ((2, (span words (3, 0) (8 ∷ 8 ∷ [])).2), refl, tt); long = refl };
+      links = record { stands = w.0; held = sevens_held 128; room = ((1, (span bytes (0, 0) (replicate 128 7)).2, true), refl, tt); open_there = o.0; long = refl };
+      numbers = record { stands = w.1.0; held = (lit< tt, (lit< tt, tt)); room = ((1, (span bytes (1, 0) (9 ∷ 9 ∷ [])).2, true), refl, tt); open_there = o.1.0; long = refl };
+      order = record { stands = w.1.1.0; held = (lit< tt, (lit< tt, tt)); room = ((2, (span words (2, 0) (5 ∷ 5 ∷ [])).2, true), refl, tt); open_there = o.1.1.0; long = refl };
+      answer = record { stands = w.1.1.1.0; held = (lit< tt, (lit< tt, tt)); room = ((2, (span words (3, 0) (8 ∷ 8 ∷ [])).2, true), refl, tt); open_there = o.1.1.1.0; long = refl };
     }
 
 -- what the machine is passed: the site's three tables, and what follows them
@@ -269,12 +282,12 @@ pub record ThreeCalls (ρ : Public → Routine) : Type 0 where
   pub τ₁ : Memory
   pub τ₂ : Memory
   pub τ₃ : Memory
-  pub clears : (ρ (of_book clear)).step n₁ (vint w32 2 ∷ tables_passed []) memory ≡ done (vint w32 0, τ₁)
+  pub clears : step (ρ (of_book clear)) n₁ (vint w32 2 ∷ tables_passed []) memory ≡ done (vint w32 0, τ₁)
   pub cleared : Cells τ₁ (replicate 128 0) (0 ∷ 0 ∷ []) (0 ∷ 0 ∷ 1 ∷ 0 ∷ []) (8 ∷ 0 ∷ 8 ∷ 0 ∷ [])
-  pub goes_up : (ρ (of_book (link true))).step n₂ link_passed τ₁ ≡ done (replied 0 1 2, τ₂)
+  pub goes_up : step (ρ (of_book (link true))) n₂ link_passed τ₁ ≡ done (replied 0 1 2, τ₂)
   pub up : Cells τ₂ (2 ∷ replicate 63 0 ++ (1 ∷ replicate 63 0)) (1 ∷ 1 ∷ []) (0 ∷ 0 ∷ 1 ∷ 0 ∷ []) (0 ∷ 0 ∷ 1 ∷ 0 ∷ [])
   -- the step -1 is the byte 255
-  pub goes_down : (ρ (of_book (link false))).step n₃ link_passed τ₂ ≡ done (replied 0 255 2, τ₃)
+  pub goes_down : step (ρ (of_book (link false))) n₃ link_passed τ₂ ≡ done (replied 0 255 2, τ₃)
   pub down : Cells τ₃ (replicate 128 0) (0 ∷ 0 ∷ []) (0 ∷ 0 ∷ 1 ∷ 0 ∷ []) (0 ∷ 0 ∷ 1 ∷ 0 ∷ [])
 
 module _ (ρ : Public → Routine) (runs : (x : Public) → Runs (ρ x) (call x)) where

@@ -1,11 +1,12 @@
 -- Demand 3 at the machine: a host's list of calls, in cells of memory, ends as document 01's book says. The statement is `HostsDemand` in
 -- specs/Hosts.antt.
---   done-one         one call: the machine shows what `done` says, and the tables that it leaves stand after it
---   hosted-run       a host's list of calls is carried out as `events` says, and its last tables stand in the last memory
---   standing-demand  so demand 3 holds of it
---   hosts-demand     and of every list that begins with an accepted clearing or reading
-use Rattle.lists.specs.Kit.{◌≡◌, refl, sym, ◌∙◌, ap, subst, ◌⊎◌, inl, inr, ∥∥₁_prop, ∥∥₁_elim, ∥∥₁_map, Bool, List, [], ◌∷◌, map, some, ℕ, ◌*◌, arith, length}
-use mir.{Mem.{Cell}, Syntax.{w8, w16}, Val.{Val, Vals, vunit, vbool, vint, vfloat, vptr, vstruct, vnil, vcons}}
+--   done_one         one call: the machine shows what `done` says, and the tables that it leaves stand after it
+--   hosted_run       a host's list of calls is carried out as `events` says, and its last tables stand in the last memory
+--   standing_demand  so demand 3 holds of it
+--   hosts_demand     and of every list that begins with an accepted clearing or reading
+use Rattle.std.specs.Prelude.{◌≡◌, ◌⊎◌, ◌∷◌, ◌*◌}
+use Rattle.lists.specs.Kit.{refl, sym, ◌∙◌, ap, subst, inl, inr, ∥∥₁_prop, ∥∥₁_elim, ∥∥₁_map, Bool, List, [], map, some, ℕ, arith, length}
+use mir.{Mem.{Cell}, Syntax.{w8, w16}, Val.{Val, Vals, vunit, vbool, vint, vfloat, vptr, vcode, vstruct, vnil, vcons}}
 use prog.{Memory.{Memory}, Routine.{Routine}}
 use Rattle.machine.{specs.Cells.{Place, Lent, place, entries, Inputs, Span, Stands, Apart, All, GoodList, Ready, Ran, Runs, span, cells_of, cell_at}}
 use Rattle.machine.{specs.Cells.{writes, outcome_of}, proofs.Chain.{list_one, cells_count, carried, first_entries}, proofs.Again.{stands_still}}
@@ -368,6 +369,7 @@ number_in vunit = 0
 number_in (vbool b) = 0
 number_in (vfloat f x) = 0
 number_in (vptr b o) = 0
+number_in (vcode t) = 0
 number_in (vstruct vs) = 0
 
 first_in : Vals → ℕ
@@ -380,6 +382,7 @@ number_of vunit = 0
 number_of (vbool b) = 0
 number_of (vfloat f x) = 0
 number_of (vptr b o) = 0
+number_of (vcode t) = 0
 number_of (vstruct vs) = first_in vs
 
 number_shown : (x : Known) (h : Answer) → number_of (shown x h) ≡ h.number

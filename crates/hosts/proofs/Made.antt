@@ -1,11 +1,12 @@
 -- Hosts exist: `HostsExist` of specs/Made.antt. Before each call the host allocates a block for each list beside the tables.
-use Rattle.lists.specs.Kit.{◌≡◌, refl, sym, ◌∙◌, ap, subst, ∥∥₁_prop, ∥∥₁_elim, ∥∥₁_map, List, [], ◌∷◌, ◌++◌, some, ℕ, ◌+◌, ◌*◌, ◌<◌, ◌≤◌, arith, length, T}
-use mir.{Mem.{Cell}, Syntax.{Ty, w8, w16, w32}}
+use Rattle.std.specs.Prelude.{◌≡◌, ◌∷◌, ◌++◌, ◌+◌, ◌*◌, ◌<◌, ◌≤◌}
+use Rattle.lists.specs.Kit.{refl, sym, ◌∙◌, ap, subst, ∥∥₁_prop, ∥∥₁_elim, ∥∥₁_map, List, [], some, ℕ, arith, length, T}
+use mir.{Mem.{Cell}, Syntax.{Ty, Width, w8, w16, w32}, Val.{bytes as size}}
 use prog.{Memory.{Memory, Block, entry_at, align, aligned}, Routine.{Routine}}
-use Rattle.machine.{specs.Cells.{Form, Mode, Param, by_value, lent, to_read, to_write, Place, Inputs, Span, Has, Apart, All, Aligned, Sized, GoodList, Ready}}
+use Rattle.machine.{specs.Cells.{Form, Mode, Param, by_value, lent, to_read, to_write, Place, Inputs, Span, Stands, Open, Has, Apart, All, Aligned, Sized, GoodList, Ready}}
 use Rattle.machine.{specs.Cells.{Runs, BlockKept, outcome_of, unsigned, signed, span, cells_of, cell_at, reads, writes}, specs.Made.{Fitting, blocks, placed}}
 use Rattle.machine.{proofs.Left.{aligned_still}, proofs.Made.{From, Above, reads_stand, writes_stand, good, reads_above, writes_above, reads_apart}}
-use Rattle.machine.{proofs.Made.{writes_apart}, proofs.Chain.{cells_count, run_cell, cell_kept, cell_below, from_end, begun_kept, apart_beyond, apart_before}}
+use Rattle.machine.{proofs.Made.{writes_apart, writes_open}, proofs.Chain.{cells_count, run_cell, cell_kept, cell_below, from_end, begun_kept, open_more, open_still, apart_beyond, apart_before}}
 use Rattle.mesh.specs.Tables.{Tables}
 use Rattle.calls.specs.{Questions.{Lengths, lengths_of}, Book.{Call}, Runs.{done}}
 use Rattle.hosts.specs.{Public.{Known, clear, image_read, link, commit, link_batch, hear, mark_set, mark_remove, mark_return, Public, of_book, call}}
@@ -32,6 +33,14 @@ aligned_more σ μ τ p (x ∷ xs) h = begun_kept σ μ (align τ) p h
 good_more : (σ μ : Memory) (F : Form) (p : Place) (xs : List F.Value) → GoodList σ F p xs → GoodList (σ ++ μ) F p xs
 good_more σ μ F p xs g = (g.0, aligned_more σ μ F.ty p xs g.1, g.2)
 
+-- as many entries there may be written after a call
+pub still_open : (σ τ : Memory) → BlockKept σ τ → (w : Width) (p : Place) (xs ys : List ℕ) → length ys ≡ length xs → Stands σ (span (unsigned w) p xs) →
+    Open σ (span (unsigned w) p xs) → Open τ (span (unsigned w) p ys)
+still_open σ τ kept w p xs ys l h m =
+    let e : length (cells_of (unsigned w) xs) ≡ length (cells_of (unsigned w) ys) =
+    cells_count w xs ∙ ap (λ (k : ℕ). size w * k) (sym l) ∙ sym (cells_count w ys) in
+    open_still σ τ kept p.0 p.1 (cells_of (unsigned w) xs) (cells_of (unsigned w) ys) e h m
+
 -- a value more
 pub with_value : (F : Form) (x : F.Value) → F.Holds x → {σ : Memory} {ps : List Param} {i : Inputs ps} → Ready σ ps i → Ready σ (by_value F ∷ ps) (x, i)
 with_value F x h r = record {
@@ -39,6 +48,7 @@ with_value F x h r = record {
   writes_stand = r.writes_stand;
   reads_apart = r.reads_apart;
   writes_apart = r.writes_apart;
+  writes_open = r.writes_open;
   good = (h, r.good);
 }
 
@@ -113,12 +123,22 @@ module _ (s : Site) (σ : Memory) (t : Tables) (long : lengths_of t ≡ s.length
   order_good : (μ : Memory) → GoodList (σ ++ μ) words s.order t.order
   order_good μ = good_more σ μ words s.order t.order free.good.1.1.0
 
+  open_tables : (μ : Memory) → All (Open (σ ++ μ)) (L ∷ N ∷ O ∷ [])
+  open_tables μ = (
+    open_more σ μ s.links.0 s.links.1 (cells_of bytes t.links) lie.links free.writes_open.0,
+    (
+      open_more σ μ s.numbers.0 s.numbers.1 (cells_of bytes t.numbers) lie.numbers free.writes_open.1.0,
+      (open_more σ μ s.order.0 s.order.1 (cells_of words t.order) lie.order free.writes_open.1.1.0, tt),
+    ),
+  )
+
   free_more : (μ : Memory) → Free s (σ ++ μ) t
   free_more μ = record {
     reads_stand = tt;
     writes_stand = ((lie_more μ).links, ((lie_more μ).numbers, ((lie_more μ).order, tt)));
     reads_apart = tt;
     writes_apart = free.writes_apart;
+    writes_open = open_tables μ;
     good = (links_good μ, (numbers_good μ, (order_good μ, tt)));
   }
 
@@ -145,6 +165,7 @@ module _ (s : Site) (σ : Memory) (t : Tables) (long : lengths_of t ≡ s.length
       writes_stand = writes_stand more (length σ) ps g end;
       reads_apart = reads_apart (length σ) ps g;
       writes_apart = writes_apart (length σ) ps g;
+      writes_open = writes_open more (length σ) ps g end;
       good = good more (length σ) ps g f end;
     }
 
@@ -176,6 +197,10 @@ module _ (s : Site) (σ : Memory) (t : Tables) (long : lengths_of t ≡ s.length
           (apart_beyond σ O lie.order WS (writes_above (length σ) ps g), writes_apart (length σ) ps g),
         ),
       );
+      writes_open = (
+        (open_tables (blocks ps g)).0,
+        ((open_tables (blocks ps g)).1.0, ((open_tables (blocks ps g)).1.1.0, writes_open more (length σ) ps g end)),
+      );
       good = (links_good (blocks ps g), (numbers_good (blocks ps g), (order_good (blocks ps g), good more (length σ) ps g f end)));
     }
 
@@ -191,6 +216,7 @@ module _ (s : Site) (σ : Memory) (t : Tables) (long : lengths_of t ≡ s.length
         ),
       );
       writes_apart = writes_apart (length σ) ps g;
+      writes_open = writes_open more (length σ) ps g end;
       good = (links_good (blocks ps g), (numbers_good (blocks ps g), (order_good (blocks ps g), good more (length σ) ps g f end)));
     }
 
@@ -318,6 +344,13 @@ free_still s σ τ t u long kept free lie =
           (apart_same (A t) (C t) (A u) (C u) refl refl la refl refl lc free.writes_apart.0.1.0, tt),
         ),
         ((apart_same (B t) (C t) (B u) (C u) refl refl lb refl refl lc free.writes_apart.1.0.0, tt), (tt, tt)),
+      );
+      writes_open = (
+        open_still σ τ kept s.links.0 s.links.1 (A t).2 (A u).2 la free.writes_stand.0 free.writes_open.0,
+        (
+          open_still σ τ kept s.numbers.0 s.numbers.1 (B t).2 (B u).2 lb free.writes_stand.1.0 free.writes_open.1.0,
+          (open_still σ τ kept s.order.0 s.order.1 (C t).2 (C u).2 lc free.writes_stand.1.1.0 free.writes_open.1.1.0, tt),
+        ),
       );
       good = (
         (lie.links_held, aligned_still σ τ kept bytes.ty s.links t.links u.links a g.0.1, subst (Sized bytes.ty) (sym a) g.0.2),

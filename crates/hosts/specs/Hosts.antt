@@ -18,9 +18,10 @@
 --   HostsDemand      every host's list of calls from such a call on ends so
 --   StandingDemand   and every one from a memory in which tables stand that such a call left
 -- Definitions only.
-use Rattle.lists.specs.Kit.{◌≡◌, List, [], ◌∷◌, map, ℕ, ◌+◌, ◌*◌, ◌<◌, ◌≤◌, length}
+use Rattle.std.specs.Prelude.{◌≡◌, ◌∷◌, ◌+◌, ◌*◌, ◌<◌, ◌≤◌}
+use Rattle.lists.specs.Kit.{List, [], map, ℕ, length}
 use mir.Val.{Val}
-use prog.{Memory.{Memory}, Machine.{done as returned}, Routine.{Routine}}
+use prog.{Memory.{Memory}, Machine.{done as returned}, Routine.{Routine, step}}
 use Rattle.machine.specs.Cells.{Place, Lent, place, entries, Inputs, of_inputs, OfInputs, Span, Stands, Has, All, span, cell_at, Ready, passed}
 use Rattle.machine.specs.Cells.{writes, to_write}
 use Rattle.mesh.specs.{Graph.{Link, graph}, Tables.{Tables}, Image.{image_links}}
@@ -182,7 +183,7 @@ module _ (ρ : Public → Routine) where
   pub record Made (s : Site) (k : Step) : Type 0 where
     pub ready : Ready k.before (call (made k.turn)).params k.inputs
     pub returns :
-        (ρ (made k.turn)).step k.steps (passed (call (made k.turn)).params k.inputs) k.before
+        step (ρ (made k.turn)) k.steps (passed (call (made k.turn)).params k.inputs) k.before
         ≡ returned (k.returned, k.after)
     pub placed : Placed s k.turn k.inputs
 

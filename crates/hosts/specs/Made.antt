@@ -4,7 +4,8 @@
 --   AHost            a host whose calls the book takes for these
 --   HostsExist       the statement
 -- Definitions only.
-use Rattle.lists.specs.Kit.{◌≡◌, List, [], map}
+use Rattle.std.specs.Prelude.{◌≡◌}
+use Rattle.lists.specs.Kit.{List, [], map}
 use prog.{Memory.{Memory}, Routine.{Routine}}
 use Rattle.machine.specs.{Cells.{Inputs, Ready, All, to_write}, Made.{Fitting}}
 use Rattle.mesh.specs.Tables.{Tables}

@@ -2,16 +2,17 @@
 -- holds the image. Of each its parameters, its result as a machine value, and its outcome.
 --   Known             the calls that document 01's book knows
 --   Public            all calls
---   site-params       so many numbers, then links, numbers and order lent in one way, then what else is lent
---   the-tables        links, numbers and order, as they are lent
---   with-tables .. with-list   an outcome as its reply and what is lent to be written
---   on-tables         a function of numbers, tables and what else is lent, as one of what is passed
+--   site_params       so many numbers, then links, numbers and order lent in one way, then what else is lent
+--   the_tables        links, numbers and order, as they are lent
+--   with_tables .. with_list   an outcome as its reply and what is lent to be written
+--   on_tables         a function of numbers, tables and what else is lent, as one of what is passed
 --   ..-value          a result as the machine holds it
---   a-reader          a reader as it is passed, and as it is given back: the image, lent to be read, and the number of the next block
+--   a_reader          a reader as it is passed, and as it is given back: the image, lent to be read, and the number of the next block
 --   step_value        what a step of the reader gives, of an image at that place: the part of the image that its form for C tells of, and the numbers
 --   call              the call
 -- Definitions only.
-use Rattle.lists.specs.Kit.{Bool, List, [], ◌∷◌, ℕ, zero, suc, ◌+◌, ◌<◌, ◌^◌}
+use Rattle.std.specs.Prelude.{◌∷◌, ◌+◌, ◌<◌, ◌^◌}
+use Rattle.lists.specs.Kit.{Bool, List, [], ℕ, zero, suc}
 use mir.{Syntax.{w8, w16, w32, w64, ty_int, ty_struct, tcons, tnil}, Val.{Val, vint, vstruct, vcons, vnil, of_list, of_z}}
 use Rattle.machine.specs.Cells.{Form, unsigned, signed, Mode, to_read, to_write, Param, by_value, lent, lent_with, Place, Lent, place, entries, Outputs}
 use Rattle.machine.specs.Cells.{OfInputs, pointer, passes, Call}
@@ -147,7 +148,7 @@ with_both o = (o.reply, (o.tables.links, (o.tables.numbers, (o.tables.order, (o.
 abbrev pub with_list : {R : Type 0} → Listing R (List ℕ) → R × (List ℕ × Unit {0})
 with_list o = (o.reply, (o.lent, tt))
 
--- document 01, with the calls of W201, W203, W205, W206, W209, W210, W211, W212 and W213
+-- document 01, with the calls of W-201, W-203, W-205, W-206, W-209, W-210, W-211, W-212 and W-213
 abbrev pub call : Public → Call
 call (of_book clear) = site_call 1 to_write [] number_value (λ n t. with_tables (clear_outcome n t))
 call (of_book image_read) = site_call 1 to_write (lent to_read bytes ∷ []) number_value (λ n t image. with_tables (read_outcome n (entries image) t))

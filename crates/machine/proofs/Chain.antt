@@ -7,7 +7,7 @@ use lib.{ListN.{length, take, drop, get_elem?, length-append}, Dec.{T}}
 use mir.{Mem.{Cell}, Syntax.{Width}, Val.{bytes}}
 use prog.Memory.{Memory, Block, entry_at, bind, aligned, le, un_le}
 use store.Enc.{length-le, un_le-le, two_256}
-use Rattle.machine.specs.Cells.{Place, Span, unsigned, cell_at, cells_of, RunAt, Stands, Apart, All}
+use Rattle.machine.specs.Cells.{Place, Span, unsigned, cell_at, cells_of, RunAt, Stands, MayWrite, BlockKept, Apart, All}
 use Rattle.machine.proofs.Made.{From, shift, from_all, Above}
 
 -- ---- parts of what stands
@@ -140,6 +140,30 @@ from_end (x ∷ σ) μ = shift x (σ ++ μ) (length σ) μ (from_end σ μ)
 pub begun_kept : (σ μ : Memory) (a : ℕ) (p : Place) → (e : Block) × (entry_at σ p.0 ≡ some e) × T (aligned a e.0 p.1) →
     (e : Block) × (entry_at (σ ++ μ) p.0 ≡ some e) × T (aligned a e.0 p.1)
 begun_kept σ μ a p h = (h.0, entry_kept σ μ p.0 h.0 h.1, h.2)
+
+-- ---- what may be written
+
+has_one : (cs : List Cell) (i : ℕ) (c : Cell) → get_elem? cs i ≡ some c → 0 < length cs
+has_one [] i c h = absurd (none_some h)
+has_one (d ∷ cs) i c h = omega arith
+
+-- still may in a memory of more blocks
+pub open_more : (σ μ : Memory) (b o : ℕ) (cs : List Cell) → RunAt σ b o cs → MayWrite σ b cs → MayWrite (σ ++ μ) b cs
+open_more σ μ b o [] h w = tt
+open_more σ μ b o (c ∷ cs) h w = λ e q.
+    let x = cell_entry (entry_at σ b) o c h.0 in
+    subst (λ (y : Block). T y.2) (some_one (sym (entry_kept σ μ b x.0 x.1) ∙ q)) (w x.0 x.1)
+
+-- and so may as many cells there after a call
+pub open_still : (σ τ : Memory) → BlockKept σ τ → (b o : ℕ) (cs ds : List Cell) → length cs ≡ length ds → RunAt σ b o cs → MayWrite σ b cs
+    → MayWrite τ b ds
+open_still σ τ k b o cs [] l h w = tt
+open_still σ τ k b o [] (d ∷ ds) l h w = absurd (suc-ne-zero (length ds) (sym l))
+open_still σ τ k b o (c ∷ cs) (d ∷ ds) l h w = λ e q.
+    let x = cell_entry (entry_at σ b) o c h.0 in
+    let y = k b x.0 x.1 in
+    let n : 0 < length x.0.1 = has_one x.0.1 o c (ap (λ (X : Option Block). bind X (λ z. get_elem? z.1 o)) (sym x.1) ∙ h.0) in
+    subst (λ (z : Block). T z.2) (some_one (sym y.1 ∙ q)) (y.4 n (w x.0 x.1))
 
 -- what stands in a memory has no cell in common with blocks beyond it
 pub apart_beyond : (σ : Memory) (s : Span) → Stands σ s → (ws : List Span) → Above (length σ) ws → All (Apart s) ws

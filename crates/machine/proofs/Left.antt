@@ -1,12 +1,12 @@
 -- What a call leaves of what it was lent: as many entries as there were, each one that its type holds. A run says so by what would be passed
 -- again and by what is good after it (`passed`, `AllGood`); here it is said list by list.
 --   SameLengths, LeftHeld    list by list
---   lengths-left, good_left    from there to what a run says;   left-lengths, left-held: and back
+--   lengths_left, good_left    from there to what a run says;   left_lengths, left_held: and back
 use mathlib.Core.{Path.{◌≡◌, refl, sym, ap, subst}, List.{List, [], ◌∷◌}}
 use Prim.Native.Nat.{ℕ}
 use native.Mathlib.Nat.{suc-ne-zero}
 use lib.{ListN.{length}, Dec.{T}}
-use mir.{Syntax.{Ty}, Val.{Val, Vals, vunit, vbool, vint, vfloat, vptr, vstruct, vnil, vcons}}
+use mir.{Syntax.{Ty}, Val.{Val, Vals, vunit, vbool, vint, vfloat, vptr, vcode, vstruct, vnil, vcons}}
 use prog.{Memory.{Memory, align, aligned}, Routine.{Routine}}
 use Rattle.machine.specs.Cells.{Param, by_value, lent, lent_with, to_read, to_write, Place, Inputs, Outputs, left, pointer, passes, passed, All}
 use Rattle.machine.specs.Cells.{Aligned, Sized, AllGood, BlockKept, Call, Ran, outcome_of}
@@ -41,6 +41,7 @@ number_in vunit = 0
 number_in (vbool b) = 0
 number_in (vfloat f x) = 0
 number_in (vptr b o) = 0
+number_in (vcode t) = 0
 number_in (vstruct vs) = 0
 
 second_in : Vals → ℕ
@@ -55,6 +56,7 @@ count_in vunit = 0
 count_in (vbool b) = 0
 count_in (vfloat f x) = 0
 count_in (vptr b o) = 0
+count_in (vcode t) = 0
 count_in (vstruct vs) = second_in vs
 
 first_count : List Val → ℕ

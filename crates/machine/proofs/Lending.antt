@@ -1,20 +1,18 @@
 -- The parameters of a call, by recursion over them: lifetimes are made, each list is lent, and once the lifetimes are over each comes back.
-use denote.Slice.{shr_slice_vals}
-use denote.Ref.{Bor}
 use mathlib.Core.{Path.{◌≡◌, refl, sym, ap, subst}, List.{List, [], ◌∷◌}}
 use Prim.Native.Nat.{ℕ, zero, suc, ◌*◌, ◌<◌, ◌^◌}
 use lib.ListN.{length}
-use seplogic.Ra.TreeShare.{full_share}
+use base.Fraction.{full_share}
 use mir.{Syntax.{named}, Val.{vstruct, vcons, vnil}}
-use base.{Fml.{Lft, GName, Share, Fml, fsep, feq, flft, fdead, flent}, Logic.{SProp, ent, sep, emp, ex, via, ex_i, ex_e, emp∗, id⊢, mono_l, fst∗, snd∗}}
+use base.{Fml.{Lft, GName, Share, Fml, fsep, fhide, feq, flft, fdead, flent, fbor}, Logic.{SProp, ent, sep, emp, ex, via, ex_i, ex_e, emp∗, id⊢, mono_l, fst∗, snd∗}}
 use contract.{Monad.{fact}, Lifetimes.{Lfts, Shares, Within, lft_at, toks}}
 use prog.Memory.{Memory}
 use store.{View.{Kept}, Cells.{cells}}
 use types.{Kit.{‵, raw, ◌⊛◌, some, later, ◌$◌, ◌∵◌, !, qed, by, move, keep, use0, use1, use2, use3, split, join, pick, show, await, updating, now as at_once}}
-use types.{Kit.{fsplit, fjoin, feq_i, frame, done}, Tokens.{lft_new, lft_end}, Share.{parts, arr_parts}}
+use types.{Kit.{fsplit, fjoin, frame, drop, done}, Tokens.{lft_new, lft_end}, Share.{parts}}
 use denote.{RattleType.{RattleType, Denots, Valss, owns, flat}, Signature.{Slot, plain, mut_slice_of, shr_slice_of, named_lft, types_at}, Exit.{yes, Last, left}}
-use denote.{Memory.{mem, shares}, Ref.{RefT, NamedLft, ptr, name, now}, Slice.{slice_val, slice-vals, ShrSlice, Room, finally}, Lend.{Held, lends_slice}}
-use denote.{Lend.{slice_back, lends_shr_slice}, Triple.End.{all, Fins, Outs, outs, lasts_of}}
+use denote.{Memory.{mem, shares}, Bor.{Bor}, Ref.{NamedLft}, Slice.{slice_val, shr_slice_vals, shr_slice_at, elements_shared, ShrSlice, Room, finally}}
+use denote.{Lend.{Held, lends_slice, slice_back}, Copied.{each_lends}, Shadow.{pure_i}, Triple.End.{all, Fins, Outs, outs, lasts_of}}
 use Rattle.machine.specs.Cells.{Param, Input, Inputs, Outputs, Good, AllGood, Aligned, Sized, reads, writes, cells_of, passes, passed, Span}
 use Rattle.machine.specs.Cells.{span, Stands, All, Apart}
 use Rattle.machine.proofs.{Whole.{𝓥}, Heap.{shared, lie}, Rows.{Row, form, A₀, W₀, ⟦◌⟧, nothing, row_parts, row_cells, row_share, lent_cells}}
@@ -33,7 +31,7 @@ pub record Holder (R S : Row) : Type 2 where
   pub parts_made : (a : NamedLft) (r : Bor (List R.row.Denot)) (x : S.row.Denot) → parts a (make a r x) ≡ (r, x)
   pub made_owns : (a : NamedLft) (r : Bor (List R.row.Denot)) (x : S.row.Denot)
       → ent 𝓥 (sep 𝓥 ⟦ (ShrSlice a.mir a.lft R.row).own_val r (shr_slice_vals r) ⟧ ⟦ S.row.own_val x (S.machine x ∷ []) ⟧)
-      ⟦ (row a).own (make a r x) (vstruct (vcons (slice_val (ptr r) (length (now r))) (vcons (S.machine x) vnil)) ∷ []) ⟧
+      ⟦ (row a).own_val (make a r x) (vstruct (vcons (slice_val r.ref_ptr (length r.now)) (vcons (S.machine x) vnil)) ∷ []) ⟧
 
 pub data Lending (n : ℕ) : Type 2 where
   by_value : Row → Lending n
@@ -76,7 +74,7 @@ fulls zero = tt
 fulls (suc n) = (full_share, fulls n)
 
 abbrev pub alive : (n : ℕ) → Nums n → SProp 𝓥
-alive n αs = toks 𝓥 A₀ n (made n αs) (fulls n)
+alive n αs = toks W₀ n (made n αs) (fulls n)
 
 abbrev pub over : (n : ℕ) → Nums n → SProp 𝓥
 over zero αs = emp 𝓥
@@ -110,7 +108,7 @@ module _ {n : ℕ} (κs : Lfts n) where
   abbrev pub arg : (p : Lending n) → Input (param p) → GName → ((slot p).row κs).Denot
   arg (by_value R) x γ = x
   arg (to_read j ok R) x γ = record { ref_ptr = x.0; now = x.1 }
-  arg (to_write j ok R) x γ = record { ref_ptr = x.0; now = x.1 }
+  arg (to_write j ok R) x γ = record { ref_ptr = x.0; ghost_name = γ; now = x.1 }
   arg (to_read_with j ok R S T) x γ = T.make (named_lft n j ok κs) (record { ref_ptr = x.0.0; now = x.0.1 }) x.1
 
   -- what the caller keeps while a list is lent to be written; of one that is lent to be read it has a share anyway
@@ -130,42 +128,43 @@ room_of : (R : Row) (k : ℕ) → Sized R.ty k → Room R.row k
 room_of R k h = (h.0, subst (λ (s : ℕ). k * s < 2 ^ 63) (sym R.size_is) h.1)
 
 -- a list that is lent to be read
-abbrev Read : (j : ℕ) → Lft → (R : Row) → machine.Lent R.row.Denot → GName → Fml
-Read j κ R x γ = (ShrSlice (named j) κ R.row).own_val (record { ref_ptr = x.0; now = x.1 }) (slice_val x.0 (length x.1) ∷ [])
+abbrev Read : (j : ℕ) → Lft → (R : Row) → machine.Lent R.row.Denot → Fml
+Read j κ R x = (ShrSlice (named j) κ R.row).own_val (record { ref_ptr = x.0; now = x.1 }) (slice_val x.0 (length x.1) ∷ [])
 
 lend_read : (j : ℕ) (κ : Lft) (R : Row) (x : machine.Lent R.row.Denot) → Sized R.ty (length x.1)
-    → ent 𝓥 (row_share R x.1 x.0) ((Closed.H).⇛ (ex 𝓥 (λ (γ : GName). ⟦ Read j κ R x γ ⟧)))
+    → ent 𝓥 (row_share R x.1 x.0) ((Closed.H).⇛ ⟦ Read j κ R x ⟧)
 lend_read j κ R x sized = ex_e 𝓥 (λ (q : Share). row_parts R q x.1 x.0.0 x.0.1) (λ q.
-    let L : SProp 𝓥 = A₀.lent κ ((arr_parts (shares R.row) (length x.1)).part q x.1 x.0.0 x.0.1) in
-    qed W₀ (‵ (parts (mem R.row) (shares R.row) q x.1 x.0.0 x.0.1) ∷ []) ∵ updating ! $
-    feq_i ! ℕ (length x.1) (length x.1) refl $ fjoin ! $ use1 W₀ (later (some (λ (γ : GName). ‵ (Read j κ R x γ) ⊛ raw L)))
-    (lends_shr_slice 𝓥 Closed.H A₀ W₀ R.row (named j) κ q x.1 x.0.0 x.0.1 (room_of R (length x.1) sized)) $
-    await ! tt $ pick ! (λ γ. split ! $ at_once ! $ show ! (λ (γ' : GName). ⟦ Read j κ R x γ' ⟧) γ $ keep ! (0 ∷ []) $ done !))
+    let P : Fml = parts (mem R.row) (shares R.row) q x.1 x.0.0 x.0.1 in
+    let E : Fml = elements_shared R.row x.1 x.0.0 x.0.1 κ in
+    let r : Bor (List R.row.Denot) = record { ref_ptr = x.0; now = x.1 } in
+    qed W₀ (‵ P ∷ []) ∵ updating ! $
+    use1 W₀ (later (‵ (fhide E) ⊛ ‵ (flent κ P))) (each_lends W₀ R.row R.copied q x.1 x.0.0 x.0.1 κ) $
+    await ! tt $ split ! $ at_once ! $ keep ! (0 ∷ []) $
+    pure_i ! (shr_slice_at R.row r (slice_val x.0 (length x.1) ∷ [])) (tt, (tt, tt)) (refl, room_of R (length x.1) sized) $ fjoin ! $ done !)
 
 module _ {n : ℕ} (κs : Lfts n) where
   abbrev Owned : (p : Lending n) (x : Input (param p)) → GName → SProp 𝓥
-  Owned p x γ = sep 𝓥 ⟦ ((slot p).row κs).own (arg κs p x γ) (passes (param p) x ∷ []) ⟧ (aside κs p x γ)
+  Owned p x γ = sep 𝓥 ⟦ ((slot p).row κs).own_val (arg κs p x γ) (passes (param p) x ∷ []) ⟧ (aside κs p x γ)
 
   lend_one : (σ : Memory) (p : Lending n) (x : Input (param p)) → Good σ (param p) x → ent 𝓥 (lent p x) ((Closed.H).⇛ (ex 𝓥 (Owned p x)))
   lend_one σ (by_value R) x g = qed W₀ (raw (emp 𝓥) ∷ []) ∵ updating ! $ use0 W₀ (‵ (R.row.own_val x (R.machine x ∷ []))) (R.makes x g) $ at_once ! $ show !
       (Owned (by_value R) x) 0 $ done !
-  lend_one σ (to_write j ok R) x g = lends_slice 𝓥 Closed.H A₀ W₀ R.row (named j) (lft_at n j ok κs) x.1 x.0.0 x.0.1
-      (room_of R (length x.1) g.2)
+  lend_one σ (to_write j ok R) x g = lends_slice W₀ R.row (named j) (lft_at n j ok κs) x.1 x.0.0 x.0.1 (room_of R (length x.1) g.2)
   lend_one σ (to_read j ok R) x g =
       qed W₀ (raw (row_share R x.1 x.0) ∷ []) ∵ updating ! $
-      use1 W₀ (later (some (λ (γ : GName). ‵ (Read j (lft_at n j ok κs) R x γ)))) (lend_read j (lft_at n j ok κs) R x g.2) $
-      await ! tt $ pick ! (λ γ. at_once ! $
-      show ! (Owned (to_read j ok R) x) γ $ frame ! $ by ! (id⊢ 𝓥 (emp 𝓥)))
+      use1 W₀ (later (‵ (Read j (lft_at n j ok κs) R x))) (lend_read j (lft_at n j ok κs) R x g.2) $
+      await ! tt $ at_once ! $
+      show ! (Owned (to_read j ok R) x) 0 $ frame ! $ by ! (id⊢ 𝓥 (emp 𝓥))
   lend_one σ (to_read_with j ok R S T) x g =
-      let r : GName → Bor (List R.row.Denot) = λ γ. record { ref_ptr = x.0.0; now = x.0.1 } in
+      let r : Bor (List R.row.Denot) = record { ref_ptr = x.0.0; now = x.0.1 } in
       let a : NamedLft = named_lft n j ok κs in
       let p : Lending n = to_read_with j ok R S T in
       qed W₀ (raw (row_share R x.0.1 x.0.0) ∷ []) ∵ updating ! $
-      use1 W₀ (later (some (λ (γ : GName). ‵ (Read j (lft_at n j ok κs) R x.0 γ)))) (lend_read j (lft_at n j ok κs) R x.0 g.0.2) $
-      await ! tt $ pick ! (λ γ. at_once ! $
-      show ! (Owned p x) γ $ use0 W₀ (‵ (S.row.own_val x.1 (S.machine x.1 ∷ []))) (S.makes x.1 g.1) $ move ! (1 ∷ 0 ∷ []) $
-      use2 W₀ (‵ ((T.row a).own (T.make a (r γ) x.1) (passes (param p) x ∷ []))) (T.made_owns a (r γ) x.1) $
-      frame ! $ by ! (id⊢ 𝓥 (emp 𝓥)))
+      use1 W₀ (later (‵ (Read j (lft_at n j ok κs) R x.0))) (lend_read j (lft_at n j ok κs) R x.0 g.0.2) $
+      await ! tt $ at_once ! $
+      show ! (Owned p x) 0 $ use0 W₀ (‵ (S.row.own_val x.1 (S.machine x.1 ∷ []))) (S.makes x.1 g.1) $ move ! (1 ∷ 0 ∷ []) $
+      use2 W₀ (‵ ((T.row a).own_val (T.make a r x.1) (passes (param p) x ∷ []))) (T.made_owns a r x.1) $
+      frame ! $ by ! (id⊢ 𝓥 (emp 𝓥))
 
   -- ---- and back
 
@@ -180,22 +179,28 @@ module _ (n : ℕ) (αs : Nums n) where
   abbrev κs : Lfts n
   κs = made n αs
 
+  -- what a list that was lent to be written leaves at exit: its last entries, as many as there were, and its borrow
+  abbrev Leaves : (j : ℕ) (ok : Within n j) (R : Row) (x : machine.Lent R.row.Denot) → GName → List R.row.Denot → Fml
+  Leaves j ok R x γ w = fsep (fsep (finally R.row γ w) (feq ℕ (length w) (length x.1)))
+      (fbor (lft_at n j ok κs) (Held R.row (length x.1) x.0.0 x.0.1 γ))
+
   back_one : (j : ℕ) (ok : Within n j) (R : Row) (x : machine.Lent R.row.Denot) (γ : GName) (w : List R.row.Denot)
-      → ent 𝓥 (sep 𝓥 ⟦ fsep (finally R.row γ w) (feq ℕ (length w) (length x.1)) ⟧
+      → ent 𝓥 (sep 𝓥 ⟦ Leaves j ok R x γ w ⟧
       (sep 𝓥 (A₀.lent (lft_at n j ok κs) (Held R.row (length x.1) x.0.0 x.0.1 γ)) (over n αs))) ((Closed.H).⇛ (stood R x w))
   back_one j ok R x γ w =
-      qed W₀ (‵ (fsep (finally R.row γ w) (feq ℕ (length w) (length x.1))) ∷ ‵
+      qed W₀ (‵ (Leaves j ok R x γ w) ∷ ‵
       (flent (lft_at n j ok κs) (Held R.row (length x.1) x.0.0 x.0.1 γ)) ∷ raw (over n αs) ∷ []) ∵ updating ! $
+      fsplit ! $ move ! (1 ∷ []) $ drop ! $
       move ! (2 ∷ []) $ use1 W₀ (‵ (fdead (lft_at n j ok κs))) (over_at n j ok αs) $ move ! (1 ∷ []) $ fsplit ! $ move ! (2 ∷ 3 ∷ 0 ∷ []) $
       use3 W₀ (later (‵ ((sem_types.Arr (mem R.row) (length x.1)).own_at w x.0.0 x.0.1)))
-      (slice_back 𝓥 Closed.H A₀ W₀ R.row (lft_at n j ok κs) γ w (length x.1) x.0.0 x.0.1) $ await ! tt $ at_once ! $
+      (slice_back W₀ R.row (lft_at n j ok κs) γ w (length x.1) x.0.0 x.0.1) $ await ! tt $ at_once ! $
       keep ! (0 ∷ []) $ done !
 
 -- ---- all parameters
 
 -- a list and a value, with no name of the logic's
 abbrev held : {X Y : Type 0} → Bor (List X) × Y → machine.Lent X × Y
-held p = ((ptr p.0, now p.0), p.1)
+held p = ((p.0.ref_ptr, p.0.now), p.1)
 
 abbrev pub Names : {n : ℕ} → List (Lending n) → Type 0
 Names [] = Unit {0}
@@ -228,15 +233,15 @@ module _ {n : ℕ} (κs : Lfts n) where
   abbrev pub inputs : (ps : List (Lending n)) → Denots (types_at (slots ps) κs) → Inputs (params ps)
   inputs [] a = tt
   inputs (by_value R ∷ ps) a = (a.0, inputs ps a.1)
-  inputs (to_read j ok R ∷ ps) a = ((ptr a.0, now a.0), inputs ps a.1)
-  inputs (to_write j ok R ∷ ps) a = ((ptr a.0, now a.0), inputs ps a.1)
+  inputs (to_read j ok R ∷ ps) a = ((a.0.ref_ptr, a.0.now), inputs ps a.1)
+  inputs (to_write j ok R ∷ ps) a = ((a.0.ref_ptr, a.0.now), inputs ps a.1)
   inputs (to_read_with j ok R S T ∷ ps) a = (held (T.parts (named_lft n j ok κs) a.0), inputs ps a.1)
 
   abbrev pub outputs : (ps : List (Lending n)) → Outs κs (slots ps) (all yes (slots ps)) → Outputs (params ps)
   outputs [] e = tt
   outputs (by_value R ∷ ps) e = outputs ps e.1
   outputs (to_read j ok R ∷ ps) e = outputs ps e.1
-  outputs (to_write j ok R ∷ ps) e = (now e.0, outputs ps e.1)
+  outputs (to_write j ok R ∷ ps) e = (e.0.now, outputs ps e.1)
   outputs (to_read_with j ok R S T ∷ ps) e = outputs ps e.1
 
   abbrev pub wrotes : (ps : List (Lending n)) (a : Denots (types_at (slots ps) κs)) → Fins κs (slots ps) (all yes (slots ps)) a → Outputs (params ps)
@@ -273,7 +278,7 @@ module _ {n : ℕ} (κs : Lfts n) where
   pub lend : (σ : Memory) (ps : List (Lending n)) (i : Inputs (params ps)) → AllGood σ (params ps) i → ent 𝓥 (lents ps i) ((Closed.H).⇛ (ex 𝓥 (Owneds ps i)))
   lend σ [] i g = qed W₀ (raw (emp 𝓥) ∷ []) ∵ updating ! $ at_once ! $ show ! (Owneds [] i) tt $ frame ! $ by ! (id⊢ 𝓥 (emp 𝓥))
   lend σ (p ∷ ps) i g = qed W₀ (raw (lent p i.0) ∷ raw (lents ps i.1) ∷ []) ∵ updating ! $
-      use1 W₀ (later (some (λ (γ : GName). ‵ (((slot p).row κs).own (arg κs p i.0 γ) (passes (param p) i.0 ∷ [])) ⊛ raw (aside κs p i.0 γ))))
+      use1 W₀ (later (some (λ (γ : GName). ‵ (((slot p).row κs).own_val (arg κs p i.0 γ) (passes (param p) i.0 ∷ [])) ⊛ raw (aside κs p i.0 γ))))
       (lend_one κs σ p i.0 g.0) $ await ! tt $ pick ! (λ γ. split ! $ move ! (2 ∷ []) $
       use1 W₀ (later (some (λ (γs : Names ps). ‵ (owns (types_at (slots ps) κs) (args ps i.1 γs) (values ps i.1)) ⊛ raw (asides ps i.1 γs))))
       (lend σ ps i.1 g.1) $ await ! tt $ pick ! (λ γs. split ! $ at_once ! $

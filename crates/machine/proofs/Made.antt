@@ -1,12 +1,12 @@
 -- A memory that is made for a call is ready for it: so the premise of `Runs` can be had, for every call and all lists that fit.
-use mathlib.Core.{Path.{◌≡◌, refl, sym, ◌∙◌, ap}, Option.{Option, some}, Bool.{Bool, true, false, ◌&&◌}, List.{List, [], ◌∷◌}}
+use mathlib.Core.{Path.{◌≡◌, refl, sym, ◌∙◌, ap, subst}, Option.{Option, some, some-injective}, Bool.{Bool, true, false, ◌&&◌}, List.{List, [], ◌∷◌}}
 use Prim.Native.Nat.{ℕ, suc, ◌≤◌}
 use native.Mathlib.Omega.{arith}
 use lib.{ListN.{get_elem?}, Dec.{T}}
 use mir.{Mem.{Cell}, Val.{Val}}
-use prog.{Memory.{Memory, Block, entry_at, bind, align, divides}, Align.{dv_self, dv_zero}, Machine.{done}, Routine.{Routine, ends-one}}
+use prog.{Memory.{Memory, Block, entry_at, bind, align, divides}, Align.{dv_self, dv_zero}, Machine.{done}, Routine.{Routine, step, ends-one}}
 use store.Seg.{seg-nth}
-use Rattle.machine.specs.{Cells.{Form, Param, by_value, lent, lent_with, to_read, to_write, Inputs, Span, Stands, Apart, All, AllApart, AllGood}}
+use Rattle.machine.specs.{Cells.{Form, Param, by_value, lent, lent_with, to_read, to_write, Inputs, Span, Stands, MayWrite, Open, Apart, All, AllApart, AllGood}}
 use Rattle.machine.specs.{Cells.{Aligned, reads, writes, cells_of, span, Ready, Call, Ran, Runs, passed, outcome_of}, Made.{Fitting, blocks, placed}}
 use Rattle.machine.proofs.Heap.{run_out}
 
@@ -25,14 +25,14 @@ unfolding From
 from_all [] = tt
 from_all (x ∷ bs) = (refl, shift x bs 0 bs (from_all bs))
 
-stands : (σ : Memory) (k a : ℕ) (cs : List Cell) → entry_at σ k ≡ some (a, cs) → Stands σ (k, 0, cs)
+stands : (σ : Memory) (k a : ℕ) (cs : List Cell) → entry_at σ k ≡ some (a, cs, true) → Stands σ (k, 0, cs)
 stands σ k a cs h = run_out σ k 0 cs (λ i w e. ap (λ (X : Option Block). bind X (λ x. get_elem? x.1 i)) h ∙ sym (seg-nth cs i) ∙ e)
 
-begins : (σ : Memory) (F : Form) (k : ℕ) (xs : List F.Value) → entry_at σ k ≡ some (align F.ty, cells_of F xs) → Aligned σ F.ty (k, 0) xs
+begins : (σ : Memory) (F : Form) (k : ℕ) (xs : List F.Value) → entry_at σ k ≡ some (align F.ty, cells_of F xs, true) → Aligned σ F.ty (k, 0) xs
 begins σ F k [] h = tt
 begins σ F k (x ∷ xs)
     h = (
-      (align F.ty, cells_of F (x ∷ xs)),
+      (align F.ty, cells_of F (x ∷ xs), true),
       h,
       both (divides (align F.ty) (align F.ty)) (divides (align F.ty) 0) (dv_self (align F.ty))
           (dv_zero (align F.ty)),
@@ -57,6 +57,19 @@ writes_stand σ k (by_value F ∷ ps) g h = writes_stand σ k ps g.1 h
 writes_stand σ k (lent to_read F ∷ ps) g h = writes_stand σ (suc k) ps g.1 h.1
 writes_stand σ k (lent to_write F ∷ ps) g h = (stands σ k (align F.ty) (cells_of F g.0.1) h.0, writes_stand σ (suc k) ps g.1 h.1)
 writes_stand σ k (lent_with F G ∷ ps) g h = writes_stand σ (suc k) ps g.1 h.1
+
+may_write : (σ : Memory) (k a : ℕ) (cs ds : List Cell) → entry_at σ k ≡ some (a, cs, true) → MayWrite σ k ds
+may_write σ k a cs [] h = tt
+may_write σ k a cs (d ∷ ds) h = λ e q. subst (λ (z : Block). T z.2) (some-injective {A = Block} (a, cs, true) e (sym h ∙ q)) tt
+
+pub writes_open : (σ : Memory) (k : ℕ) (ps : List Param) (g : Inputs ps) → From σ k (blocks ps g) → All (Open σ) (writes ps (placed k ps g))
+unfolding From
+writes_open σ k [] g h = tt
+writes_open σ k (by_value F ∷ ps) g h = writes_open σ k ps g.1 h
+writes_open σ k (lent to_read F ∷ ps) g h = writes_open σ (suc k) ps g.1 h.1
+writes_open σ k (lent to_write F ∷ ps) g h =
+    (may_write σ k (align F.ty) (cells_of F g.0.1) (cells_of F g.0.1) h.0, writes_open σ (suc k) ps g.1 h.1)
+writes_open σ k (lent_with F G ∷ ps) g h = writes_open σ (suc k) ps g.1 h.1
 
 pub good : (σ : Memory) (k : ℕ) (ps : List Param) (g : Inputs ps) → Fitting ps g → From σ k (blocks ps g) → AllGood σ ps (placed k ps g)
 unfolding From
@@ -132,6 +145,7 @@ made_ready ps g f = record {
   writes_stand = writes_stand (blocks ps g) 0 ps g (from_all (blocks ps g));
   reads_apart = reads_apart 0 ps g;
   writes_apart = writes_apart 0 ps g;
+  writes_open = writes_open (blocks ps g) 0 ps g (from_all (blocks ps g));
   good = good (blocks ps g) 0 ps g f (from_all (blocks ps g));
 }
 
@@ -142,5 +156,5 @@ made_runs ρ C runs g f = runs (blocks C.params g) (placed 0 C.params g) (made_r
 
 -- the run is the only one: whatever the routine is done with, at any count of steps, is that value and that memory
 pub ran_one : (ρ : Routine) (C : Call) (σ : Memory) (i : Inputs C.params) (h : Ran ρ C σ i) (steps : ℕ) (end : Val × Memory)
-    → ρ.step steps (passed C.params i) σ ≡ done end → ◌≡◌ {A = Val × Memory} (C.value (outcome_of C i).0, h.memory) end
+    → step ρ steps (passed C.params i) σ ≡ done end → ◌≡◌ {A = Val × Memory} (C.value (outcome_of C i).0, h.memory) end
 ran_one ρ C σ i h steps end e = ends-one ρ (passed C.params i) σ (C.value (outcome_of C i).0, h.memory) end (h.steps, h.returns) (steps, e)

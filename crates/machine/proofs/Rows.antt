@@ -2,26 +2,29 @@
 use mathlib.Core.{Path.{◌≡◌, refl, sym, ap, subst}, Bool.{Bool, true, false, ◌&&◌}, List.{List, [], ◌∷◌, map}}
 use Prim.Native.Nat.{ℕ, ◌+◌, ◌*◌}
 use lib.{ListN.{length}, Dec.{T}}
-use seplogic.Ra.TreeShare.{full_share}
+use base.Fraction.{full_share}
 use mir.{Syntax.{Ty, ty_array}, Val.{Val, vstruct, of_list, has_ty, all_n, WT, WTs}}
 use base.{Fml.{Share, Fml, fsep, fat}, Logic.{SProp, ent, sep, emp, ex, via, ex∗, ex_i, guard_i, guard_e, id⊢, mono_l, mono_r, mono∗, assoc', fst∗, snd∗}}
-use contract.{Monad.{fact, fact_i, fact_mono}, Running.{given_of}, BorrowModel.{ghost₀}}
+use contract.{Monad.{fact, fact_i, fact_mono}, BorrowModel.{logic₀}}
 use prog.{Memory.{Memory, Block, size, align, divides}, Model.{elems}, Align.{Dv, off_Dv, Off}}
-use store.{View.{Kept}, Cells.{cells, known}, Runs.{know_n, known-know_n}, Typed.{at, heap, Good}, Instance.{heap×}, Enc.{and_l, and_r}}
-use ghost.Atoms.{Atoms, meaning}
-use contract.BorrowModel.{logic₀}
-use types.{Kit.{Given, ‵, raw, given, ◌$◌, ◌∵◌, !, qed, by, move, use0, use1, drop, learn, rewrite, fsplit, fjoin, fpick, fpack, done}, Share.{parts}}
-use denote.{RattleType.{RattleType}, Memory.{mem, shares, raw_all, lone, cell_raw, part_of, part_at}}
+use store.{View.{Kept}, Cells.{cells, known}, Runs.{know_n, known-know_n}, Typed.{at, heap, Good}, Instance.{heap×}, Enc.{and_l, and_r, enc_ok}}
+use ghost.Atoms.{Atoms}
+use types.Logic.{Logic, sem}
+use types.{Kit.{‵, raw, given, ◌$◌, ◌∵◌, !, qed, by, move, use0, use1, drop, learn, rewrite, fsplit, fjoin, fpick, fpack, done}, Share.{parts}}
+use denote.{RattleType.{RattleType}, Memory.{mem, shares, raw_all, lone, cell_raw, part_of, part_at}, Copied.{Copied}}
 use Rattle.machine.specs.Cells.{Form, cells_of, Aligned, Place, Span, Stands, All, Apart, span}
 use Rattle.machine.proofs.{Whole.{𝓥}, Heap.{shared, share_known, share_cells}}
 use ghost.Model as Closed
 use types.SemTy as sem_types
 
+abbrev pub W₀ : Logic 𝓥
+W₀ = logic₀
+
 abbrev pub A₀ : Atoms 𝓥
-A₀ = ghost₀.A
+A₀ = W₀.A
 
 abbrev pub ⟦◌⟧ : Fml → SProp 𝓥
-⟦ P ⟧ = meaning 𝓥 Closed.H A₀ P
+⟦ P ⟧ = sem W₀ P
 
 -- the logic is affine
 pub nothing : (P : SProp 𝓥) → ent 𝓥 P (emp 𝓥)
@@ -30,7 +33,8 @@ nothing P = record { apply = λ a h. tt }
 pub both_facts : (A B : Type 0) → ent 𝓥 (sep 𝓥 (fact 𝓥 A) (fact 𝓥 B)) (fact 𝓥 (A × B))
 both_facts A B = ex∗ 𝓥 (λ (_ : A). emp 𝓥) (fact 𝓥 B) (λ a. via 𝓥 (fact 𝓥 B) (snd∗ 𝓥 (emp 𝓥) (fact 𝓥 B)) (fact_mono 𝓥 B (A × B) (λ b. (a, b))))
 
--- a type of the logic, with the machine's type and value: what it owns is that its machine value is this one, and that the value is one it holds
+-- a type of the logic, with the machine's type and value: what it owns is that its machine value is this one, and that the value is one it holds;
+-- and it can be copied
 pub record Row : Type 2 where
   pub row : RattleType
   pub ty : Ty
@@ -41,6 +45,7 @@ pub record Row : Type 2 where
   pub typed : (x : row.Denot) → Holds x → T (has_ty ty (machine x)) × WT (machine x)
   pub makes : (x : row.Denot) → Holds x → ent 𝓥 (emp 𝓥) ⟦ row.own_val x (machine x ∷ []) ⟧
   pub shows : (x : row.Denot) (vs : List Val) → ent 𝓥 ⟦ row.own_val x vs ⟧ (fact 𝓥 ((vs ≡ machine x ∷ []) × Holds x))
+  pub copied : Copied W₀ row
 
 abbrev pub form : Row → Form
 form R = record { Value = R.row.Denot; ty = R.ty; machine = R.machine; Holds = R.Holds }
@@ -54,20 +59,20 @@ module _ (R : Row) (q : Share) where
   elem_in : (x : X) (b o : ℕ) → R.Holds x → ent 𝓥 ((Closed.H).at q R.ty b o (R.machine x)) ⟦ part_at R.row q x b o ⟧
   unfolding part_of
   elem_in x b o h = subst (λ (ρs : List Ty). ent 𝓥 ((Closed.H).at q R.ty b o (R.machine x)) ⟦ part_of ρs R.row.own_val q x b o ⟧) (sym R.one)
-      (qed logic₀ (‵ (fat q R.ty b o (R.machine x)) ∷ []) ∵ use0 logic₀ (‵ (R.row.own_val x (R.machine x ∷ []))) (R.makes x h) $ move ! (1 ∷ 0 ∷ []) $ fjoin ! $
+      (qed W₀ (‵ (fat q R.ty b o (R.machine x)) ∷ []) ∵ use0 W₀ (‵ (R.row.own_val x (R.machine x ∷ []))) (R.makes x h) $ move ! (1 ∷ 0 ∷ []) $ fjoin ! $
       fpack ! (List Val) (λ vs. fsep (cell_raw q (R.ty ∷ []) vs b o) (R.row.own_val x vs)) (R.machine x ∷ []) $ done !)
 
   elem_out : (x : X) (b o : ℕ) → ent 𝓥 ⟦ part_at R.row q x b o ⟧ ((Closed.H).at q R.ty b o (R.machine x))
   unfolding part_of
   elem_out x b o = subst (λ (ρs : List Ty). ent 𝓥 ⟦ part_of ρs R.row.own_val q x b o ⟧ ((Closed.H).at q R.ty b o (R.machine x))) (sym R.one)
-      (qed logic₀ (‵ (part_of (R.ty ∷ []) R.row.own_val q x b o) ∷ []) ∵ fpick ! (λ vs. fsplit ! $ move ! (1 ∷ []) $
-      use1 logic₀ (given ((vs ≡ R.machine x ∷ []) × R.Holds x) (raw (emp 𝓥))) (R.shows x vs) $ learn ! (λ e. drop ! $
+      (qed W₀ (‵ (part_of (R.ty ∷ []) R.row.own_val q x b o) ∷ []) ∵ fpick ! (λ vs. fsplit ! $ move ! (1 ∷ []) $
+      use1 W₀ (given ((vs ≡ R.machine x ∷ []) × R.Holds x) (raw (emp 𝓥))) (R.shows x vs) $ learn ! (λ e. drop ! $
       rewrite ! 0 (λ (us : List Val). ‵ (cell_raw q (R.ty ∷ []) us b o)) e.0 refl $ done !)))
 
   elem_held : (x : X) (b o : ℕ) → ent 𝓥 ⟦ part_at R.row q x b o ⟧ (fact 𝓥 (R.Holds x))
   unfolding part_of
-  elem_held x b o = qed logic₀ (‵ (part_at R.row q x b o) ∷ []) ∵ fpick ! (λ vs. fsplit ! $ move ! (1 ∷ []) $
-      use1 logic₀ (given ((vs ≡ R.machine x ∷ []) × R.Holds x) (raw (emp 𝓥))) (R.shows x vs) $ learn ! (λ e. by ! (fact_i 𝓥 (R.Holds x) _ e.1)))
+  elem_held x b o = qed W₀ (‵ (part_at R.row q x b o) ∷ []) ∵ fpick ! (λ vs. fsplit ! $ move ! (1 ∷ []) $
+      use1 W₀ (given ((vs ≡ R.machine x ∷ []) × R.Holds x) (raw (emp 𝓥))) (R.shows x vs) $ learn ! (λ e. by ! (fact_i 𝓥 (R.Holds x) _ e.1)))
 
   -- ---- a list
 
@@ -188,6 +193,12 @@ pub lent_cells : (R : Row) (A : List ℕ) (σ : Memory) → Kept A σ → (ss : 
 lent_cells R A σ kept ss xs p h al =
     via 𝓥 (sep 𝓥 (row_parts R full_share xs p.0 p.1) (shared 𝓥 Closed.ι A σ ss)) (lent_parts R full_share A σ kept ss xs p h al)
     (mono_l 𝓥 (shared 𝓥 Closed.ι A σ ss) (parts_in R xs p.0 p.1))
+
+-- as many cells as the entries take
+pub cells_long : (R : Row) (xs : List R.row.Denot) → All (form R).Holds xs → length (cells_of (form R) xs) ≡ length xs * size R.ty
+cells_long R xs h =
+    let t = array_typed R full_share xs h in
+    (enc_ok (ty_array R.ty (length xs)) (arr_val R full_share xs) t.0 t.1).0
 
 -- ---- some share
 

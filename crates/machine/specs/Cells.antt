@@ -5,26 +5,26 @@
 --   Param             a parameter: a value, a list that is lent, a struct of a list that is lent to be read and a value
 --   Inputs, Outputs   what is passed, a place and a list for each lent one; and the lists on return, for each that is lent to be written
 --   left              what was passed, with these lists in place of the ones that were lent to be written
---   OfInputs         a function of what is passed that takes the parameters one by one, by name;   of-inputs: its value
+--   OfInputs         a function of what is passed that takes the parameters one by one, by name;   of_inputs: its value
 --   passed            the machine's values for what is passed: a lent list as its pointer and its length, and these beside the value in a
 --                     struct that holds both
 --   cells_of          a list as cells, by the machine's own encoding of an array
 --   Span              cells side by side: block, offset, cells;   reads, writes: those of what is lent, to be read and to be written
 --   Ready             a memory from which a call may be made: each span stands in it; no span that is lent to be written has a cell in
---                     common with another; each list is aligned as its entries are; each entry and each number is one that its type
---                     holds; no list is longer than an address can say
+--                     common with another, and its block may be written; each list is aligned as its entries are; each entry and each
+--                     number is one that its type holds; no list is longer than an address can say
 --   Call              a call: its parameters, its results as machine values, and its outcome, worked out from what is passed;
 --                     after_call: what was passed, as it is on return
 --   Ran               after so many steps the routine is done; its value is the outcome's; each list that was lent to be written stands
 --                     with the outcome's entries, where it was and as long as it was, each entry one that its type holds; every other
---                     cell of the memory, and each block's length and alignment, is as it was
+--                     cell of the memory, and each block's length and alignment, is as it was, and what could be written still can
 --   Runs              from every memory that is ready the routine runs so
 -- Definitions only.
 use mathlib.Core.{Path.{◌≡◌}, Option.{Option, some}, List.{List, [], ◌∷◌, map}}
 use Rattle.std.specs.Prelude.{ℕ, suc, ◌+◌, ◌*◌, ◌<◌, ◌≤◌, ◌^◌}
 use lib.{ListN.{length, get_elem?}, IntN.{ℤ}, Signed.{mag}, Dec.{T}}
 use mir.{Mem.{Cell}, Syntax.{Width, w64, Ty, ty_int, ty_array}, Val.{Val, vint, vptr, vstruct, vnil, vcons, of_list, bits, hbits, of_z}}
-use prog.{Memory.{Memory, Block, entry_at, align, aligned, size, enc, bind}, Machine.{done}, Routine.{Routine}}
+use prog.{Memory.{Memory, Block, entry_at, align, aligned, size, enc, bind}, Machine.{done}, Routine.{Routine, step}}
 
 -- ---- types, as the machine holds their values
 
@@ -188,20 +188,29 @@ abbrev pub AllGood : Memory → (ps : List Param) → Inputs ps → Type 0
 AllGood σ [] i = Unit {0}
 AllGood σ (p ∷ ps) i = Good σ p i.0 × AllGood σ ps i.1
 
+-- a span that has a cell lies in a block that may be written
+abbrev pub MayWrite : Memory → ℕ → List Cell → Type 0
+MayWrite σ b [] = Unit {0}
+MayWrite σ b (c ∷ cs) = (e : Block) → entry_at σ b ≡ some e → T e.2
+
+abbrev pub Open : Memory → Span → Type 0
+Open σ s = MayWrite σ s.0 s.2
+
 pub record Ready (σ : Memory) (ps : List Param) (i : Inputs ps) : Type 0 where
   pub reads_stand : All (Stands σ) (reads ps i)
   pub writes_stand : All (Stands σ) (writes ps i)
   pub reads_apart : All (λ s. All (Apart s) (writes ps i)) (reads ps i)
   pub writes_apart : AllApart (writes ps i)
+  pub writes_open : All (Open σ) (writes ps i)
   pub good : AllGood σ ps i
 
 -- ---- after it
 
--- a block is as long and as aligned as it was
+-- a block is as long and as aligned as it was; one that has a cell and could be written still can
 abbrev pub BlockKept : Memory → Memory → Type 0
 BlockKept σ σ' =
     (b : ℕ) (e : Block) → entry_at σ b ≡ some e →
-    (e' : Block) × (entry_at σ' b ≡ some e') × (e'.0 ≡ e.0) × (length e'.1 ≡ length e.1)
+    (e' : Block) × (entry_at σ' b ≡ some e') × (e'.0 ≡ e.0) × (length e'.1 ≡ length e.1) × (0 < length e.1 → T e.2 → T e'.2)
 
 -- a cell that is none of these is as it was
 abbrev pub ElseKept : Memory → Memory → List Span → Type 0
@@ -225,7 +234,7 @@ after_call C i = left C.params i (outcome_of C i).1
 pub record Ran (ρ : Routine) (C : Call) (σ : Memory) (i : Inputs C.params) : Type 0 where
   pub steps : ℕ
   pub memory : Memory
-  pub returns : ρ.step steps (passed C.params i) σ ≡ done (C.value (outcome_of C i).0, memory)
+  pub returns : step ρ steps (passed C.params i) σ ≡ done (C.value (outcome_of C i).0, memory)
   pub lengths : passed C.params (after_call C i) ≡ passed C.params i
   pub good : AllGood memory C.params (after_call C i)
   pub stand : All (Stands memory) (writes C.params (after_call C i))

@@ -1,9 +1,10 @@
--- The machine: a memory made for a call: a block for each lent list, in the order of the parameters, and nothing else.
+-- The machine: a memory made for a call: a block that may be written for each lent list, in the order of the parameters, and
+-- nothing else.
 --   Fitting     each number, each entry and each length is one that its type holds; it goes by no place
 --   blocks      the memory
 --   placed      what is passed, each list at the start of its block; the first block is the given one
 -- Definitions only.
-use mathlib.Core.{Option.{some}, List.{List, [], ◌∷◌}}
+use mathlib.Core.{Option.{some}, List.{List, [], ◌∷◌}, Bool.{true}}
 use Rattle.std.specs.Prelude.{ℕ, suc, length}
 use prog.Memory.{Memory, align}
 use Rattle.machine.specs.Cells.{Param, by_value, lent, lent_with, Inputs, All, Sized, cells_of}
@@ -17,8 +18,8 @@ Fitting (lent_with F G ∷ ps) i = ((All F.Holds i.0.0.1 × Sized F.ty (length i
 abbrev pub blocks : (ps : List Param) → Inputs ps → Memory
 blocks [] i = []
 blocks (by_value F ∷ ps) i = blocks ps i.1
-blocks (lent m F ∷ ps) i = some (align F.ty, cells_of F i.0.1) ∷ blocks ps i.1
-blocks (lent_with F G ∷ ps) i = some (align F.ty, cells_of F i.0.0.1) ∷ blocks ps i.1
+blocks (lent m F ∷ ps) i = some (align F.ty, cells_of F i.0.1, true) ∷ blocks ps i.1
+blocks (lent_with F G ∷ ps) i = some (align F.ty, cells_of F i.0.0.1, true) ∷ blocks ps i.1
 
 abbrev pub placed : ℕ → (ps : List Param) → Inputs ps → Inputs ps
 placed k [] i = tt
