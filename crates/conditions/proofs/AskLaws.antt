@@ -1,8 +1,9 @@
 -- Questions 14 and 7, row by row.
 --   ProperBelow     the rows before row a mark neither their own radio nor one at n or above
 --   FewBelow        the radios before radio a have few enough agreed links
-use Rattle.lists.{specs.Kit.{◌≡◌, refl, sym, ap, ◌∙◌, subst, ◌⊎◌, inl, inr, Bool, true, false, ◌&&◌, not, List, [], ◌∷◌, ℕ, ◌+◌, ◌*◌, ◌-◌, ◌/◌, ◌%◌, ◌^◌}}
-use Rattle.lists.{specs.Kit.{◌≤◌, ◌<◌, arith, bit_and, count_trailing_zeros, leb, eqb, length, get_or, leb-true, leb-false, le-leb, not-true}}
+use Rattle.std.specs.Prelude.{◌≡◌, ◌⊎◌, ◌&&◌, ◌∷◌, ◌+◌, ◌*◌, ◌-◌, ◌/◌, ◌%◌, ◌^◌, ◌≤◌, ◌<◌}
+use Rattle.lists.{specs.Kit.{refl, sym, ap, ◌∙◌, subst, inl, inr, Bool, true, false, not, List, [], ℕ}}
+use Rattle.lists.{specs.Kit.{arith, bit_and, count_trailing_zeros, leb, eqb, length, get_or, leb-true, leb-false, le-leb, not-true}}
 use Rattle.lists.{specs.Lists.{range, count, filter, all, In}, proofs.Tests.{bool_cases, never, and_left, and_right, and_both}, proofs.Count.{count_mono}}
 use Rattle.lists.{proofs.Count.{count_le_length}, proofs.Range.{count_front, count_below, length_range, range_append}, proofs.Filter.{in_filter, filter_in}}
 use Rattle.lists.{proofs.All.{all_in, in_all, all_below, below_all, all_append}}

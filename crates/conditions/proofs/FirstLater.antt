@@ -1,6 +1,7 @@
 -- The later neighbours of a radio of tables with proper rows: what is counted of its row is what the order says.
 -- In order: the first of some radios by its key, the entries after a radio's place, the first of them.
-use Rattle.lists.{specs.Kit.{◌≡◌, refl, sym, ap, ◌∙◌, ◌⊎◌, inl, inr, Bool, true, false, ◌&&◌, cond, List, [], ◌∷◌, ℕ, suc, ◌+◌, ◌*◌, ◌-◌, ◌%◌, ◌≤◌, ◌<◌, min}}
+use Rattle.std.specs.Prelude.{◌≡◌, ◌⊎◌, ◌&&◌, ◌∷◌, ◌+◌, ◌*◌, ◌-◌, ◌%◌, ◌≤◌, ◌<◌}
+use Rattle.lists.{specs.Kit.{refl, sym, ap, ◌∙◌, inl, inr, Bool, true, false, cond, List, [], ℕ, suc, min}}
 use Rattle.lists.{specs.Kit.{arith, ltb, leb, length, get_or, drop, length-drop, get_or-drop, ltb-true, ltb-false, lt-ltb, leb-true, leb-false}}
 use Rattle.lists.{specs.Lists.{range, filter, head_or, In}, specs.Facts.{EachOnce, Rising}, proofs.Tests.{bool_cases, never, and_left, and_right}}
 use Rattle.lists.{proofs.Filter.{in_filter, filter_in, filter_ext, length_filter}, proofs.Range.{once_below, once_length, once_in, in_range}}
@@ -21,6 +22,7 @@ module _ (ps : List ℕ) (a : ℕ) where
   -- no later radio has a smaller key
   pub first_key_le : (xs : List ℕ) (b : ℕ) → In b xs → place a < place b → first_key ps a xs ≤ place b * 65536 + b
   unfolding first_key sooner_key
+  first_key_le [] b x'' l = elim x'' [ ]
   first_key_le (x ∷ xs) b (inl e) l = rw e (rw (lt-ltb (place a) (place b) l) (omega arith))
   first_key_le (x ∷ xs) b (inr m) l = go (first_key_le xs b m l) (bool_cases (ltb (place a) (place x)))
     where

@@ -1,5 +1,6 @@
 -- Words of a row whose set bits all are radios of a site: the ones that are not above the highest such word.
-use Rattle.lists.{specs.Kit.{◌≡◌, sym, ap, ◌∙◌, ◌⊎◌, inl, inr, Bool, true, false, cond, and-false, ◌∷◌, ℕ, zero, suc, ◌+◌, ◌*◌, ◌-◌, ◌/◌, ◌%◌, ◌^◌, ◌≤◌, ◌<◌}}
+use Rattle.std.specs.Prelude.{◌≡◌, ◌⊎◌, ◌∷◌, ◌+◌, ◌*◌, ◌-◌, ◌/◌, ◌%◌, ◌^◌, ◌≤◌, ◌<◌}
+use Rattle.lists.{specs.Kit.{sym, ap, ◌∙◌, inl, inr, Bool, true, false, cond, and-false, ℕ, zero, suc}}
 use Rattle.lists.{specs.Kit.{min, arith, one-mul, mod-eq_of_lt, pow-succ', leb, eqb, leb-true, leb-false, eqb-false}, specs.Lists.{all, In}}
 use Rattle.lists.{proofs.Tests.{bool_cases}}
 use lib.Pow.{pow_pos, pow-lt}

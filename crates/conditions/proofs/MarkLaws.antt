@@ -1,9 +1,10 @@
 -- The one-sided pairs.
---   pair-heard, pair-alone   a pair that is passed over, a pair that is marked
+--   pair_heard, pair_alone   a pair that is passed over, a pair that is marked
 --   RowMarking              some pairs of a row are marked and counted, and give with what is left what all of them give
 --   Marking                  the rows before row a are marked, and counted with what is left as the whole
-use Rattle.lists.{specs.Kit.{◌≡◌, refl, sym, ap, ◌∙◌, ◌⊎◌, inl, inr, Bool, true, false, ◌&&◌, ◌||◌, not, cond, List, [], ◌∷◌, ◌++◌, ℕ, suc, ◌+◌, ◌*◌, ◌-◌, ◌^◌}}
-use Rattle.lists.{specs.Kit.{◌≤◌, ◌<◌, arith, add-one, bit_and, count_trailing_zeros, ltb, eqb, length, get_or, replicate, length-replicate, eqb-true, eq-eqb, ne_eqb}}
+use Rattle.std.specs.Prelude.{◌≡◌, ◌⊎◌, ◌&&◌, ◌||◌, ◌∷◌, ◌++◌, ◌+◌, ◌*◌, ◌-◌, ◌^◌, ◌≤◌, ◌<◌}
+use Rattle.lists.{specs.Kit.{refl, sym, ap, ◌∙◌, inl, inr, Bool, true, false, not, cond, List, [], ℕ, suc}}
+use Rattle.lists.{specs.Kit.{arith, add-one, bit_and, count_trailing_zeros, ltb, eqb, length, get_or, replicate, length-replicate, eqb-true, eq-eqb, ne_eqb}}
 use Rattle.lists.{specs.Kit.{lt-ltb, le-ltb}, specs.Facts.{Bytes, folded}, specs.Lists.{In, range, count, total, member}, proofs.Tests.{trichotomy}}
 use Rattle.lists.{proofs.Count.{count_le_length}, proofs.Range.{count_below}, proofs.Filter.{count_filter}, proofs.Loops.{length_folded, folded_append}}
 use Rattle.lists.{proofs.Parts.{bytes_replicate}}

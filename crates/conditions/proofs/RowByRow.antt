@@ -1,7 +1,8 @@
 -- Soundness row by row: with each radio once in the order and its places known, tables are sound exactly when numbers rise
 -- along the order and every row is good.
-use Rattle.lists.{specs.Kit.{◌≡◌, refl, sym, ap, ◌∙◌, ◌⊎◌, inl, inr, Bool, true, false, ◌&&◌, not, and-false, and-true, List, [], ◌∷◌, ℕ, zero, suc, ◌+◌, ◌≤◌}}
-use Rattle.lists.{specs.Kit.{◌<◌, arith, le_trans, le_of_eq, ltb, leb, eqb, length, get_or, take, drop, take-append-drop, length-take, length-drop, get_or-take}}
+use Rattle.std.specs.Prelude.{◌≡◌, ◌⊎◌, ◌&&◌, ◌∷◌, ◌+◌, ◌≤◌, ◌<◌}
+use Rattle.lists.{specs.Kit.{refl, sym, ap, ◌∙◌, inl, inr, Bool, true, false, not, and-false, and-true, List, [], ℕ, zero, suc}}
+use Rattle.lists.{specs.Kit.{arith, le_trans, le_of_eq, ltb, leb, eqb, length, get_or, take, drop, take-append-drop, length-take, length-drop, get_or-take}}
 use Rattle.lists.{specs.Kit.{get_or-drop, ltb-true, ltb-false, lt-ltb, leb-true, le-leb, lt-leb, eq-eqb, ne_eqb, not-true}, specs.Lists.{range, count, all, In}}
 use Rattle.lists.{specs.Facts.{EachOnce}, proofs.Tests.{bool_cases, never, and_left, and_right, and_both, iff_eq}, proofs.Filter.{filter_in}}
 use Rattle.lists.{proofs.Range.{in_range, once_in, once_below, once_length, count_below}, proofs.Count.{count_append, count_none, count_ext}}

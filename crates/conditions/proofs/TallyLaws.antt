@@ -2,7 +2,8 @@
 --   Counting           some radios are counted, and with what is left they come to what all of them come to
 --   WordCounting      the same of the radios of a word
 --   WordsCounting     the same of the words of a row
-use Rattle.lists.{specs.Kit.{◌≡◌, ap, Bool, cond, List, [], ◌∷◌, ◌++◌, ℕ, ◌+◌, ◌*◌, ◌-◌, ◌^◌, ◌≤◌, ◌<◌, arith, bit_and, count_trailing_zeros}}
+use Rattle.std.specs.Prelude.{◌≡◌, ◌∷◌, ◌++◌, ◌+◌, ◌*◌, ◌-◌, ◌^◌, ◌≤◌, ◌<◌}
+use Rattle.lists.{specs.Kit.{ap, Bool, cond, List, [], ℕ, arith, bit_and, count_trailing_zeros}}
 use Rattle.lists.{specs.Kit.{length, get_or, length-append}, specs.Lists.{range, count}, proofs.Tests.{byte_bit, bit_one}, proofs.Count.{count_le_length}}
 use Rattle.lists.{proofs.Count.{count_append}, proofs.Range.{length_range}, proofs.Filter.{filter_le}}
 use mir.{Syntax.{w32}, Val.{bool_byte, Fits}}

@@ -1,9 +1,10 @@
 -- The links to go down and to come up.
---   digit-without    bits of a word that another word lacks
+--   digit_without    bits of a word that another word lacks
 --   ListingFrom     the radios of a word that are above a, written into a list, and what is left of them
 --   WordsListing    the same of the words of a row
-use Rattle.lists.{specs.Kit.{◌≡◌, refl, sym, ap, ap₂, ◌∙◌, Bool, true, false, ◌&&◌, not, cond, List, [], ◌∷◌, ◌++◌, append-nil, append_assoc, ℕ, zero, suc}}
-use Rattle.lists.{specs.Kit.{◌+◌, ◌*◌, ◌-◌, ◌/◌, ◌%◌, ◌^◌, ◌≤◌, ◌<◌, min, arith, pow-succ', le_of_suc-le-suc, bit_and, and_step, and_le_l, count_trailing_zeros, ltb}}
+use Rattle.std.specs.Prelude.{◌≡◌, ◌&&◌, ◌∷◌, ◌++◌, ◌+◌, ◌*◌, ◌-◌, ◌/◌, ◌%◌, ◌^◌, ◌≤◌, ◌<◌}
+use Rattle.lists.{specs.Kit.{refl, sym, ap, ap₂, ◌∙◌, Bool, true, false, not, cond, List, [], append-nil, append_assoc, ℕ, zero, suc}}
+use Rattle.lists.{specs.Kit.{min, arith, pow-succ', le_of_suc-le-suc, bit_and, and_step, and_le_l, count_trailing_zeros, ltb}}
 use Rattle.lists.{specs.Kit.{eqb, length, get_or, set, take, length-set, length-append, take-set-le, take-suc-set, length-take-le, lt-ltb, le-ltb}}
 use Rattle.lists.{specs.Lists.{range, filter}, proofs.Tests.{byte_bit}, proofs.Range.{range_in, range_append}, proofs.Filter.{filter_ext, filter_filter}}
 use Rattle.lists.{proofs.Filter.{filter_append, filter_none}}

@@ -1,17 +1,18 @@
 -- Document 01's conditions on tables, row by row, as the soundness check asks them.
 --   Placed n order places    the table of places says where each radio stands in the order
---   sooner-key               the first of a radio and a key
---   later-count              how many of some radios stand later in the order than a: document 01's "neighbours later in the order"
+--   sooner_key               the first of a radio and a key
+--   later_count              how many of some radios stand later in the order than a: document 01's "neighbours later in the order"
 --   first_key                the place and the radio, as one number, of the first of some radios that stands later in the order than a
---   high-count               how many of some radios have a number that is not below that of a
+--   high_count               how many of some radios have a number that is not below that of a
 --   NotLower n links numbers counts   the table of not-lower counts has the one of each radio
---   ends-good                each of some radios is below n, is not a, and marks a too
---   row-good                 the conditions of document 01 on radio a: its row, its later neighbours, its neighbours that are not below it
---   highest-word n first     the highest word whose bits, counted from radio `first`, all are radios below n
---   rising-from              numbers never fall along a list, and do not begin below the given one
+--   ends_good                each of some radios is below n, is not a, and marks a too
+--   row_good                 the conditions of document 01 on radio a: its row, its later neighbours, its neighbours that are not below it
+--   highest_word n first     the highest word whose bits, counted from radio `first`, all are radios below n
+--   rising_from              numbers never fall along a list, and do not begin below the given one
 -- That tables are sound when the order holds each radio once, numbers rise along it and every row is good is `sound_rows` in
 -- proofs/RowByRow.antt. Definitions only.
-use Rattle.lists.specs.{Kit.{◌≡◌, Bool, true, ◌&&◌, not, cond, List, [], ◌∷◌, ℕ, ◌+◌, ◌*◌, ◌-◌, ◌^◌, ◌<◌, min, ltb, leb, eqb, length, get_or}, Lists.{count, all}}
+use Rattle.std.specs.Prelude.{◌≡◌, ◌&&◌, ◌∷◌, ◌+◌, ◌*◌, ◌-◌, ◌^◌, ◌<◌}
+use Rattle.lists.specs.{Kit.{Bool, true, not, cond, List, [], ℕ, min, ltb, leb, eqb, length, get_or}, Lists.{count, all}}
 use Rattle.mesh.specs.{Tables.{marked}, Sound.{number_in}}
 use Rattle.rows.specs.Rows.{neighbours_of}
 

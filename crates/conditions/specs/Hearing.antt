@@ -1,17 +1,18 @@
--- A heard table row by row. The terms of document 02, W205, are in specs/Heard.antt of `calls`.
+-- A heard table row by row. The terms of document 02, W-205, are in specs/Heard.antt of `calls`.
 --   OfSize n hs           the table hs has n rows
 --   IsPrefix xs r list     the first r entries of the list are xs
 --   hears hs a b           b hears a
 --   none_from n hs a       row a marks no radio at n or above
---   rows-refusal n hs      questions 14 and 7
---   alone-put              the one-sided pairs after the pair of a and a radio that it hears: marked unless that radio hears a
+--   rows_refusal n hs      questions 14 and 7
+--   alone_put              the one-sided pairs after the pair of a and a radio that it hears: marked unless that radio hears a
 --   PairMarked, RowMarked, OneSidedMarked   what marking a pair, a row and a table comes back with
 --   wanted up hs ts a b    the link between a and b is to come up, or to go down, by the links table ts
 --   wanted_by              the same, by whether a hears b, alone, and is linked with it
 --   above_from             the radios above a whose link with a is wanted, by three rows, whose words from that of a on are read
 --   ListedFrom            entries written into a list from a place on
 -- Definitions only.
-use Rattle.lists.specs.{Kit.{◌≡◌, Bool, true, ◌&&◌, not, cond, List, ◌++◌, ℕ, ◌+◌, ◌*◌, ◌-◌, ◌/◌, ◌≤◌, ◌<◌, ltb, length, take}, Lists.{range, count}}
+use Rattle.std.specs.Prelude.{◌≡◌, ◌&&◌, ◌++◌, ◌+◌, ◌*◌, ◌-◌, ◌/◌, ◌≤◌, ◌<◌}
+use Rattle.lists.specs.{Kit.{Bool, true, not, cond, List, ℕ, ltb, length, take}, Lists.{range, count}}
 use Rattle.lists.specs.{Lists.{filter, all}, Facts.{folded}}
 use Rattle.mesh.specs.{Limits.{max_radios, max_neighbours, row_bytes}, Tables.{marked, put_bit}, Sound.{within}}
 use Rattle.calls.specs.{Questions.{ask}, Heard.{agreed, heard_proper, agreed_few, one_sided, one_sided_count}}

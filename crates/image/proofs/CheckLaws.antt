@@ -1,6 +1,7 @@
 -- Laws of a block's check.
 -- In order: the sum byte by byte, two words as one number, tests one after the other, with and without a stop.
-use Rattle.lists.{specs.Kit.{◌≡◌, refl, sym, ap, ◌∙◌, Bool, true, false, ◌&&◌, List, [], ◌∷◌, ℕ, suc, ◌+◌, ◌*◌, ◌-◌, ◌≤◌, ◌<◌, arith, mul-le-mul, add-one}}
+use Rattle.std.specs.Prelude.{◌≡◌, ◌&&◌, ◌∷◌, ◌+◌, ◌*◌, ◌-◌, ◌≤◌, ◌<◌}
+use Rattle.lists.{specs.Kit.{refl, sym, ap, ◌∙◌, Bool, true, false, List, [], ℕ, suc, arith, mul-le-mul, add-one}}
 use Rattle.lists.{specs.Kit.{length, get_or, take, take-suc, length-take-le, get_or-take}, specs.Lists.{range, all}, proofs.All.{all_append}}
 use Rattle.lists.{proofs.Range.{range_suc}}
 use Rattle.mesh.{specs.Image.{check_sum, word_at}, proofs.Images.Laws.{check_sum_snoc}, proofs.Images.Words.{check_sum_less}, proofs.Images.Checks.{long_at}}

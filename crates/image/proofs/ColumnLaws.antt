@@ -1,6 +1,7 @@
 -- Laws of the check by columns.
 -- In order: bounds, a byte added, the loop over a run's columns, the difference of a column, all columns together.
-use Rattle.lists.specs.Kit.{◌≡◌, refl, sym, ap, ap₂, subst, ◌∙◌, Bool, true, false, cond, List, ℕ, zero, suc, ◌+◌, ◌*◌, ◌-◌, ◌/◌, ◌%◌, ◌≤◌, ◌<◌, arith, mul-add}
+use Rattle.std.specs.Prelude.{◌≡◌, ◌+◌, ◌*◌, ◌-◌, ◌/◌, ◌%◌, ◌≤◌, ◌<◌}
+use Rattle.lists.specs.Kit.{refl, sym, ap, ap₂, subst, ◌∙◌, Bool, true, false, cond, List, ℕ, zero, suc, arith, mul-add}
 use Rattle.lists.specs.Kit.{add-mul, mul_comm, mul-le-mul, add-one, ltb, eqb, length, get_or, take, replicate, length-set, length-replicate, get_or-replicate}
 use Rattle.lists.specs.Kit.{take-suc, length-take-le, get_or-set_same, get_or-set_other, ltb-true, ltb-false, lt-ltb, le-ltb, eqb-true, eqb-false}
 use Rattle.mesh.{specs.Image.{check_sum, weighted_sum}, proofs.Images.Laws.{check_sum_snoc}}

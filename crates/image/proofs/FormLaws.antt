@@ -1,8 +1,9 @@
 -- Laws of the form of an image.
 -- In order: the shape of a block; what the code tests of a block; that a formed image whose checks are good is canonical.
---   formed-canonical, canonical-formed   the tests hold of an image of n radios, and only of one
+--   formed_canonical, canonical_formed   the tests hold of an image of n radios, and only of one
 --   is_image_formed                      question 11 of formed bytes: what they list is a valid site
-use Rattle.lists.{specs.Kit.{◌≡◌, refl, sym, ap, ◌∙◌, ◌↔◌, Bool, true, false, ◌&&◌, cond, List, ℕ, zero, suc, ◌+◌, ◌*◌, ◌-◌, ◌≤◌, ◌<◌, min, arith, ltb, eqb}}
+use Rattle.std.specs.Prelude.{◌≡◌, ◌↔◌, ◌&&◌, ◌+◌, ◌*◌, ◌-◌, ◌≤◌, ◌<◌}
+use Rattle.lists.{specs.Kit.{refl, sym, ap, ◌∙◌, Bool, true, false, cond, List, ℕ, zero, suc, min, arith, ltb, eqb}}
 use Rattle.lists.{specs.Kit.{length, get_or, lt-ltb, le-ltb, eqb-true, eq-eqb}, proofs.Tests.{and_left, and_right, and_both}, proofs.All.{all_below, below_all}}
 use Rattle.lists.{specs.Facts.{Bytes}}
 use Rattle.mesh.{specs.Limits.{max_radios, max_neighbours}, specs.Image.{block_bytes, payload_bytes, block_entries, block_links, word, word_at, order_blocks}}

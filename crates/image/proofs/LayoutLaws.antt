@@ -1,5 +1,6 @@
 -- Laws of the layout: how many blocks hold so many entries.
-use Rattle.lists.specs.Kit.{◌≡◌, sym, ap, ◌∙◌, ℕ, ◌+◌, ◌*◌, ◌-◌, ◌/◌, ◌%◌, ◌≤◌, ◌<◌, div-add-mod, mod-lt, mul_comm, le-mul_of_pos_right, arith}
+use Rattle.std.specs.Prelude.{◌≡◌, ◌+◌, ◌*◌, ◌-◌, ◌/◌, ◌%◌, ◌≤◌, ◌<◌}
+use Rattle.lists.specs.Kit.{sym, ap, ◌∙◌, ℕ, div-add-mod, mod-lt, mul_comm, le-mul_of_pos_right, arith}
 use lib.Arith.{digits_div}
 use Rattle.mesh.specs.Image.{blocks_for}
 

@@ -7,3 +7,5 @@ pub mod CheckLaws
 pub mod ColumnLaws
 -- Laws of the form of an image.
 pub mod FormLaws
+-- its functions in a linked program
+pub mod World

@@ -1,14 +1,15 @@
 -- The check of a block's first 504 bytes, summed by columns: byte i stands in column i % 24 of run i / 24, and there are 21 runs.
 --   column bs p r         the sum of column p over the first r runs of the bytes bs
---   column-twice bs p r   the sum of these sums, after each run
+--   column_twice bs p r   the sum of these sums, after each run
 --   with_byte bs i p ss   the sum of column p with byte i
 --   ByteFits             what adding byte i to column p wants
 --   ByteAdded            byte i is added to the sum of column p, and this sum to the sum of the sums
 --   Columns               twenty-four sums of each kind, after r runs
---   columns-total         what the first p columns add to the check after all 21 runs
+--   columns_total         what the first p columns add to the check after all 21 runs
 --   ColumnsFit           these differences are no borrows, and fit their width
 -- That the total over all columns is the check is `columns_check` (proofs/ColumnLaws.antt). Definitions only.
-use Rattle.lists.specs.Kit.{◌≡◌, List, ℕ, zero, suc, ◌+◌, ◌*◌, ◌-◌, ◌≤◌, ◌<◌, length, get_or, set}
+use Rattle.std.specs.Prelude.{◌≡◌, ◌+◌, ◌*◌, ◌-◌, ◌≤◌, ◌<◌}
+use Rattle.lists.specs.Kit.{List, ℕ, zero, suc, length, get_or, set}
 
 unfoldable pub column : (bytes : List ℕ) → (p r : ℕ) → ℕ
 column bs p zero = 0

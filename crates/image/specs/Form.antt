@@ -1,12 +1,13 @@
 -- The form of an image of n radios, as question 11 tests it in place: bs is the image, m its count of links.
 --   zeros bs at k              the k bytes from `at` on are zero
---   kind-of n i                the kind of block i
---   used-of n m i              how many bytes of the payload of block i are used
---   block-formed bs i k u      block i has kind k, a zero byte, its index, and zeros past u bytes of its payload
---   blocks-formed n bs b       the first b blocks are formed
---   is-formed n bs             the image has n, the length for its count of links, and its blocks are formed
+--   kind_of n i                the kind of block i
+--   used_of n m i              how many bytes of the payload of block i are used
+--   block_formed bs i k u      block i has kind k, a zero byte, its index, and zeros past u bytes of its payload
+--   blocks_formed n bs b       the first b blocks are formed
+--   is_formed n bs             the image has n, the length for its count of links, and its blocks are formed
 -- That a formed image whose checks are good is the image of what it says is in proofs/FormLaws.antt. Definitions only.
-use Rattle.lists.specs.{Kit.{Bool, ◌&&◌, cond, List, ℕ, zero, suc, ◌+◌, ◌*◌, ◌-◌, min, ltb, eqb, length, get_or}, Lists.{range, all}}
+use Rattle.std.specs.Prelude.{◌&&◌, ◌+◌, ◌*◌, ◌-◌}
+use Rattle.lists.specs.{Kit.{Bool, cond, List, ℕ, zero, suc, min, ltb, eqb, length, get_or}, Lists.{range, all}}
 use Rattle.mesh.specs.Image.{block_bytes, payload_bytes, block_entries, block_links, word_at, order_blocks, block_count}
 
 unfoldable pub zeros : (image : List ℕ) → (at k : ℕ) → Bool

@@ -1,7 +1,8 @@
 -- What block 0 of an image says.
 --   HeaderOf bs n m   the image bs says n radios and m links
 -- Definitions only.
-use Rattle.lists.specs.Kit.{◌≡◌, List, ℕ, ◌<◌}
+use Rattle.std.specs.Prelude.{◌≡◌, ◌<◌}
+use Rattle.lists.specs.Kit.{List, ℕ}
 use Rattle.mesh.specs.Image.{word_at}
 
 -- two bytes each

@@ -1,5 +1,6 @@
 // The bytes of an image, read in place: numbers of two and of four bytes.
-ghost use Rattle.lists.specs.Kit.{◌≡◌, ◌≤◌, ◌<◌, ◌+◌, ◌*◌, length};
+ghost use Rattle.std.specs.Prelude.{◌≡◌, ◌≤◌, ◌<◌, ◌+◌, ◌*◌};
+ghost use Rattle.lists.specs.Kit.{length};
 ghost use Rattle.mesh.specs.Image.{word_at};
 
 // A byte as a wider number.

@@ -1,5 +1,6 @@
 // Questions 9 and 10: is the image whole blocks, and does every block pass its check?
-ghost use Rattle.lists.specs.Kit.{◌≡◌, ◌<◌, ◌≤◌, ◌+◌, ◌/◌, length, take};
+ghost use Rattle.std.specs.Prelude.{◌≡◌, ◌<◌, ◌≤◌, ◌+◌, ◌/◌};
+ghost use Rattle.lists.specs.Kit.{length, take};
 ghost use Rattle.mesh.specs.Image.{block_bytes, check_sum, block_check, checks_good};
 ghost use Rattle.image.specs.Columns.{ByteFits, ByteAdded, Columns, ColumnsFit, columns_total};
 ghost use Rattle.calls.specs.Chains.{block_refusal};

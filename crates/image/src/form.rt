@@ -1,6 +1,7 @@
 // The first part of question 11: has the image the form that its header says? Kinds, zero bytes, indices and unused payload are tested in
 // place, and nothing is written.
-ghost use Rattle.lists.specs.Kit.{◌≡◌, ◌≤◌, ◌<◌, ◌+◌, ◌*◌, length};
+ghost use Rattle.std.specs.Prelude.{◌≡◌, ◌≤◌, ◌<◌, ◌+◌, ◌*◌};
+ghost use Rattle.lists.specs.Kit.{length};
 ghost use Rattle.mesh.specs.Image.{block_bytes, payload_bytes, block_count};
 ghost use Rattle.image.specs.Header.{HeaderOf};
 ghost use Rattle.image.specs.Form.{zeros, block_formed, kind_of, used_of, blocks_formed, is_formed};
@@ -42,7 +43,7 @@ fn is_block(image: &[u8], i: u32, kind: u8, used: usize) -> bool
 }
 
 // The kind of a block, and how many bytes of its payload are used.
-#[derive(Drop)]
+#[derive(Clone, Copy)]
 struct Shape {
     kind: u8,
     used: usize,

@@ -1,12 +1,13 @@
 // What block 0 of an image says, read once and handed on.
-ghost use Rattle.lists.specs.Kit.{◌≤◌, length};
+ghost use Rattle.std.specs.Prelude.{◌≤◌};
+ghost use Rattle.lists.specs.Kit.{length};
 ghost use Rattle.mesh.specs.Image.{block_bytes};
 ghost use Rattle.image.specs.Header.{HeaderOf};
 
 use super::{bytes, layout};
 
 // How many radios there are, and how many links.
-#[derive(Drop)]
+#[derive(Clone, Copy)]
 pub struct Header {
     pub radios: u32,
     pub links: u32,

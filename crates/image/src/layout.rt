@@ -1,5 +1,5 @@
 // The layout of an image: its figures, here once, and how many blocks it has.
-ghost use Rattle.lists.specs.Kit.{◌≡◌, ◌<◌};
+ghost use Rattle.std.specs.Prelude.{◌≡◌, ◌<◌};
 ghost use Rattle.mesh.specs.Image.{blocks_for, block_count};
 
 use mesh::Site;

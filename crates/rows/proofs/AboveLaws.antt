@@ -1,5 +1,6 @@
 -- Laws of the neighbours above a radio, as they are listed.
-use Rattle.lists.{specs.Kit.{◌≡◌, refl, ap, ◌∙◌, List, ℕ, suc, ◌≤◌, min, arith, ltb, length, take, take_all}, specs.Lists.{overwrite}}
+use Rattle.std.specs.Prelude.{◌≡◌, ◌≤◌}
+use Rattle.lists.{specs.Kit.{refl, ap, ◌∙◌, List, ℕ, suc, min, arith, ltb, length, take, take_all}, specs.Lists.{overwrite}}
 use Rattle.lists.{proofs.Filter.{filter_le}, proofs.Overwrite.{take_overwrite}}
 use Rattle.mesh.specs.Limits.{max_neighbours}
 use Rattle.rows.specs.Rows.{row_listed, neighbours_above}

@@ -2,7 +2,8 @@
 --   rows_listed_few   rows that mark at most `most` radios fit a list of `most` places
 --   links_above_row   the links of a row
 --   links_graph_in    all links
-use Rattle.lists.{specs.Kit.{◌≡◌, refl, ap, ap₂, ◌∙◌, Bool, true, List, [], ◌++◌, flat_map, ℕ, zero, suc, ◌+◌, ◌*◌, ◌-◌, ◌≤◌, ◌<◌, min, arith, ltb, length}}
+use Rattle.std.specs.Prelude.{◌≡◌, ◌++◌, ◌+◌, ◌*◌, ◌-◌, ◌≤◌, ◌<◌}
+use Rattle.lists.{specs.Kit.{refl, ap, ap₂, ◌∙◌, Bool, true, List, [], flat_map, ℕ, zero, suc, min, arith, ltb, length}}
 use Rattle.lists.{specs.Kit.{lt-ltb, le-ltb}, specs.Lists.{range, filter}, proofs.Range.{range_in, range_append}, proofs.Filter.{in_filter, filter_append}}
 use Rattle.lists.{proofs.Filter.{filter_none, filter_all}}
 use Rattle.mesh.{specs.Limits.{max_radios, max_neighbours, row_bytes}, specs.Graph.{Link}, specs.Tables.{marked, row_links, graph_in}, specs.Sound.{within}}

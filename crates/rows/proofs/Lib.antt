@@ -20,3 +20,5 @@ pub mod AboveLaws
 pub mod LinksFrom
 -- the links of the graph that the table marks
 pub mod GraphLinks
+-- its functions in a linked program
+pub mod World

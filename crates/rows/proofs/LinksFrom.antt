@@ -1,6 +1,7 @@
 -- Laws of the links from a row on.
 -- In order: the links of a word, what is left, links counted.
-use Rattle.lists.{specs.Kit.{◌≡◌, ap, ◌∙◌, List, [], ◌∷◌, ◌++◌, flat_map, ℕ, suc, ◌+◌, ◌*◌, ◌-◌, ◌^◌, ◌≤◌, ◌<◌, arith, bit_and, count_trailing_zeros, length, drop}}
+use Rattle.std.specs.Prelude.{◌≡◌, ◌∷◌, ◌++◌, ◌+◌, ◌*◌, ◌-◌, ◌^◌, ◌≤◌, ◌<◌}
+use Rattle.lists.{specs.Kit.{ap, ◌∙◌, List, [], flat_map, ℕ, suc, arith, bit_and, count_trailing_zeros, length, drop}}
 use Rattle.lists.{specs.Kit.{length-append, drop-append-le}}
 use Rattle.lists.{specs.Kit.{drop-nil}, specs.Lists.{range}, proofs.Map.{length-map, drop_map}}
 use Rattle.mesh.specs.{Limits.{max_radios}, Graph.{Link, link_of}}

@@ -1,6 +1,7 @@
 -- A list of radios written entry by entry into a lent list, as a loop's invariant: what is left gives what the whole gives.
 -- In order: a loop that stops when the list is full, a part of a list, the set bits of a word.
-use Rattle.lists.{specs.Kit.{◌≡◌, refl, sym, ap, ◌∙◌, List, [], ◌∷◌, ◌++◌, append-nil, ℕ, ◌+◌, ◌-◌, ◌^◌, ◌≤◌, ◌<◌, min, arith, add-one, bit_and}}
+use Rattle.std.specs.Prelude.{◌≡◌, ◌∷◌, ◌++◌, ◌+◌, ◌-◌, ◌^◌, ◌≤◌, ◌<◌}
+use Rattle.lists.{specs.Kit.{refl, sym, ap, ◌∙◌, List, [], append-nil, ℕ, min, arith, add-one, bit_and}}
 use Rattle.lists.{specs.Kit.{count_trailing_zeros, length, set, take, drop, length-set, length-append, length-take, length-drop, sets, length-sets, take_all}}
 use Rattle.lists.{specs.Kit.{drop-length, length-take-le}, specs.Lists.{overwrite}, proofs.Overwrite.{sets_append, sets_full, sets_min, sets_drop}}
 use Rattle.lists.{proofs.Overwrite.{overwrite_part}}

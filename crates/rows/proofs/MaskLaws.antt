@@ -1,5 +1,6 @@
 -- One bit of a links table by shift and mask: what the code computes is what `marked` and `put_bit` name.
-use Rattle.lists.specs.Kit.{◌≡◌, ap, ◌∙◌, Bool, true, false, List, ℕ, zero, suc, ◌+◌, ◌*◌, ◌-◌, ◌/◌, ◌%◌, ◌^◌, ◌≤◌, ◌<◌, arith, mod-lt, zero-lt-suc, one-mul}
+use Rattle.std.specs.Prelude.{◌≡◌, ◌+◌, ◌*◌, ◌-◌, ◌/◌, ◌%◌, ◌^◌, ◌≤◌, ◌<◌}
+use Rattle.lists.specs.Kit.{ap, ◌∙◌, Bool, true, false, List, ℕ, zero, suc, arith, mod-lt, zero-lt-suc, one-mul}
 use Rattle.lists.specs.Kit.{mod-eq_of_lt, pow-succ', le_of_suc-le-suc, eqb, bit_and, bit_or, and_step, or_step, and_mask, or_zero_r, length, get_or, set}
 use Rattle.lists.specs.Kit.{List·getD-eq-default, set_out}
 use lib.Pow.{pow_pos, pow-lt}

@@ -1,7 +1,8 @@
 -- The neighbours that a row of the links table marks, as a list: laws for callers.
--- In order: ascending entries, neighbours-of (order, repeats, membership, counts), the graph that the table marks, row_listed,
+-- In order: ascending entries, neighbours_of (order, repeats, membership, counts), the graph that the table marks, row_listed,
 -- row_count.
-use Rattle.lists.{specs.Kit.{◌≡◌, sym, ap, ◌∙◌, ◌⊎◌, inl, inr, Bool, true, false, ◌&&◌, List, ◌++◌, append-nil, ℕ, suc, ◌+◌, ◌*◌, ◌-◌, ◌≤◌, ◌<◌, min, arith}}
+use Rattle.std.specs.Prelude.{◌≡◌, ◌⊎◌, ◌&&◌, ◌++◌, ◌+◌, ◌*◌, ◌-◌, ◌≤◌, ◌<◌}
+use Rattle.lists.{specs.Kit.{sym, ap, ◌∙◌, inl, inr, Bool, true, false, List, append-nil, ℕ, suc, min, arith}}
 use Rattle.lists.{specs.Kit.{leb, length, take, length-take, take_all, leb-true, leb-false, le-leb, lt-leb}, specs.Lists.{range, count, filter, member}}
 use Rattle.lists.{specs.Lists.{overwrite, In, Ascending}, specs.Facts.{Distinct}, proofs.Tests.{bool_cases}, proofs.Range.{in_range, range_in, distinct_range}}
 use Rattle.lists.{proofs.Range.{range_append}, proofs.Filter.{in_filter, member_filter, count_filter, length_filter, filter_none, filter_ext, filter_append}}
@@ -11,7 +12,7 @@ use Rattle.mesh.{specs.Sound.{row_degree}, proofs.Tables.Rows.{within_of}, proof
 use Rattle.rows.specs.Rows.{neighbours_of, row_listed, row_count}
 use Rattle.rows.proofs.RowWords.{row_listed_whole}
 
--- ---- neighbours-of
+-- ---- neighbours_of
 
 pub ascending_neighbours_of : (ts : List ℕ) (a : ℕ) → Ascending (neighbours_of ts a)
 unfolding neighbours_of

@@ -1,5 +1,6 @@
 -- A row of the links table read word by word, as the loops over its words go: what is left of the row from word k on.
-use Rattle.lists.{specs.Kit.{◌≡◌, refl, sym, ap, ◌∙◌, Bool, List, [], ◌++◌, ℕ, zero, suc, ◌+◌, ◌*◌, ◌-◌, ◌/◌, ◌%◌, ◌^◌, ◌≤◌, ◌<◌, min, arith, length, get_or}}
+use Rattle.std.specs.Prelude.{◌≡◌, ◌++◌, ◌+◌, ◌*◌, ◌-◌, ◌/◌, ◌%◌, ◌^◌, ◌≤◌, ◌<◌}
+use Rattle.lists.{specs.Kit.{refl, sym, ap, ◌∙◌, Bool, List, [], ℕ, zero, suc, min, arith, length, get_or}}
 use Rattle.lists.{specs.Kit.{take, drop, length-append, length-take, length-drop, sets, length-sets, get_or-take, get_or-drop, ones, count_trailing_zeros, le-leb, lt-leb}}
 use Rattle.lists.{specs.Lists.{range, filter, head_or, overwrite}, proofs.Filter.{filter_append}, proofs.Range.{range_append}}
 use Rattle.lists.{proofs.Overwrite.{sets_front, sets_append}}

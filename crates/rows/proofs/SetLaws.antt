@@ -1,8 +1,9 @@
 -- Sets of eight words.
 -- In order: digits of words joined by `&`, `|` and `^`, one radio tested, taken out and put in, the radios of another set taken out and
 -- listed, the lowest radio of two sets, how many they have, words changed in turn, the radios of a set listed.
-use Rattle.lists.{specs.Kit.{◌≡◌, refl, sym, ap, ◌∙◌, ◌⊎◌, inl, inr, Bool, true, false, ◌&&◌, ◌||◌, not, cond, List, ◌++◌, ℕ, zero, suc, ◌+◌, ◌*◌, ◌-◌, ◌/◌}}
-use Rattle.lists.{specs.Kit.{◌%◌, ◌^◌, ◌≤◌, ◌<◌, min, max, arith, mod-lt, zero-lt-suc, one-mul, mod-eq_of_lt, differ, bit_and, bit_or, bit_xor, and_step, or_step}}
+use Rattle.std.specs.Prelude.{◌≡◌, ◌⊎◌, ◌&&◌, ◌||◌, ◌++◌, ◌+◌, ◌*◌, ◌-◌, ◌/◌, ◌%◌, ◌^◌, ◌≤◌, ◌<◌}
+use Rattle.lists.{specs.Kit.{refl, sym, ap, ◌∙◌, inl, inr, Bool, true, false, not, cond, List, ℕ, zero, suc}}
+use Rattle.lists.{specs.Kit.{min, max, arith, mod-lt, zero-lt-suc, one-mul, mod-eq_of_lt, differ, bit_and, bit_or, bit_xor, and_step, or_step}}
 use Rattle.lists.{specs.Kit.{xor_step, and_shr, or_shr, xor_shr, xor_zero_r, and_mask, and_lt, ones, ltb, eqb, length, get_or, set, replicate}}
 use Rattle.lists.{specs.Kit.{length-append, length-set, List·getD-eq-default, sets, set_out, set-get_or, get_or-set_same, get_or-set_other, ltb-true, ltb-false}}
 use Rattle.lists.{specs.Kit.{eqb-true, eqb-false, eq-eqb, ne_eqb}, specs.Lists.{range, filter, member}, proofs.Filter.{member_filter}}

@@ -1,8 +1,9 @@
 -- Words of a table and their set bits.
 -- In order: set bits as a filter and as a count, the lowest set bit, a word walked by its set bits, bytes joined to a word, the digits
 -- of a word.
-use Rattle.lists.{specs.Kit.{◌≡◌, refl, sym, ap, ◌∙◌, ◌⊎◌, inl, inr, Bool, true, false, cond, List, [], ◌∷◌, ℕ, zero, suc, ◌+◌, ◌*◌, ◌-◌, ◌/◌, ◌%◌, ◌^◌, ◌≤◌}}
-use Rattle.lists.{specs.Kit.{◌<◌, arith, pow-succ', suc-mul, mul-le-mul_right, ltb, eqb, length, get_or, bit_and, bit_or, and_le_l, and_step, and_self}}
+use Rattle.std.specs.Prelude.{◌≡◌, ◌⊎◌, ◌∷◌, ◌+◌, ◌*◌, ◌-◌, ◌/◌, ◌%◌, ◌^◌, ◌≤◌, ◌<◌}
+use Rattle.lists.{specs.Kit.{refl, sym, ap, ◌∙◌, inl, inr, Bool, true, false, cond, List, [], ℕ, zero, suc}}
+use Rattle.lists.{specs.Kit.{arith, pow-succ', suc-mul, mul-le-mul_right, ltb, eqb, length, get_or, bit_and, bit_or, and_le_l, and_step, and_self}}
 use Rattle.lists.{specs.Kit.{or_shifted_r, block_half, block_odd, ones, ones_step, count_trailing_zeros, ltb-true, ltb-false, eqb-true, eqb-false}}
 use Rattle.lists.{specs.Lists.{range, filter}, proofs.Tests.{bool_cases}}
 use lib.{Arith.{lt-one}, Pow.{pow-add, shl_exact, shr-shr, high}}

@@ -1,10 +1,11 @@
 -- The links that a links table marks, in the order in which a graph lists them.
---   links-to a bs           the links of a to the radios bs
---   links-above ts a        the links of a to its neighbours above it
---   links-from n ts a p     the links of the rows from a to n - 1 without the first p
+--   links_to a bs           the links of a to the radios bs
+--   links_above ts a        the links of a to its neighbours above it
+--   links_from n ts a p     the links of the rows from a to n - 1 without the first p
 --   RowsListed             rows that fit a list
 -- That these are the links of mesh's `graph_in` is `links_graph_in` in proofs/GraphLinks.antt. Definitions only.
-use Rattle.lists.specs.{Kit.{List, map, flat_map, ℕ, suc, ◌-◌, ◌≤◌, ◌<◌, min, length, drop}, Lists.{range}}
+use Rattle.std.specs.Prelude.{◌-◌, ◌≤◌, ◌<◌}
+use Rattle.lists.specs.{Kit.{List, map, flat_map, ℕ, suc, min, length, drop}, Lists.{range}}
 use Rattle.mesh.specs.{Limits.{max_radios, max_neighbours}, Graph.{Link, link_of}}
 use Rattle.rows.specs.Rows.{neighbours_above}
 

@@ -1,15 +1,16 @@
 -- Rows of the links table, as lists of radios and as words.
---   neighbours-of ts a    the radios that row a of the links table ts marks, ascending
+--   neighbours_of ts a    the radios that row a of the links table ts marks, ascending
 --   row_listed ts a       the same where row a lies whole in the table, else none
---   neighbours-above ts a the neighbours above a that row a marks, ascending; of a row that is not whole in the table none
+--   neighbours_above ts a the neighbours above a that row a marks, ascending; of a row that is not whole in the table none
 --   row_from ts a k       the radios from 64 * k on that row a marks: its words from word k on
 --   row_count most ts a   how many radios row a marks, counted no further than one past `most`
---   set-bits d i w        the places of the set bits among the d lowest of w, ascending, counted from i
+--   set_bits d i w        the places of the set bits among the d lowest of w, ascending, counted from i
 --   row_word k ts i        the k bytes of ts from place i on, as one number, lowest byte first
 --   word_of row k          word k of a row that stands by itself, 0 past it
 --   WordsRoom             what a private function of src/lib.rt wants of lengths
 -- Laws are in proofs/RowListLaws.antt and proofs/WordLaws.antt. Definitions only.
-use Rattle.lists.specs.{Kit.{cond, List, [], ◌∷◌, ℕ, zero, suc, ◌+◌, ◌*◌, ◌-◌, ◌/◌, ◌%◌, ◌^◌, ◌≤◌, min, ltb, leb, eqb, length, get_or}, Lists.{range, filter}}
+use Rattle.std.specs.Prelude.{◌∷◌, ◌+◌, ◌*◌, ◌-◌, ◌/◌, ◌%◌, ◌^◌, ◌≤◌}
+use Rattle.lists.specs.{Kit.{cond, List, [], ℕ, zero, suc, min, ltb, leb, eqb, length, get_or}, Lists.{range, filter}}
 use Rattle.mesh.specs.{Limits.{max_radios, max_neighbours, row_bytes}, Tables.{marked}}
 
 unfoldable pub neighbours_of : (links : List ℕ) → (a : ℕ) → List ℕ

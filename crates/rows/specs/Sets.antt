@@ -1,17 +1,18 @@
 -- Sets of radios as eight words of 64 bits: radio v is bit v % 64 of word v / 64.
---   in-set ws v            v is in the set ws
+--   in_set ws v            v is in the set ws
 --   take_out v ws          the set without v
 --   put_in v ws            the set with v
 --   RowJoined             the radios that row a of the links table ts marks put into a set
---   word-left x w          the word w without the bits that the word x has
---   word-taken k x ws      the set ws with its word k without these bits
+--   word_left x w          the word w without the bits that the word x has
+--   word_taken k x ws      the set ws with its word k without these bits
 --   common x y             the radios that the sets x and y both have, ascending
 --   CommonTaken           these listed, and taken out of the second set
 --   SetTaken              the radios of another set taken out of a set
 --   members ws             the radios of the set ws, ascending
 --   Listed                 these listed
 -- Laws are in proofs/SetLaws.antt. Definitions only.
-use Rattle.lists.specs.{Kit.{◌≡◌, Bool, true, false, ◌&&◌, ◌||◌, not, List, ℕ, ◌/◌, ◌%◌, min, bit_and, bit_xor, length, get_or, take, set}, Lists.{range, filter}}
+use Rattle.std.specs.Prelude.{◌≡◌, ◌&&◌, ◌||◌, ◌/◌, ◌%◌}
+use Rattle.lists.specs.{Kit.{Bool, true, false, not, List, ℕ, min, bit_and, bit_xor, length, get_or, take, set}, Lists.{range, filter}}
 use Rattle.lists.specs.{Lists.{member, overwrite}}
 use Rattle.mesh.specs.{Limits.{max_radios}, Tables.{digit, put_digit}}
 use Rattle.rows.specs.Rows.{row_listed}

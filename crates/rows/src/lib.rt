@@ -1,7 +1,10 @@
 // Rows of the links table: one bit tested, set or cleared, a row's neighbours listed, all or the ones above its own radio, and counted in a
 // byte; the words of a row. `sets` has sets of radios, eight words each, `link_list` the links that a table marks. The bits of a row are
 // walked here, and where a loop over a whole row is the work itself.
-ghost use Rattle.lists.specs.Kit.{◌≡◌, suc, ◌≤◌, ◌+◌, ◌-◌, min, length, take, sets};
+#![tactic(auto)]
+
+ghost use Rattle.std.specs.Prelude.{◌≡◌, ◌≤◌, ◌+◌, ◌-◌};
+ghost use Rattle.lists.specs.Kit.{suc, min, length, take, sets};
 ghost use Rattle.mesh.specs.Limits.{max_radios, max_neighbours};
 ghost use Rattle.lists.specs.Lists.{head_or, overwrite};
 ghost use Rattle.mesh.specs.Tables.{marked, put_bit, put_link};

@@ -1,6 +1,7 @@
 // The links that a links table marks, by lower and then higher radio: row by row, the neighbours above the row's own radio, which
 // rows::row_above lists.
-ghost use Rattle.lists.specs.Kit.{◌≡◌, length};
+ghost use Rattle.std.specs.Prelude.{◌≡◌};
+ghost use Rattle.lists.specs.Kit.{length};
 ghost use Rattle.rows.specs.Links.{RowsListed, links_from};
 
 // How many links the first n rows mark, of which each fits the list. `list` holds anything after.

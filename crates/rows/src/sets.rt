@@ -1,5 +1,6 @@
 // Sets of radios as eight words, a bit for each radio: tested, put into, taken out of, joined with rows, compared and listed.
-ghost use Rattle.lists.specs.Kit.{◌≡◌, ◌+◌, ◌*◌, ◌≤◌, ◌<◌, min, length, get_or, bit_and, sets};
+ghost use Rattle.std.specs.Prelude.{◌≡◌, ◌+◌, ◌*◌, ◌≤◌, ◌<◌};
+ghost use Rattle.lists.specs.Kit.{min, length, get_or, bit_and, sets};
 ghost use Rattle.mesh.specs.Limits.{max_radios};
 ghost use Rattle.lists.specs.Lists.{head_or};
 ghost use Rattle.rows.specs.Rows.{set_bits};

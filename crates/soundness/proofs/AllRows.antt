@@ -1,5 +1,6 @@
 -- All rows of the check on plain values: the loop over the radios.
-use Rattle.lists.{specs.Kit.{◌≡◌, refl, sym, ap, ◌∙◌, ◌⊎◌, inl, inr, Bool, true, false, ◌&&◌, List, ℕ, suc, ◌+◌, ◌-◌, ◌≤◌, ◌<◌, arith, add-one, length, get_or}}
+use Rattle.std.specs.Prelude.{◌≡◌, ◌⊎◌, ◌&&◌, ◌+◌, ◌-◌, ◌≤◌, ◌<◌}
+use Rattle.lists.{specs.Kit.{refl, sym, ap, ◌∙◌, inl, inr, Bool, true, false, List, ℕ, suc, arith, add-one, length, get_or}}
 use Rattle.lists.{specs.Kit.{set, length-set, get_or-set_same, get_or-set_other}, specs.Lists.{range, all}, proofs.Tests.{never, trichotomy}}
 use Rattle.mesh.specs.Limits.{max_neighbours}
 use Rattle.rows.specs.Rows.{neighbours_of}

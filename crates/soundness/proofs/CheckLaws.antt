@@ -1,5 +1,6 @@
 -- The whole check on plain values: what its parts come back with decides soundness, and the calls over it.
-use Rattle.lists.{specs.Kit.{◌≡◌, refl, sym, ap, ◌∙◌, Bool, true, false, ◌&&◌, and-false, List, ℕ, ◌≤◌, arith, length, get_or}}
+use Rattle.std.specs.Prelude.{◌≡◌, ◌&&◌, ◌≤◌}
+use Rattle.lists.{specs.Kit.{refl, sym, ap, ◌∙◌, Bool, true, false, and-false, List, ℕ, arith, length, get_or}}
 use Rattle.lists.{specs.Lists.{range, all, EntriesBelow}, specs.Facts.{EachOnce}, proofs.Tests.{never}, proofs.Range.{once_below}, proofs.Member.{in_get_d}}
 use Rattle.mesh.{specs.Limits.{max_radios, max_neighbours}, specs.Orders.{each_once, rising}, specs.Tables.{Tables}, specs.Sound.{rows_proper, number_in}}
 use Rattle.mesh.{specs.Sound.{sound, sound_within}, proofs.Cores.Orders.{each_once_of}}

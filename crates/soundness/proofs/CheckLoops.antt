@@ -1,6 +1,7 @@
 -- The loops over the order on plain values: each invariant, its start, a turn, its end.
 -- In order: numbers along the order, places of the order.
-use Rattle.lists.{specs.Kit.{◌≡◌, refl, sym, ap, ◌∙◌, ◌⊎◌, inl, inr, Bool, true, false, ◌&&◌, List, ◌++◌, ℕ, zero, suc, ◌+◌, ◌≤◌, ◌<◌, min, arith, add-one}}
+use Rattle.std.specs.Prelude.{◌≡◌, ◌⊎◌, ◌&&◌, ◌++◌, ◌+◌, ◌≤◌, ◌<◌}
+use Rattle.lists.{specs.Kit.{refl, sym, ap, ◌∙◌, inl, inr, Bool, true, false, List, ℕ, zero, suc, min, arith, add-one}}
 use Rattle.lists.{specs.Kit.{leb, eqb, length, get_or, take, drop, set, replicate, length-set, length-append, length-drop, length-replicate, drop-cons}}
 use Rattle.lists.{specs.Kit.{drop-length, get_or-set_same, get_or-set_other, length-take-le, le-leb, lt-leb, eqb-true, eqb-false}, proofs.Tests.{bool_cases, never}}
 use Rattle.lists.{proofs.Tests.{trichotomy}, specs.Facts.{EachOnce}, proofs.Range.{once_of, once_below, once_distinct}, proofs.Member.{in_get_d, get_d_of_in}}

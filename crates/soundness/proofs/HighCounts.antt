@@ -1,8 +1,9 @@
 -- The high counts of sound tables, over the graph that the links table marks: for the callers of `soundness::asked`.
---   sound-symmetric .. sound_within_n   the conditions on rows that reading over the graph wants
+--   sound_symmetric .. sound_within_n   the conditions on rows that reading over the graph wants
 --   high_count_neighbours_in            a high count is the count of neighbours that are not below the radio
 --   counts_neighbours_in                the same of a table that the check filled
-use Rattle.lists.{specs.Kit.{◌≡◌, ap, ◌∙◌, Bool, true, ◌&&◌, List, ℕ, ◌≤◌, ◌<◌, leb, get_or}, specs.Lists.{range, count}}
+use Rattle.std.specs.Prelude.{◌≡◌, ◌&&◌, ◌≤◌, ◌<◌}
+use Rattle.lists.{specs.Kit.{ap, ◌∙◌, Bool, true, List, ℕ, leb, get_or}, specs.Lists.{range, count}}
 use Rattle.lists.{proofs.Tests.{and_left, and_right}, proofs.Filter.{count_filter}}
 use Rattle.mesh.specs.{Limits.{max_radios, max_neighbours}, Graph.{linked, radios, neighbours_in}, Orders.{each_once, rising, few_later}, Tables.{Tables}}
 use Rattle.mesh.specs.{Tables.{marked, graph_in}, Sound.{symmetric, irreflexive, within, few, rows_proper, enough, number_in, sound, sound_within}}

@@ -16,3 +16,5 @@ pub mod SoundSite
 pub mod HighCounts
 -- rows with too many bits
 pub mod LongRows
+-- its functions in a linked program
+pub mod World

@@ -1,6 +1,7 @@
 -- Rows with too many bits: the byte stops one past the limit, whatever the row has, and tables with such a row are not sound.
 -- 256 + 32 and 256 + 40 are what a byte that wraps would take for a sound row's.
-use Rattle.lists.{specs.Kit.{◌≡◌, refl, ◌⊎◌, inl, inr, true, false, ◌&&◌, List, [], ◌∷◌, ℕ, suc, ◌*◌, ◌<◌, arith, ltb, length, ltb-true}, specs.Lists.{all, In}}
+use Rattle.std.specs.Prelude.{◌≡◌, ◌⊎◌, ◌&&◌, ◌∷◌, ◌*◌, ◌<◌}
+use Rattle.lists.{specs.Kit.{refl, inl, inr, true, false, List, [], ℕ, suc, arith, ltb, length, ltb-true}, specs.Lists.{all, In}}
 use Rattle.lists.{proofs.Tests.{bool_cases, and_left, and_right}, proofs.All.{all_in}}
 use Rattle.mesh.{specs.Limits.{max_neighbours, row_bytes}, specs.Orders.{each_once, rising, few_later}, specs.Tables.{Tables, marked}, specs.Sound.{symmetric}}
 use Rattle.mesh.{specs.Sound.{irreflexive, within, row_degree, few, rows_proper, enough, number_in, sound_within, sound}, proofs.Tables.Rows.{few_of}}

@@ -1,5 +1,6 @@
 -- Chains of questions as the code puts them: questions 1 to 3 first, then the later ones. q is the number so far.
-use Rattle.lists.specs.Kit.{◌≡◌, refl, sym, ◌∙◌, Bool, true, false, ◌&&◌, ℕ, ◌≤◌, ◌<◌, le-ltb}
+use Rattle.std.specs.Prelude.{◌≡◌, ◌&&◌, ◌≤◌, ◌<◌}
+use Rattle.lists.specs.Kit.{refl, sym, ◌∙◌, Bool, true, false, ℕ, le-ltb}
 use Rattle.calls.{specs.Questions.{ask, Lengths, size_good, site_lengths, is_radio, lent_refusal, site_refusal, radio_refusal}, proofs.QuestionLaws.{ask_no}}
 use Rattle.calls.{proofs.ChainLaws.{site_zero, site_yes, radio_yes}}
 

@@ -1,5 +1,6 @@
 -- One row of the check on plain values: its ends good or not, the row good or not.
-use Rattle.lists.{specs.Kit.{◌≡◌, refl, sym, ap, ◌∙◌, ◌⊎◌, inl, inr, Bool, true, false, ◌&&◌, not, and-false, List, [], ℕ, ◌%◌, ◌*◌, ◌≤◌, ◌<◌, arith, ltb, leb}}
+use Rattle.std.specs.Prelude.{◌≡◌, ◌⊎◌, ◌&&◌, ◌%◌, ◌*◌, ◌≤◌, ◌<◌}
+use Rattle.lists.{specs.Kit.{refl, sym, ap, ◌∙◌, inl, inr, Bool, true, false, not, and-false, List, [], ℕ, arith, ltb, leb}}
 use Rattle.lists.{specs.Kit.{eqb, length, ltb-true, ltb-false, lt-ltb, le-leb, lt-leb, eq-eqb, ne_eqb}, specs.Lists.{range, count, all, In}}
 use Rattle.lists.{proofs.Tests.{bool_cases, never, iff_eq}, proofs.All.{all_in, in_all}, proofs.Filter.{filter_in}, proofs.Range.{in_range}}
 use Rattle.mesh.specs.{Limits.{max_radios, max_neighbours, row_bytes}, Tables.{marked}, Sound.{number_in}}

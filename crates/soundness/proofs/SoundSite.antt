@@ -1,6 +1,7 @@
 -- What sound tables say of the graph that they mark: links by bits, numbers by entries, a row's neighbours.
-use Rattle.lists.{specs.Kit.{◌≡◌, sym, ap, ◌∙◌, Bool, true, ◌&&◌, List, ℕ, ◌≤◌, ◌<◌, arith, get_or}, proofs.Tests.{and_left, and_right, and_both}}
-use Rattle.mesh.{specs.Limits.{max_radios, max_neighbours}, specs.Graph.{linked, degree}, specs.Cores.{number, numbers}, specs.Tables.{Tables, marked}}
+use Rattle.std.specs.Prelude.{◌≡◌, ◌&&◌, ◌≤◌, ◌<◌}
+use Rattle.lists.{specs.Kit.{sym, ap, ◌∙◌, Bool, true, List, ℕ, arith, get_or}, proofs.Tests.{and_left, and_right, and_both}}
+use Rattle.mesh.{specs.Limits.{max_radios, max_neighbours}, specs.Graph.{linked, degree}, specs.Cores.{number}, specs.Tables.{Tables, marked}}
 use Rattle.mesh.{specs.Tables.{graph_in}, specs.Sound.{symmetric, irreflexive, within, few, rows_proper, sound}, proofs.Cores.Peeling.{get_d_numbers}}
 use Rattle.mesh.{proofs.Tables.ReadBack.{linked_graph_in, degree_graph_in}, proofs.Tables.Rows.{few_of}, proofs.Tables.Soundness.{Right, sound_right}}
 use Rattle.calls.{specs.Questions.{lengths_of, size_good, site_lengths}, proofs.QuestionLaws.{SiteLengths, size_good_true, true_size_good, site_lengths_true}}

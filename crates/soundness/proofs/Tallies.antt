@@ -1,7 +1,8 @@
 -- The ends of a row counted, on plain values.
 -- In order: the first of the later ends by its key, ends counted one by one and part by part, a word walked, a row walked.
-use Rattle.lists.{specs.Kit.{◌≡◌, refl, sym, ap, ◌∙◌, ◌⊎◌, inl, inr, Bool, true, false, ◌&&◌, cond, List, [], ◌∷◌, ◌++◌, ℕ, zero, suc, ◌+◌, ◌*◌, ◌-◌, ◌^◌, ◌≤◌}}
-use Rattle.lists.{specs.Kit.{◌<◌, min, arith, bit_and, and_le_l, count_trailing_zeros, ltb, leb, length, get_or, length-append, lt-ltb, le-ltb}, specs.Lists.{count, all}}
+use Rattle.std.specs.Prelude.{◌≡◌, ◌⊎◌, ◌&&◌, ◌∷◌, ◌++◌, ◌+◌, ◌*◌, ◌-◌, ◌^◌, ◌≤◌, ◌<◌}
+use Rattle.lists.{specs.Kit.{refl, sym, ap, ◌∙◌, inl, inr, Bool, true, false, cond, List, [], ℕ, zero, suc}}
+use Rattle.lists.{specs.Kit.{min, arith, bit_and, and_le_l, count_trailing_zeros, ltb, leb, length, get_or, length-append, lt-ltb, le-ltb}, specs.Lists.{count, all}}
 use Rattle.lists.{proofs.Tests.{bool_cases, never, bit_one, byte_bit}, proofs.Count.{count_append}, proofs.All.{all_append}}
 use mir.{Syntax.{w8}, Val.{bool_byte, Fits}}
 use Rattle.mesh.specs.{Limits.{max_neighbours, row_bytes}, Tables.{marked}}

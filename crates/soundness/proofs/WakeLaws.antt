@@ -1,6 +1,7 @@
 -- The later neighbours of a radio of sound tables: what the count of its row's ends gives is what the order says.
 -- In order: as the code counts them, the answer.
-use Rattle.lists.{specs.Kit.{◌≡◌, sym, subst, ◌∙◌, Bool, true, ◌&&◌, List, ℕ, arith, leb, length}, specs.Lists.{range, all}, specs.Facts.{EachOnce}}
+use Rattle.std.specs.Prelude.{◌≡◌, ◌&&◌}
+use Rattle.lists.{specs.Kit.{sym, subst, ◌∙◌, Bool, true, List, ℕ, arith, leb, length}, specs.Lists.{range, all}, specs.Facts.{EachOnce}}
 use Rattle.lists.{proofs.Tests.{and_left, and_right, and_both}, proofs.All.{all_below}}
 use Rattle.mesh.{specs.Limits.{max_radios, max_neighbours}, specs.Orders.{rising}, specs.Tables.{Tables, graph_in}, specs.Sound.{number_in, rows_proper, sound}}
 use Rattle.mesh.{specs.Sound.{sound_within}, proofs.Cores.Orders.{of_each_once}, proofs.Cores.KOrders.{k_order_certificate}}

@@ -1,16 +1,17 @@
 -- The soundness check, row by row.
---   ends-mark                each of some radios marks a too
+--   ends_mark                each of some radios marks a too
 --   HighestWords            the highest word of each word of a row
 --   Tally                    what is counted of some ends of a row
 --   SoundRadio, EndsRoom, WalkRoom, RowsRoom   what private functions of src/lib.rt want of the tables that they read
 --   Placing, PlacesFound, Tallied, Walked, EndsCounted, LaterCounted, RowChecked, RowsChecked, Held, Asked
 --                            what the functions of src/lib.rt come back with
 --   nowhere                  a place that no entry of an order has
---   Sizes                    questions 1 and 2 get yes, and the lent tables of places and not_lower counts are long enough
---   fits-sound               questions 1 to 3 get yes
+--   Sizes                    questions 1 and 2 get yes, and the lent tables of places and not-lower counts are long enough
+--   fits_sound               questions 1 to 3 get yes
 --   SoundSite               what sound tables say of the graph that they mark
 -- The conditions on a row that they speak of are in crate row_conditions. Definitions only.
-use Rattle.lists.specs.{Kit.{◌≡◌, Bool, true, ◌&&◌, List, [], ℕ, ◌+◌, ◌*◌, ◌%◌, ◌≤◌, ◌<◌, min, leb, length, get_or}, Lists.{range, all, head_or}}
+use Rattle.std.specs.Prelude.{◌≡◌, ◌&&◌, ◌+◌, ◌*◌, ◌%◌, ◌≤◌, ◌<◌}
+use Rattle.lists.specs.{Kit.{Bool, true, List, [], ℕ, min, leb, length, get_or}, Lists.{range, all, head_or}}
 use Rattle.mesh.specs.{Limits.{max_radios, max_neighbours, row_bytes}, Orders.{each_once, later_in, nobody}, Tables.{Tables, marked, graph_in}, Graph.{linked}}
 use Rattle.mesh.specs.{Cores.{numbers}, Sound.{symmetric, irreflexive, within, few, sound}}
 use Rattle.calls.specs.Questions.{Lengths, lengths_of, size_good, site_lengths, site_refusal}
@@ -122,7 +123,7 @@ pub record RowsChecked (n : ℕ) (links numbers places before after : List ℕ) 
 
 -- ---- questions 1 to 3
 
--- questions 1 and 2 got yes, and the tables of places and of not_lower counts, p and h entries long, have one for each radio
+-- questions 1 and 2 got yes, and the tables of places and of not-lower counts, p and h entries long, have one for each radio
 pub record Sizes (n : ℕ) (l : Lengths) (p h : ℕ) : Type 0 where
   pub small : n ≤ max_radios
   pub linked : l.links ≡ row_bytes * n
@@ -131,13 +132,13 @@ pub record Sizes (n : ℕ) (l : Lengths) (p h : ℕ) : Type 0 where
   pub places : n ≤ p
   pub counts : n ≤ h
 
--- whether the tables are sound, and then the places and the not_lower counts
+-- whether the tables are sound, and then the places and the not-lower counts
 pub record Held (n : ℕ) (t : Tables) (places not_lower : List ℕ) (r : Bool) : Type 0 where
   pub answer : r ≡ sound n t
   pub placed : r ≡ true → Placed n t.order places
   pub counts : r ≡ true → NotLower n t.links t.numbers not_lower
 
--- the number of questions 1 to 3, and at 0 the places and the not_lower counts
+-- the number of questions 1 to 3, and at 0 the places and the not-lower counts
 pub record Asked (n : ℕ) (t : Tables) (others : Bool) (places not_lower : List ℕ) (q : ℕ) : Type 0 where
   pub number : q ≡ site_refusal n (lengths_of t) others (sound n t) 0
   pub placed : q ≡ 0 → Placed n t.order places

@@ -1,6 +1,9 @@
 // The soundness check: document 01's local conditions, decided for any content of tables of the right lengths, and questions 1 to 3,
 // which every call over a site puts. An entry is tested before it is used as an index.
-ghost use Rattle.lists.specs.Kit.{◌≡◌, true, ◌+◌, ◌*◌, ◌/◌, ◌≤◌, ◌<◌, length};
+#![tactic(auto)]
+
+ghost use Rattle.std.specs.Prelude.{◌≡◌, ◌+◌, ◌*◌, ◌/◌, ◌≤◌, ◌<◌};
+ghost use Rattle.lists.specs.Kit.{true, length};
 ghost use Rattle.mesh.specs.Limits.{max_radios, row_bytes};
 ghost use Rattle.mesh.specs.Orders.{rising};
 ghost use Rattle.mesh.specs.Sound.{number_in, sound};
@@ -140,7 +143,7 @@ fn marks(links: &[u8], b: u32, a: u32) -> bool
 
 // What is counted of the ends of a row while each of them marks the row's radio too: how many, how many stand later in the order,
 // how many have a number that is not below, and the key of the first later one.
-#[derive(Drop)]
+#[derive(Clone, Copy)]
 struct Walk {
     good: bool,
     count: u8,
@@ -281,7 +284,7 @@ pub(crate) fn count_ends(
     }
 }
 
-#[derive(Drop)]
+#[derive(Clone, Copy)]
 struct Row {
     good: bool,
     high: u8,
@@ -351,7 +354,7 @@ fn is_sound(
     not_lower: &mut [u8],
 ) -> bool
     requires { Sizes n (lengths_of (tables links.now numbers.now order.now)) (length places.old) (length not_lower.old) }
-    ensures { Held n (lent links.entry numbers.entry order.entry) places.new not_lower.new result }
+    ensures { Held n (lent links.now numbers.now order.now) places.new not_lower.new result }
 {
     if !place(order, places) {
         return false;
@@ -375,7 +378,7 @@ pub fn asked(
     not_lower: &mut [u8],
 ) -> u32
     requires { (max_radios ≤ length places.old) × (max_radios ≤ length not_lower.old) }
-    ensures { Asked n (lent links.entry numbers.entry order.entry) others places.new not_lower.new result }
+    ensures { Asked n (lent links.now numbers.now order.now) others places.new not_lower.new result }
 {
     let number = tables::sizes::with_others(
         Site { radios: n },
@@ -395,8 +398,8 @@ pub fn asked(
 
 // Questions 1 to 3 alone.
 pub fn refusal(n: u32, links: &[u8], numbers: &[u8], order: &[u16], others: bool) -> u32
-    ensures { result ≡ site_refusal n (lengths_of (lent links.entry numbers.entry order.entry)) others
-        (sound n (lent links.entry numbers.entry order.entry)) 0 }
+    ensures { result ≡ site_refusal n (lengths_of (lent links.now numbers.now order.now)) others
+        (sound n (lent links.now numbers.now order.now)) 0 }
 {
     let mut places = [0u16; Site::RADIOS as usize];
     let mut not_lower = [0u8; Site::RADIOS as usize];
@@ -413,7 +416,7 @@ pub fn refusal(n: u32, links: &[u8], numbers: &[u8], order: &[u16], others: bool
 
 // The soundness check: refusal number 1 or 2 and the value 0, or number 0 and the value 1 when the tables are sound, 0 when not.
 pub fn check(n: u32, links: &[u8], numbers: &[u8], order: &[u16]) -> Value
-    ensures { CheckContract n (lent links.entry numbers.entry order.entry) result }
+    ensures { CheckContract n (lent links.now numbers.now order.now) result }
 {
     let number = refusal(n, links, numbers, order, true);
     if number == 0 {

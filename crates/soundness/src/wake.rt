@@ -1,5 +1,6 @@
 // The later neighbours of a radio: how many, and the first of them in the order, through which the radio is woken.
-ghost use Rattle.lists.specs.Kit.{◌≡◌, ◌<◌, length};
+ghost use Rattle.std.specs.Prelude.{◌≡◌, ◌<◌};
+ghost use Rattle.lists.specs.Kit.{length};
 ghost use Rattle.mesh.specs.Lent.{lent};
 ghost use Rattle.mesh.specs.Tables.{tables};
 ghost use Rattle.mesh.specs.Sound.{sound};
@@ -19,8 +20,8 @@ pub fn radio_refusal<'a>(
     numbers: &'a [u8],
     order: &'a [u16],
 ) -> u32
-    ensures { result ≡ radio_refusal n v (lengths_of (lent links.entry numbers.entry order.entry))
-        (sound n (lent links.entry numbers.entry order.entry)) }
+    ensures { result ≡ radio_refusal n v (lengths_of (lent links.now numbers.now order.now))
+        (sound n (lent links.now numbers.now order.now)) }
 {
     let number = crate::refusal(n, links, numbers, order, true);
     if number != 0 {
@@ -35,7 +36,7 @@ pub fn radio_refusal<'a>(
 // The later neighbours of radio v of sound tables, as the check counts them.
 fn later_ends(links: &[u8], numbers: &[u8], order: &[u16], v: u32) -> Ends
     requires { SoundRadio (length order.now) v (tables links.now numbers.now order.now) }
-    ensures { LaterCounted (length order.now) v (lent links.entry numbers.entry order.entry) result.later result.first }
+    ensures { LaterCounted (length order.now) v (lent links.now numbers.now order.now) result.later result.first }
 {
     let mut places = [0u16; Site::RADIOS as usize];
     crate::place(order, &mut places);
@@ -46,7 +47,7 @@ fn later_ends(links: &[u8], numbers: &[u8], order: &[u16], v: u32) -> Ends
 // How many neighbours of v stand after it in the order, and the first of them, 65,535 when there are none. Or the refusal number of
 // questions 1 to 4, and zeros.
 pub fn later_of<'a>(n: u32, v: u32, links: &'a [u8], numbers: &'a [u8], order: &'a [u16]) -> Later
-    ensures { LaterContract n v (lent links.entry numbers.entry order.entry) result }
+    ensures { LaterContract n v (lent links.now numbers.now order.now) result }
 {
     let refusal = radio_refusal(n, v, links, numbers, order);
     if refusal != 0 {

@@ -1,5 +1,6 @@
 -- Clearing meets its contract, on plain values: refused, and accepted.
-use Rattle.lists.specs.Kit.{◌≡◌, ap, ◌∙◌, true, ℕ, arith, length, replicate}
+use Rattle.std.specs.Prelude.{◌≡◌}
+use Rattle.lists.specs.Kit.{ap, ◌∙◌, true, ℕ, arith, length, replicate}
 use Rattle.mesh.specs.Tables.{Tables}
 use Rattle.calls.{specs.Questions.{lengths_of, tables_refusal}, specs.CallContracts.{ClearContract}, specs.Outcomes.{clear_outcome}}
 use Rattle.calls.{proofs.ContractLaws.{by_accepted, by_refused}, proofs.ChainLaws.{LentGood, lent_zero}}

@@ -7,3 +7,5 @@ pub mod StepLaws
 pub mod NumberLaws
 -- clearing
 pub mod ClearLaws
+-- its functions in a linked program
+pub mod World

@@ -1,5 +1,6 @@
 -- The greatest of a table of numbers: what is left of the table, and the greatest so far, give the greatest.
-use Rattle.lists.specs.Kit.{◌≡◌, ap, ◌∙◌, List, ◌∷◌, ℕ, max, ◌+◌, ◌<◌, ◌≤◌, arith, add-one, drop, length, get_or, drop_of_length-le, drop-cons}
+use Rattle.std.specs.Prelude.{◌≡◌, ◌∷◌, ◌+◌, ◌<◌, ◌≤◌}
+use Rattle.lists.specs.Kit.{ap, ◌∙◌, List, ℕ, max, arith, add-one, drop, length, get_or, drop_of_length-le, drop-cons}
 use Rattle.mesh.specs.Connected.{greatest}
 
 abbrev pub GreatestSoFar : (numbers : List ℕ) → (top v : ℕ) → Type 0

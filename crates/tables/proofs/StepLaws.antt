@@ -1,7 +1,8 @@
 -- Laws of the signed step. The sum is made in 16 bits, where it is exact; what the code hands out is the sum held between
 -- 0 and 255. Then laws of numbers stepped one after the other.
-use Rattle.lists.{specs.Kit.{◌≡◌, refl, sym, ap, ap₂, ◌∙◌, subst, inl, inr, Bool, true, false, cond, List, [], ◌∷◌, ℕ, suc, ◌-◌, ◌≤◌, ◌<◌, min, arith, T, ltb}}
-use Rattle.lists.{specs.Kit.{ℤ, pos, negsuc, ◌+ℤ◌, nat_abs, length, get_or, length-set, get_or-set_same, get_or-set_other, ltb-true, ltb-false}}
+use Rattle.std.specs.Prelude.{◌≡◌, ◌∷◌, ◌-◌, ◌≤◌, ◌<◌, ◌+ℤ◌}
+use Rattle.lists.{specs.Kit.{refl, sym, ap, ap₂, ◌∙◌, subst, inl, inr, Bool, true, false, cond, List, [], ℕ, suc, min, arith, T, ltb}}
+use Rattle.lists.{specs.Kit.{ℤ, pos, negsuc, nat_abs, length, get_or, length-set, get_or-set_same, get_or-set_other, ltb-true, ltb-false}}
 use Rattle.lists.{proofs.Loops.{length_folded}, specs.Facts.{folded, Distinct}, specs.Lists.{In}, proofs.Tests.{never}}
 use mir.{Syntax.{w8, w16}, Val.{Fits, SFits, to_z, of_z}, Facts.{to_z-of_z, to_z_pos, sfits_widen}}
 use lib.Signed.{lt_z, non_neg}
@@ -93,7 +94,7 @@ pub stepped_exact : (x : ℕ) (z : ℤ) (y : ℕ) → x < 256 → y < 256 → po
 stepped_exact x z y h l e =
     let m : min 255 y ≡ y = omega arith in sym (held_sum x z h) ∙ ap held e ∙ m
 
--- ---- step-at
+-- ---- step_at
 
 pub length_step_at : (v : ℕ) (z : ℤ) (ns : List ℕ) → length (step_at v z ns) ≡ length ns
 unfolding step_at
@@ -107,7 +108,7 @@ pub get_d_step_at_other : (u v : ℕ) (z : ℤ) (ns : List ℕ) → (v ≡ u →
 unfolding step_at
 get_d_step_at_other u v z ns h = get_or-set_other ns v u (stepped (get_or ns v 0) z) 0 (λ e. h (sym e))
 
--- ---- all-stepped
+-- ---- all_stepped
 
 pub length_all_stepped : (vs : List ℕ) (z : ℤ) (ns : List ℕ) → length (all_stepped vs z ns) ≡ length ns
 unfolding all_stepped
@@ -125,8 +126,9 @@ pub get_d_all_stepped_listed :
     (u : ℕ) (vs : List ℕ) (z : ℤ) (ns : List ℕ) → Distinct vs → In u vs → u < length ns →
     get_or (all_stepped vs z ns) u 0 ≡ stepped (get_or ns u 0) z
 unfolding all_stepped folded
+get_d_all_stepped_listed u [] z ns d x3 h = elim x3 [ ]
 get_d_all_stepped_listed u (v ∷ vs) z ns d (inl e) h =
     rw (← e) (get_d_all_stepped_other v vs z (step_at v z ns) d.0 ∙ get_d_step_at_same v z ns (omega arith))
 get_d_all_stepped_listed u (v ∷ vs) z ns d (inr m) h =
     get_d_all_stepped_listed u vs z (step_at v z ns) d.1 m (omega (arith, length_step_at v z ns))
-    ∙ ap (λ x. stepped x z) (get_d_step_at_other u v z ns (λ e. d.0 (rw (← e) at m)))
+    ∙ ap (λ x. stepped x z) (get_d_step_at_other u v z ns (λ e. d.0 (subst (λ (y : ℕ). In y vs) (sym e) m)))

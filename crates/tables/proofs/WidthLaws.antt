@@ -1,7 +1,8 @@
 -- Laws of tables that are written from the front or compared, one entry a turn. Their parameter is the width w: the proof of
 -- each function cites them with its own, 8 or 16.
 -- In order: laws of lists; values; a table being written, and what it holds at the end; a table being copied; tables compared.
-use Rattle.lists.{specs.Kit.{◌≡◌, refl, sym, ap, ap₂, ◌∙◌, true, false, ◌&&◌, List, ◌++◌, map, append-nil, ℕ, suc, ◌+◌, ◌%◌, ◌^◌, ◌≤◌, ◌<◌, min, mod-eq_of_lt}}
+use Rattle.std.specs.Prelude.{◌≡◌, ◌&&◌, ◌++◌, ◌+◌, ◌%◌, ◌^◌, ◌≤◌, ◌<◌}
+use Rattle.lists.{specs.Kit.{refl, sym, ap, ap₂, ◌∙◌, true, false, List, map, append-nil, ℕ, suc, min, mod-eq_of_lt}}
 use Rattle.lists.{specs.Kit.{zero-add, add-one, arith, eqb, length, get_or, set, take, drop, replicate, length-set, drop_of_length-le, drop-cons, eq-eqb, ne_eqb}}
 use Rattle.lists.{specs.Lists.{range, same, overwrite}, proofs.Range.{length_range}, proofs.Map.{map_range_ext, length-map, map_range_get_d, map_range_constant}}
 use Rattle.lists.{proofs.Map.{map_range_id}, proofs.Overwrite.{set_map_range_end}, proofs.Parts.{take_min}}

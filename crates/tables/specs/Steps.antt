@@ -1,9 +1,10 @@
 -- The step of a link call, a signed number, added to numbers of one byte.
 --   stepped x z            the number x with the step z added: 0 where it would fall below 0, 255 where it would go above
---   step-at v z ns         the numbers ns with that of radio v stepped; as they are where there is no radio v
---   all-stepped vs z ns    the same for each radio of the list vs, one after the other
+--   step_at v z ns         the numbers ns with that of radio v stepped; as they are where there is no radio v
+--   all_stepped vs z ns    the same for each radio of the list vs, one after the other
 -- Laws are in proofs/StepLaws.antt. Definitions only.
-use Rattle.lists.specs.{Kit.{List, ℕ, suc, ◌+◌, ◌-◌, min, ℤ, pos, negsuc, get_or, set}, Facts.{folded}}
+use Rattle.std.specs.Prelude.{◌+◌, ◌-◌}
+use Rattle.lists.specs.{Kit.{List, ℕ, suc, min, ℤ, pos, negsuc, get_or, set}, Facts.{folded}}
 
 unfoldable pub stepped : (x : ℕ) → (step : ℤ) → ℕ
 stepped x (pos k) = min 255 (x + k)

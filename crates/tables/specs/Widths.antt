@@ -3,7 +3,8 @@
 --   values w f k       the first k values of the rule f, as entries of width w hold them: mod 2 ^ w
 --   written w f k d    the table d with these in front: its later entries keep their content
 -- Laws are in proofs/WidthLaws.antt. Definitions only.
-use Rattle.lists.specs.{Kit.{List, map, ℕ, ◌<◌, ◌%◌, ◌^◌}, Lists.{range, overwrite}}
+use Rattle.std.specs.Prelude.{◌<◌, ◌%◌, ◌^◌}
+use Rattle.lists.specs.{Kit.{List, map, ℕ}, Lists.{range, overwrite}}
 
 abbrev pub Below : (w : ℕ) → (rule : ℕ → ℕ) → (k : ℕ) → Type 0
 Below w f k = (i : ℕ) → i < k → f i < 2 ^ w

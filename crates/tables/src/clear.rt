@@ -8,8 +8,8 @@ use mesh::Site;
 // The refusal number: 1, 2, or 0. Accepted, links and numbers are zero after and the order is 0 to n - 1; refused, every table
 // keeps its content.
 pub fn clear(n: u32, links: &mut [u8], numbers: &mut [u8], order: &mut [u16]) -> u32
-    ensures { ClearContract n (lent links.entry numbers.entry order.entry) result
-        (lent links.exit numbers.exit order.exit) }
+    ensures { ClearContract n (lent links.old numbers.old order.old) result
+        (lent links.new numbers.new order.new) }
 {
     let number = sizes::of_tables(Site { radios: n }, links.len(), numbers.len(), order.len());
     if number != 0 {

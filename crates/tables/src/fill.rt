@@ -1,6 +1,7 @@
 // Tables of both widths, the 8-bit numbers and the 16-bit lists: filled, copied, compared, and lists written in front.
 // Nothing is refused: of what does not fit, as much is written as fits.
-ghost use Rattle.lists.specs.Kit.{◌≡◌, ℕ, min, length, take, replicate, set};
+ghost use Rattle.std.specs.Prelude.{◌≡◌};
+ghost use Rattle.lists.specs.Kit.{ℕ, min, length, take, replicate, set};
 ghost use Rattle.lists.specs.Lists.{same, overwrite};
 ghost use Rattle.tables.specs.Widths.{values};
 

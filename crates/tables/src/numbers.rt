@@ -1,5 +1,6 @@
 // The lower and the larger of two entries, an entry widened, and the numbers table as a whole.
-ghost use Rattle.lists.specs.Kit.{◌≡◌, min, max};
+ghost use Rattle.std.specs.Prelude.{◌≡◌};
+ghost use Rattle.lists.specs.Kit.{min, max};
 ghost use Rattle.mesh.specs.Connected.{greatest};
 
 // The larger of two numbers.

@@ -1,6 +1,6 @@
 // Questions 1 and 2 for every combination of tables that a public call takes. Tables come as their lengths, which may be any;
 // what comes back is the refusal number so far: 1, 2, or 0 when both questions got yes.
-ghost use Rattle.lists.specs.Kit.{◌≡◌};
+ghost use Rattle.std.specs.Prelude.{◌≡◌};
 ghost use Rattle.calls.specs.Questions.{size_good, site_lengths, tables_refusal, lent_refusal};
 ghost use Rattle.tables.specs.Sizes.{lengths};
 

@@ -1,6 +1,7 @@
 // The step of a link call, a signed number, added to the numbers of the changed radios.
 // Nothing is refused: a number stays from 0 to 255, and a listed radio past the numbers is passed over.
-ghost use Rattle.lists.specs.Kit.{◌≡◌, take};
+ghost use Rattle.std.specs.Prelude.{◌≡◌};
+ghost use Rattle.lists.specs.Kit.{take};
 ghost use Rattle.tables.specs.Steps.{stepped, step_at, all_stepped};
 
 // The number x with the step added: 0 where the sum is below 0, 255 where it is above 255.

@@ -1,0 +1,11 @@
+-- `sets::join_row` meets its contract: the words before word k are joined with the row's (`RowJoining`). The measure is the words
+-- that are left.
+use Rattle.std.specs.Prelude.{◌-◌}
+use Rattle.rows.proofs.{SetLaws.{RowJoining}}
+use Rattle.rows.proofs.sets.join_row.Given as goal
+
+abbrev pub invariant-loop-k : goal.invariant-loop-k
+invariant-loop-k l = RowJoining l.links l.a l.initial.set l.k l.set
+
+abbrev pub decreases-loop-k : goal.decreases-loop-k
+decreases-loop-k l = 8 - l.k
