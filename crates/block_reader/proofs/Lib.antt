@@ -1,7 +1,7 @@
 -- Laws of the block reader.
 -- a step
 pub mod StepLaws
--- what the walks of the reader share
-pub mod ReaderWalk
 -- the functions in cells
 pub mod Runs
+-- its functions in a linked program
+pub mod World

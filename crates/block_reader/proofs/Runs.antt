@@ -1,19 +1,19 @@
--- The functions of the block reader run, in cells: of each the routine that its code is, from the triple that is proved of it.
---   reader-held                           the reader's struct, of an image and a number
---   open-runs, step-runs, moved-runs      each runs as crate hosts says of it
---   part-stands                           after a step its part stands in the image's cells
-use denote.Slice.{shr_slice_vals}
+-- The functions of the block reader run, in cells: of each the routine that its name means in an environment that has its code, from the
+-- triple that is proved of it.
+--   reader_held                           the reader's struct, of an image and a number
+--   open_runs, step_runs, moved_runs      each runs as crate hosts says of it
+--   part_stands                           after a step its part stands in the image's cells
 use mathlib.Core.{Path.{◌≡◌, refl, ◌∙◌, ap, subst}, Logic.{∥∥₁_map}, List.{List, [], ◌∷◌}}
 use Prim.Native.Nat.{ℕ, ◌+◌, ◌*◌, ◌≤◌}
 use native.Mathlib.Omega.{arith}
 use lib.{ListN.{length, take, drop, length-drop}, Seq.{length-take-le}}
 use mir.{Syntax.{w8, w32, w64}, Val.{Val, vint, vstruct, vcons, vnil}}
-use prog.Memory.{Memory}
-use contract.{Lifetimes.{Lfts}, Running.{Running, real}, BorrowModel.{ghost₀}}
+use prog.{Memory.{Memory}, Routine.{Routine, Env}, Wired.{Wired}}
+use contract.{Lifetimes.{Lfts}, Running.{Running, within}, Closed.{model⁺, real⁺}}
 use types.Kit.{‵, ◌$◌, ◌∵◌, !, qed, by, move, fjoin}
-use denote.{Builtin.{u8, usize}, Ref.{NamedLft, ptr, now}, Signature.{named_lft}, Slice.{ShrSlice, slice-vals}, Steps.{nothing}, Struct.Rest.{own_shut}}
+use denote.{Builtin.{u8, usize}, Ref.{NamedLft}, Signature.{named_lft}, Slice.{ShrSlice, shr_slice_vals}, Steps.{nothing}, Struct.Rest.{own_shut}}
 use Rattle.machine.{specs.Cells.{unsigned, Place, place, entries, Input, pointer, passes, cells_of, span, RunAt, Stands, Ready, Ran, Runs}, proofs.Whole.{𝓥}}
-use Rattle.machine.{proofs.Rows.{A₀, W₀}, proofs.Lending.{Holder, to_read, to_read_with}, proofs.Law.{Told, in_cells_at}, proofs.Numbers.{number_row}}
+use Rattle.machine.{proofs.Rows.{W₀}, proofs.Lending.{Holder, to_read, to_read_with}, proofs.Law.{Told, in_cells_at}, proofs.Numbers.{number_row}}
 use Rattle.machine.{proofs.Numbers.{declared_told}, proofs.Again.{stands_still}, proofs.Chain.{first_entries, later_entries}}
 use Rattle.calls.specs.{CallContracts.{BlockContract}, Outcomes.{block_outcome}, declared.Block.{Block}}
 use Rattle.block_reader.specs.{Reader.{Stepped, Moved}, declared.blocks.BlockReader.{BlockReader}, declared.blocks.BlockStep.{BlockStep}}
@@ -31,8 +31,8 @@ use Rattle.block_reader.proofs.blocks.step.Met as step_proof
 use Rattle.block_reader.proofs.blocks.moved.Symbol as moved_symbol
 use Rattle.block_reader.proofs.blocks.moved.Met as moved_proof
 
-abbrev 𝓡 : Running 𝓥 Closed.H Closed.model
-𝓡 = real 𝓥 Closed.H Closed.model
+abbrev 𝓡 : Env → Running 𝓥 Closed.H model⁺
+𝓡 γ = within 𝓥 Closed.H model⁺ real⁺ γ
 
 -- ---- the structs
 
@@ -53,7 +53,7 @@ lifetime κs = named_lft 1 0 tt κs
 
 abbrev a_reader_told : Told 1
 a_reader_told = declared_told 1 (λ κs. reader.the_row (lifetime κs)) (λ κs. reader_laws.lowers (lifetime κs)) (Input a_reader)
-    (λ κs d. ((ptr d.image, now d.image), d.next)) (passes a_reader) (λ κs d. refl)
+    (λ κs d. ((d.image.ref_ptr, d.image.now), d.next)) (passes a_reader) (λ κs d. refl)
 
 -- what a step gives: where its part of the image begins, how long it is, and the numbers
 record StepGiven : Type 0 where
@@ -72,7 +72,7 @@ abbrev given_at : Place → Block → StepGiven
 given_at p o = record { place = (p.0, o.offset + p.1); length = o.length; number = o.number; end = o.end; next = o.next }
 
 abbrev step_told : BlockStep → StepGiven
-step_told s = record { place = ptr s.part; length = length (now s.part); number = s.number; end = s.end; next = s.next }
+step_told s = record { place = s.part.ref_ptr; length = length s.part.now; number = s.number; end = s.end; next = s.next }
 
 abbrev a_step_told : Told 1
 a_step_told = declared_told 1 (λ κs. step.the_row (lifetime κs)) (λ κs. step_laws.lowers (lifetime κs)) StepGiven (λ κs. step_told) given_value (λ κs s. refl)
@@ -82,42 +82,42 @@ a_step_told = declared_told 1 (λ κs. step.the_row (lifetime κs)) (λ κs. ste
 part_length : (bs : List ℕ) (at k : ℕ) → at + k ≤ length bs → length (take k (drop at bs)) ≡ k
 part_length bs at k h = length-take-le k (drop at bs) (omega (arith, h, length-drop at bs))
 
-step_is : (d : BlockReader) (s : BlockStep) → Stepped d s → step_told s ≡ given_at (ptr d.image) (block_outcome (now d.image) d.next)
+step_is : (d : BlockReader) (s : BlockStep) → Stepped d s → step_told s ≡ given_at d.image.ref_ptr (block_outcome d.image.now d.next)
 unfolding BlockContract
 step_is d s h =
     let o : Block = h.answer in
-    let l : length (now s.part) ≡ o.length =
-    ap length h.part.is ∙ part_length (now d.image) o.offset o.length (block_inside (now d.image) d.next o h.answered) in
-    let e : step_told s ≡ given_at (ptr d.image) o =
+    let l : length s.part.now ≡ o.length =
+    ap length h.part.is ∙ part_length d.image.now o.offset o.length (block_inside d.image.now d.next o h.answered) in
+    let e : step_told s ≡ given_at d.image.ref_ptr o =
     λ k. record { place = (h.part.memory k, h.part.place k); length = l k; number = h.number k; end = h.end k; next = h.next k } in
-    e ∙ ap (given_at (ptr d.image)) h.answered
+    e ∙ ap (given_at d.image.ref_ptr) h.answered
 
-moved_is : (d q : BlockReader) → Moved d q → q.next ≡ (block_outcome (now d.image) d.next).next
+moved_is : (d q : BlockReader) → Moved d q → q.next ≡ (block_outcome d.image.now d.next).next
 unfolding BlockContract
 moved_is d q h = h.next ∙ ap (λ (o : Block). o.next) h.answered
 
 -- ---- the calls
 
-pub open_runs : Runs open_symbol.routine (call reader_open)
-open_runs =
-    in_cells_at 1 (to_read 0 tt (number_row w8) ∷ []) a_reader_told open_symbol.routine (λ κs a r e. (r.image ≡ a.0) × (r.next ≡ 0)) _
-    (λ κs a r e h k. (((ptr (h.0 k), now (h.0 k)), h.1 k), tt))
-    (open_proof.met 𝓥 Closed.H Closed.model ghost₀ 𝓡)
+pub open_runs : (γ : Env) → Wired γ open_symbol.code → Runs (γ open_symbol.name) (call reader_open)
+open_runs γ wired =
+    in_cells_at 1 (to_read 0 tt (number_row w8) ∷ []) a_reader_told (γ open_symbol.name) (λ κs a r e. (r.image ≡ a.0) × (r.next ≡ 0)) _
+    (λ κs a r e h k. ((((h.0 k).ref_ptr, (h.0 k).now), h.1 k), tt))
+    (open_proof.met 𝓥 W₀ model⁺ (𝓡 γ) wired)
 
 -- by what it gives, and so by the image's place and its form for C
-given_runs : Runs step_symbol.routine (record {
+given_runs : (γ : Env) → Wired γ step_symbol.code → Runs (γ step_symbol.name) (record {
   params = a_reader ∷ [];
   Result = StepGiven;
   value = given_value;
   outcome = λ r. (given_at (place r.0) (block_outcome (entries r.0) r.1), tt);
 })
-given_runs =
-    in_cells_at 1 (to_read_with 0 tt (number_row w8) (number_row w64) reader_held ∷ []) a_step_told step_symbol.routine (λ κs a s e. Stepped a.0 s) _
+given_runs γ wired =
+    in_cells_at 1 (to_read_with 0 tt (number_row w8) (number_row w64) reader_held ∷ []) a_step_told (γ step_symbol.name) (λ κs a s e. Stepped a.0 s) _
     (λ κs a s e h k. (step_is a.0 s h k, tt))
-    (step_proof.met 𝓥 Closed.H Closed.model ghost₀ 𝓡)
+    (step_proof.met 𝓥 W₀ model⁺ (𝓡 γ) wired)
 
-pub step_runs : Runs step_symbol.routine (call reader_step)
-step_runs σ i ready = ∥∥₁_map (given_runs σ i ready) (λ h. record {
+pub step_runs : (γ : Env) → Wired γ step_symbol.code → Runs (γ step_symbol.name) (call reader_step)
+step_runs γ wired σ i ready = ∥∥₁_map (given_runs γ wired σ i ready) (λ h. record {
   steps = h.steps;
   memory = h.memory;
   returns = h.returns;
@@ -128,18 +128,18 @@ step_runs σ i ready = ∥∥₁_map (given_runs σ i ready) (λ h. record {
   blocks_kept = h.blocks_kept;
 })
 
-pub moved_runs : Runs moved_symbol.routine (call reader_moved)
-moved_runs =
-    in_cells_at 1 (to_read_with 0 tt (number_row w8) (number_row w64) reader_held ∷ []) a_reader_told moved_symbol.routine (λ κs a q e. Moved a.0 q) _
-    (λ κs a q e h k. (((ptr (h.image k), now (h.image k)), moved_is a.0 q h k), tt))
-    (moved_proof.met 𝓥 Closed.H Closed.model ghost₀ 𝓡)
+pub moved_runs : (γ : Env) → Wired γ moved_symbol.code → Runs (γ moved_symbol.name) (call reader_moved)
+moved_runs γ wired =
+    in_cells_at 1 (to_read_with 0 tt (number_row w8) (number_row w64) reader_held ∷ []) a_reader_told (γ moved_symbol.name) (λ κs a q e. Moved a.0 q) _
+    (λ κs a q e h k. ((((h.image k).ref_ptr, (h.image k).now), moved_is a.0 q h k), tt))
+    (moved_proof.met 𝓥 W₀ model⁺ (𝓡 γ) wired)
 
 -- after a step, as before it, the bytes of its part stand in the image's cells where it says: they are not copied
-pub part_stands : (σ : Memory) (r : Input a_reader) → Ready σ (call reader_step).params (r, tt)
-    → (h : Ran step_symbol.routine (call reader_step) σ (r, tt))
+pub part_stands : (ρ : Routine) (σ : Memory) (r : Input a_reader) → Ready σ (call reader_step).params (r, tt)
+    → (h : Ran ρ (call reader_step) σ (r, tt))
     → let o = block_outcome (entries r.0) r.1 in
     Stands h.memory (span (unsigned w8) ((place r.0).0, o.offset + (place r.0).1) (take o.length (drop o.offset (entries r.0))))
-part_stands σ r ready h =
+part_stands ρ σ r ready h =
     let o = block_outcome (entries r.0) r.1 in
     let p = place r.0 in
     let xs = entries r.0 in

@@ -1,8 +1,8 @@
 -- Laws of a step of the block reader.
---   part-there, part_start_none, part_start_some, part_cut   the part by its length
---   block-named      the part that an answer names lies in the image, and where
---   step-payload     a step that gives a block gives its payload
---   step_end, step-refused   the end and a refusal give an empty part
+--   part_there, part_start_none, part_start_some, part_cut   the part by its length
+--   block_named      the part that an answer names lies in the image, and where
+--   step_payload     a step that gives a block gives its payload
+--   step_end, step_refused   the end and a refusal give an empty part
 use mathlib.Core.{Path.{◌≡◌, refl, sym, ap, ap₂, subst, ◌∙◌}, Logic.{inl, inr}, Bool.{Bool, true, false}, List.{List, []}}
 use Prim.Native.Nat.{ℕ, zero, suc, ◌+◌, ◌*◌, ◌-◌, ◌/◌, ◌≤◌, ◌<◌}
 use native.Mathlib.Omega.{arith}

@@ -1,6 +1,6 @@
 -- A step of the block reader, beside its form for C: a struct that holds the image, and the payload as a part of the image.
 --   PartThere  the image has the payload of block i, or no bytes of it are asked for
---   part-start  where such a part lies
+--   part_start  where such a part lies
 --   PartOf     a part of the image, and where it lies
 --   Stepped     what a step gives
 --   Moved       the reader after a step

@@ -52,14 +52,14 @@ fn payload(image: &[u8], i: usize, length: usize) -> &[u8]
 }
 
 // A reader of blocks: the image, and the number of the next block.
-#[derive(Drop)]
+#[derive(Clone, Copy)]
 pub struct BlockReader<'a> {
     pub image: &'a [u8],
     pub next: usize,
 }
 
 // What a step gives: the block's payload, the refusal number, 1 at the end, and the number of the next block.
-#[derive(Drop)]
+#[derive(Clone, Copy)]
 pub struct BlockStep<'a> {
     pub part: &'a [u8],
     pub number: u32,

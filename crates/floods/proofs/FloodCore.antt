@@ -1,9 +1,10 @@
 -- On sound tables a flood over the radios of a level takes in the connected core.
---   level-radios               the set of a level has the radios with at least its number, and nothing else
---   spread-core, core-spread   what the flood spreads to is the connected core, where the set has all of it and none below the level
---   member-flood               the radios that came in are the connected core
---   left-flood                 the set has the connected core no more
-use Rattle.lists.{specs.Kit.{◌≡◌, sym, ap, ◌∙◌, ◌⊎◌, inl, inr, Bool, true, false, ◌&&◌, not, List, ℕ, ◌≤◌, ◌<◌, arith, ltb, leb, length, take, lt-ltb, le-ltb}}
+--   level_radios               the set of a level has the radios with at least its number, and nothing else
+--   spread_core, core_spread   what the flood spreads to is the connected core, where the set has all of it and none below the level
+--   member_flood               the radios that came in are the connected core
+--   left_flood                 the set has the connected core no more
+use Rattle.std.specs.Prelude.{◌≡◌, ◌⊎◌, ◌&&◌, ◌≤◌, ◌<◌}
+use Rattle.lists.{specs.Kit.{sym, ap, ◌∙◌, inl, inr, Bool, true, false, not, List, ℕ, arith, ltb, leb, length, take, lt-ltb, le-ltb}}
 use Rattle.lists.{specs.Kit.{ltb-true, ltb-false}, specs.Lists.{member}, proofs.Tests.{bool_cases, iff_eq}, proofs.Member.{member_in}}
 use Rattle.mesh.{specs.Limits.{max_radios}, specs.Graph.{Graph}, specs.Cores.{number}, specs.Tables.{Tables, graph_in}, specs.Connected.{Reachable, here}}
 use Rattle.mesh.{specs.Connected.{onward, at_least, InCore, core_of}, proofs.Trees.Reach.{reachable_below, core_of_iff}}

@@ -1,8 +1,9 @@
 -- The flood's invariant: what came in is what the flood spreads to over the radios done so far.
 -- In order: a layer, the queue after it, the start, the end.
-use Rattle.lists.{specs.Kit.{◌≡◌, refl, sym, ap, ◌∙◌, ◌⊎◌, inl, inr, Bool, true, false, ◌&&◌, ◌||◌, not, cond, List, [], ◌∷◌, ◌++◌, ℕ, ◌+◌, ◌≤◌, ◌<◌, arith}}
+use Rattle.std.specs.Prelude.{◌≡◌, ◌⊎◌, ◌&&◌, ◌||◌, ◌∷◌, ◌++◌, ◌+◌, ◌≤◌, ◌<◌}
+use Rattle.lists.{specs.Kit.{refl, sym, ap, ◌∙◌, inl, inr, Bool, true, false, not, cond, List, [], ℕ, arith}}
 use Rattle.lists.{specs.Kit.{ltb, eqb, length, get_or, take, drop, set, length-append, length-set, List·getD-append, sets, sets-eq, length-sets, length-take-le}}
-use Rattle.lists.{specs.Kit.{take_at, take-suc-set, get_or-take, ltb-true, ltb-false}, specs.Lists.{range, count, member, In}, specs.Facts.{Distinct}}
+use Rattle.lists.{specs.Kit.{take_at, take-suc-set, get_or-take, ltb-true, ltb-false}, specs.Lists.{range, member, In}, specs.Facts.{Distinct}}
 use Rattle.lists.{proofs.Tests.{bool_cases, never, and_left, and_right, and_both}, proofs.Member.{member_append, in_left, in_right, in_cases, member_in}}
 use Rattle.lists.{proofs.Member.{in_member, in_get_d, get_d_of_in}, proofs.Range.{in_range, length_range, distinct_range}, proofs.Filter.{in_filter, filter_in}}
 use Rattle.lists.{proofs.Filter.{distinct_filter}, proofs.Distinct.{distinct_one, length_sub}}
@@ -205,9 +206,11 @@ module _ (ts : List ℕ) (v : ℕ) (old : List ℕ) where
       }
     where
       below : (w : ℕ) → In w (v ∷ []) → w < max_radios
+      below w (inr x') = elim x' [ ]
       below w (inl e) = rw (← e) lv
 
       spread : (w : ℕ) → In w (v ∷ []) → Spreads w
+      spread w (inr x') = elim x' [ ]
       spread w (inl e) = rw (← e) start
 
       bit : (a b : Bool) → cond a false b ≡ (b && not (a || false))

@@ -1,5 +1,6 @@
 -- The flood's steps as the code has them: rows joined, a layer.
-use Rattle.lists.specs.Kit.{◌≡◌, sym, ap, ◌∙◌, ◌⊎◌, inl, inr, true, false, List, ℕ, ◌+◌, ◌-◌, ◌≤◌, arith, eqb, length, get_or, replicate, eqb-true, eqb-false}
+use Rattle.std.specs.Prelude.{◌≡◌, ◌⊎◌, ◌+◌, ◌-◌, ◌≤◌}
+use Rattle.lists.specs.Kit.{sym, ap, ◌∙◌, inl, inr, true, false, List, ℕ, arith, eqb, length, get_or, replicate, eqb-true, eqb-false}
 use Rattle.lists.specs.Kit.{⊎_elim}
 use Rattle.lists.{specs.Lists.{member}, proofs.Overwrite.{sets_front}, proofs.Tests.{bool_cases, never, or_cases, or_left, or_right}}
 use borrow.Rule.Slice.PartMut.{mid_of, put_mid, mid_len}

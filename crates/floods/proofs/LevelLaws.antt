@@ -1,5 +1,6 @@
 -- The radios of a level as words: a bit more in a word, and a word more in the set.
-use Rattle.lists.{specs.Kit.{◌≡◌, refl, ap, ◌∙◌, ◌⊎◌, inl, inr, Bool, true, false, ◌&&◌, ◌||◌, cond, List, ℕ, ◌+◌, ◌*◌, ◌-◌, ◌/◌, ◌%◌, ◌^◌, ◌≤◌, ◌<◌, min}}
+use Rattle.std.specs.Prelude.{◌≡◌, ◌⊎◌, ◌&&◌, ◌||◌, ◌+◌, ◌*◌, ◌-◌, ◌/◌, ◌%◌, ◌^◌, ◌≤◌, ◌<◌}
+use Rattle.lists.{specs.Kit.{refl, ap, ◌∙◌, inl, inr, Bool, true, false, cond, List, ℕ, min}}
 use Rattle.lists.{specs.Kit.{arith, one-mul, mod-eq_of_lt, bit_or, or_zero_r, ltb, leb, eqb, length, get_or, set, length-set, get_or-set_same, get_or-set_other}}
 use Rattle.lists.{specs.Kit.{ltb-true, lt-ltb, le-ltb, eqb-true, eqb-false}, proofs.Tests.{bool_cases, iff_eq}}
 use lib.Pow.{pow-lt}

@@ -5,3 +5,5 @@ pub mod LevelLaws
 pub mod FloodSteps
 pub mod FloodLaws
 pub mod FloodCore
+-- its functions in a linked program
+pub mod World

@@ -9,7 +9,8 @@
 --   FloodDone             what the flood leaves
 -- That on sound tables the radios that come in are the connected core is `member_flood` in proofs/FloodCore.antt.
 -- Definitions only.
-use Rattle.lists.specs.{Kit.{◌≡◌, ◌↔◌, ◌⊎◌, Bool, true, ◌&&◌, not, List, ℕ, ◌+◌, ◌-◌, ◌≤◌, ◌<◌, min, ltb, leb, eqb, length, get_or, take, sets}, Lists.{count}}
+use Rattle.std.specs.Prelude.{◌≡◌, ◌↔◌, ◌⊎◌, ◌&&◌, ◌+◌, ◌-◌, ◌≤◌, ◌<◌}
+use Rattle.lists.specs.{Kit.{Bool, true, not, List, ℕ, min, ltb, leb, eqb, length, get_or, take, sets}, Lists.{count}}
 use Rattle.lists.specs.{Lists.{member}}
 use Rattle.mesh.specs.{Limits.{max_radios}, Tables.{digit}}
 use Rattle.rows.specs.{Rows.{row_listed}, Sets.{in_set, common}}

@@ -1,6 +1,7 @@
 // The flood: from a radio, over radios of a set. Whom it reaches leaves the set. No recursion: it goes by layers, breadth first. The rows
 // of the radios that came in last are joined by words, and what the set has of them comes in next.
-ghost use Rattle.lists.specs.Kit.{◌≡◌, ◌≤◌, length};
+ghost use Rattle.std.specs.Prelude.{◌≡◌, ◌≤◌};
+ghost use Rattle.lists.specs.Kit.{length};
 ghost use Rattle.mesh.specs.Limits.{max_radios};
 ghost use Rattle.floods.specs.Floods.{flood_at, RowsJoined, LayerTaken, Floodable, FloodDone};
 

@@ -1,5 +1,6 @@
 // The radios whose number is at least a level, as a set of eight words: over whom a flood at the level goes.
-ghost use Rattle.lists.specs.Kit.{◌≡◌, ◌≤◌, length};
+ghost use Rattle.std.specs.Prelude.{◌≡◌, ◌≤◌};
+ghost use Rattle.lists.specs.Kit.{length};
 ghost use Rattle.mesh.specs.Limits.{max_radios};
 ghost use Rattle.floods.specs.Floods.{LevelWord, LevelSet};
 

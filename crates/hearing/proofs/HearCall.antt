@@ -1,5 +1,6 @@
 -- A hearing meets its contract, on plain values: both phases, the call.
-use Rattle.lists.{specs.Kit.{◌≡◌, refl, sym, ap, ◌∙◌, Bool, true, false, ◌&&◌, not, List, ℕ, ◌*◌, arith, eqb, length, eqb-true}}
+use Rattle.std.specs.Prelude.{◌≡◌, ◌&&◌, ◌*◌}
+use Rattle.lists.{specs.Kit.{refl, sym, ap, ◌∙◌, Bool, true, false, not, List, ℕ, arith, eqb, length, eqb-true}}
 use Rattle.lists.{proofs.Tests.{and_left, and_right}}
 use Rattle.mesh.specs.{Limits.{max_radios, max_neighbours, row_bytes}, Tables.{Tables, marked}, Sound.{sound, within, irreflexive}}
 use Rattle.calls.{specs.Questions.{lengths_of}, specs.Heard.{agreed, agreed_few, heard_proper, heard_lengths, hear_refusal, goes_down, comes_up}}

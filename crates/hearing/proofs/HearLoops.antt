@@ -1,5 +1,6 @@
 -- The loops of a hearing, on plain values: the links of a row, and the rows of a phase.
-use Rattle.lists.{specs.Kit.{◌≡◌, refl, sym, ap, subst, ◌∙◌, Bool, true, false, ◌&&◌, not, cond, List, ◌∷◌, ℕ, suc, ◌+◌, ◌*◌, ◌-◌, ◌≤◌, ◌<◌, arith, add-one}}
+use Rattle.std.specs.Prelude.{◌≡◌, ◌&&◌, ◌∷◌, ◌+◌, ◌*◌, ◌-◌, ◌≤◌, ◌<◌}
+use Rattle.lists.{specs.Kit.{refl, sym, ap, subst, ◌∙◌, Bool, true, false, not, cond, List, ℕ, suc, arith, add-one}}
 use Rattle.lists.{specs.Kit.{leb}}
 use Rattle.lists.{specs.Kit.{length, get_or, take, drop, drop_of_length-le, drop-cons, length-take-le, leb-true}, specs.Lists.{range, count, filter, In}}
 use Rattle.lists.{proofs.Tests.{and_left, and_right}, proofs.Count.{count_mono, count_append}, proofs.Range.{range_in, range_append}, proofs.All.{all_below}}

@@ -5,7 +5,8 @@
 --   RowsSwitched   all rows are done
 --   Brought         both phases are done
 -- Definitions only.
-use Rattle.lists.specs.Kit.{◌≡◌, Bool, true, false, ◌&&◌, not, cond, List, ℕ, suc, ◌<◌}
+use Rattle.std.specs.Prelude.{◌≡◌, ◌&&◌, ◌<◌}
+use Rattle.lists.specs.Kit.{Bool, true, false, not, cond, List, ℕ, suc}
 use Rattle.mesh.specs.{Limits.{max_neighbours}, Tables.{Tables}}
 use Rattle.calls.specs.{Heard.{agreed, agreed_few, one_sided}, Hearing.{Phase, RowsLeft, RowLeft}}
 use Rattle.conditions.specs.Hearing.{OfSize}

@@ -1,5 +1,6 @@
 // A hearing: the site brought to the links that both ends hear, as if by single calls. The tables are checked once.
-ghost use Rattle.lists.specs.Kit.{◌≡◌, ◌≤◌, length};
+ghost use Rattle.std.specs.Prelude.{◌≡◌, ◌≤◌};
+ghost use Rattle.lists.specs.Kit.{length};
 ghost use Rattle.mesh.specs.Limits.{max_radios};
 ghost use Rattle.mesh.specs.Lent.{lent};
 ghost use Rattle.calls.specs.CallContracts.{HearContract};
@@ -23,9 +24,9 @@ fn switch_row(
     places: &mut [u16; Site::RADIOS as usize],
     not_lower: &mut [u8; Site::RADIOS as usize],
 )
-    requires { Prepared n (lent links numbers order) places.old not_lower.old × (length list.now ≤ max_radios) }
-    ensures { RowSwitched up n a list.now (lent links.entry numbers.entry order.entry)
-        (lent links.exit numbers.exit order.exit) places.new not_lower.new }
+    requires { Prepared n (lent links.old numbers.old order.old) places.old not_lower.old × (length list.now ≤ max_radios) }
+    ensures { RowSwitched up n a list.now (lent links.old numbers.old order.old)
+        (lent links.new numbers.new order.new) places.new not_lower.new }
 {
     let mut i: usize = 0;
     while i < list.len() {
@@ -57,9 +58,9 @@ fn switch_rows<'a>(
     places: &mut [u16; Site::RADIOS as usize],
     not_lower: &mut [u8; Site::RADIOS as usize],
 )
-    requires { Prepared n (lent links numbers order) places.old not_lower.old × MarkedHearing n heard.now one_sided.now }
-    ensures { RowsSwitched up n heard.now (lent links.entry numbers.entry order.entry)
-        (lent links.exit numbers.exit order.exit) places.new not_lower.new }
+    requires { Prepared n (lent links.old numbers.old order.old) places.old not_lower.old × MarkedHearing n heard.now one_sided.now }
+    ensures { RowsSwitched up n heard.now (lent links.old numbers.old order.old)
+        (lent links.new numbers.new order.new) places.new not_lower.new }
 {
     let mut list = [0u16; Site::NEIGHBOURS as usize + 1];
     let mut a: u32 = 0;
@@ -91,9 +92,9 @@ fn bring<'a>(
     places: &mut [u16; Site::RADIOS as usize],
     not_lower: &mut [u8; Site::RADIOS as usize],
 )
-    requires { Prepared n (lent links numbers order) places.old not_lower.old × MarkedHearing n heard.now one_sided.now }
-    ensures { Brought n heard.now (lent links.entry numbers.entry order.entry)
-        (lent links.exit numbers.exit order.exit) }
+    requires { Prepared n (lent links.old numbers.old order.old) places.old not_lower.old × MarkedHearing n heard.now one_sided.now }
+    ensures { Brought n heard.now (lent links.old numbers.old order.old)
+        (lent links.new numbers.new order.new) }
 {
     switch_rows(
         false, n, heard, one_sided, links, numbers, order, places, not_lower,
@@ -114,8 +115,8 @@ pub fn hear(
     heard: &[u8],
     one_sided: &mut [u8],
 ) -> Value
-    ensures { HearContract n heard.now (lent links.entry numbers.entry order.entry) one_sided.old result
-        (lent links.exit numbers.exit order.exit) one_sided.new }
+    ensures { HearContract n heard.now (lent links.old numbers.old order.old) one_sided.old result
+        (lent links.new numbers.new order.new) one_sided.new }
 {
     let mut places = [0u16; Site::RADIOS as usize];
     let mut not_lower = [0u8; Site::RADIOS as usize];

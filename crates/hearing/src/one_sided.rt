@@ -1,5 +1,6 @@
 // The one-sided pairs of a heard table: a hears b, and b does not hear a. The table is only read, word by word.
-ghost use Rattle.lists.specs.Kit.{◌+◌, ◌*◌, ◌≤◌, length};
+ghost use Rattle.std.specs.Prelude.{◌+◌, ◌*◌, ◌≤◌};
+ghost use Rattle.lists.specs.Kit.{length};
 ghost use Rattle.mesh.specs.Limits.{max_radios, row_bytes};
 ghost use Rattle.rows.specs.Rows.{neighbours_of, set_bits};
 ghost use Rattle.conditions.specs.Hearing.{OfSize, PairMarked, RowMarked, OneSidedMarked};

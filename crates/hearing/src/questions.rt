@@ -1,5 +1,6 @@
 // Questions 14 and 7 of a heard table. The table is only read, word by word.
-ghost use Rattle.lists.specs.Kit.{◌≡◌, ℕ, ◌+◌, ◌*◌, ◌≤◌, ◌<◌, leb, length};
+ghost use Rattle.std.specs.Prelude.{◌≡◌, ◌+◌, ◌*◌, ◌≤◌, ◌<◌};
+ghost use Rattle.lists.specs.Kit.{ℕ, leb, length};
 ghost use Rattle.mesh.specs.Limits.{max_radios, max_neighbours, row_bytes};
 ghost use Rattle.lists.specs.Lists.{count};
 ghost use Rattle.rows.specs.Rows.{neighbours_of, set_bits};

@@ -1,6 +1,7 @@
 // The links of a row that are to go down, or to come up, for the site to have the agreed links of a heard table. The tables are only read,
 // word by word.
-ghost use Rattle.lists.specs.Kit.{◌≡◌, ℕ, ◌+◌, ◌*◌, ◌≤◌, ◌<◌, ltb, length};
+ghost use Rattle.std.specs.Prelude.{◌≡◌, ◌+◌, ◌*◌, ◌≤◌, ◌<◌};
+ghost use Rattle.lists.specs.Kit.{ℕ, ltb, length};
 ghost use Rattle.mesh.specs.Limits.{max_radios, row_bytes};
 ghost use Rattle.mesh.specs.Tables.{digit};
 ghost use Rattle.lists.specs.Lists.{filter};

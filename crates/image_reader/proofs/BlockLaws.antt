@@ -1,5 +1,6 @@
 -- Laws of the blocks of links: where a block's links stand, and how many links the blocks so far have.
-use Rattle.lists.specs.Kit.{◌≡◌, ap, ◌∙◌, List, ℕ, ◌+◌, ◌*◌, ◌-◌, ◌/◌, ◌%◌, ◌≤◌, ◌<◌, min, arith}
+use Rattle.std.specs.Prelude.{◌≡◌, ◌+◌, ◌*◌, ◌-◌, ◌/◌, ◌%◌, ◌≤◌, ◌<◌}
+use Rattle.lists.specs.Kit.{ap, ◌∙◌, List, ℕ, min, arith}
 use Rattle.mesh.specs.Image.{block_bytes, block_links, order_blocks, blocks_for, block_count, word_at, entry_at, image_link}
 use Rattle.image_reader.specs.Site.{LinkAt, passed, PartIs}
 

@@ -1,6 +1,7 @@
 -- Laws of the counts over a block's links, whose two halves go side by side.
 -- In order: a block to be counted, a link of it, the link after the first half's or the second half's, both halves together, the end.
-use Rattle.lists.specs.Kit.{◌≡◌, refl, List, ℕ, ◌+◌, ◌*◌, ◌≤◌, ◌<◌, arith, length}
+use Rattle.std.specs.Prelude.{◌≡◌, ◌+◌, ◌*◌, ◌≤◌, ◌<◌}
+use Rattle.lists.specs.Kit.{refl, List, ℕ, arith, length}
 use Rattle.mesh.specs.Image.{block_links, word_at}
 use Rattle.image_reader.specs.Site.{links_up_to, passed, Tallied, count_at, LinkThere, TallyRoom, PartIs}
 use Rattle.image_reader.proofs.{BlockLaws.{link_in, link_inside, link_index, block_passed}, TallyLaws.{Tallying, ListedLink, listed_link, link_fits}}

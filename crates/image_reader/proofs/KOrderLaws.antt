@@ -1,5 +1,6 @@
 -- What the counts over an image's links decide: degrees within the limit, and whether its order is a k-order.
-use Rattle.lists.{specs.Kit.{◌≡◌, refl, sym, ap, ◌∙◌, ◌↔◌, Bool, true, false, ◌&&◌, List, [], map, ℕ, suc, ◌+◌, ◌≤◌, ◌<◌, min, arith, add-zero, ltb, leb}}
+use Rattle.std.specs.Prelude.{◌≡◌, ◌↔◌, ◌&&◌, ◌+◌, ◌≤◌, ◌<◌}
+use Rattle.lists.{specs.Kit.{refl, sym, ap, ◌∙◌, Bool, true, false, List, [], map, ℕ, suc, min, arith, add-zero, ltb, leb}}
 use Rattle.lists.{specs.Kit.{length, get_or, drop, leb-true, le-leb}, specs.Lists.{range, count, all}, specs.Facts.{EachOnce}, proofs.Tests.{never, iff_eq}}
 use Rattle.lists.{proofs.Tests.{ltb_next}, proofs.Member.{in_get_d}, proofs.Count.{count_all, count_cong}, proofs.All.{all_below, below_all, all_range_ext}}
 use Rattle.lists.{proofs.Range.{once_below, once_length}}

@@ -22,3 +22,5 @@ pub mod MaximaLaws
 pub mod KOrderLaws
 -- the parts together
 pub mod SoundLaws
+-- its functions in a linked program
+pub mod World

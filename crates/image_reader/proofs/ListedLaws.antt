@@ -1,6 +1,7 @@
 -- Laws of the links and of the order that the reader goes through: a link after the last one, one more link, the end; entries.
-use Rattle.lists.{specs.Kit.{◌≡◌, refl, sym, ap, subst, ◌∙◌, ◌⊎◌, inl, inr, Bool, true, false, ◌&&◌, ◌||◌, List, [], ◌∷◌, map, ℕ, suc, ◌+◌, ◌*◌, ◌-◌, ◌/◌, ◌%◌}}
-use Rattle.lists.{specs.Kit.{◌<◌, arith, ltb, eqb, length, get_or, set, ext_get_or, get_or-set_same, get_or-set_other, ltb-true, lt-ltb, le-ltb, eq-eqb, ne_eqb}}
+use Rattle.std.specs.Prelude.{◌≡◌, ◌⊎◌, ◌&&◌, ◌||◌, ◌∷◌, ◌+◌, ◌*◌, ◌-◌, ◌/◌, ◌%◌, ◌<◌}
+use Rattle.lists.{specs.Kit.{refl, sym, ap, subst, ◌∙◌, inl, inr, Bool, true, false, List, [], map, ℕ, suc}}
+use Rattle.lists.{specs.Kit.{arith, ltb, eqb, length, get_or, set, ext_get_or, get_or-set_same, get_or-set_other, ltb-true, lt-ltb, le-ltb, eq-eqb, ne_eqb}}
 use Rattle.lists.{specs.Lists.{range}, proofs.Tests.{bool_cases, trichotomy}, proofs.Map.{get_d_map_range}}
 use Rattle.mesh.{specs.Graph.{Link, link_of, link_before, proper, ascending}, specs.Image.{block_bytes, block_entries, word_at, entry_at, image_link}}
 use Rattle.mesh.{specs.Image.{image_order}, proofs.Tables.AscendingLinks.{link_eq}, proofs.Images.Canonical.{length_image_order}}

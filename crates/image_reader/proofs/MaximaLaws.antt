@@ -1,5 +1,6 @@
 -- Running maxima along an order: the loop that writes them, and that over the later-neighbour counts they are `running_maxima`.
-use Rattle.lists.{specs.Kit.{◌≡◌, refl, sym, ap, ap₂, subst, ◌∙◌, inl, Bool, true, List, [], ◌∷◌, ◌++◌, map, append_assoc, append-nil, ℕ, suc, ◌+◌, ◌≤◌, ◌<◌}}
+use Rattle.std.specs.Prelude.{◌≡◌, ◌∷◌, ◌++◌, ◌+◌, ◌≤◌, ◌<◌}
+use Rattle.lists.{specs.Kit.{refl, sym, ap, ap₂, subst, ◌∙◌, inl, Bool, true, List, [], map, append_assoc, append-nil, ℕ, suc}}
 use Rattle.lists.{specs.Kit.{max, arith, add-one, length, get_or, take, drop, set, length-set, take-append-drop, take-suc, drop-cons, drop-length, get_or-set_same}}
 use Rattle.lists.{specs.Kit.{get_or-set_other}, specs.Lists.{count, In}, proofs.Distinct.{distinct_apart}, proofs.Range.{once_distinct, once_below}}
 use Rattle.lists.{proofs.Member.{in_get_d}, proofs.Map.{map_append, map_ext}}

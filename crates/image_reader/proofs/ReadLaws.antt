@@ -1,5 +1,6 @@
 -- The outcomes of reading and of asking an image alone: the first question that gets no, or the tables of the image.
-use Rattle.lists.specs.Kit.{◌≡◌, refl, sym, ap, ◌∙◌, Bool, true, false, ◌&&◌, List, ℕ, ◌*◌, ◌≤◌, length}
+use Rattle.std.specs.Prelude.{◌≡◌, ◌&&◌, ◌*◌, ◌≤◌}
+use Rattle.lists.specs.Kit.{refl, sym, ap, ◌∙◌, Bool, true, false, List, ℕ, length}
 use Rattle.mesh.{specs.Limits.{max_radios, row_bytes, size_good}, specs.Tables.{Tables}, specs.Image.{word_at}, proofs.Sizes.{size_good_true, true_size_good}}
 use Rattle.calls.{specs.Questions.{ask, Lengths, lengths_of, site_lengths, lent_refusal, tables_refusal, image_refusal, read_refusal}}
 use Rattle.calls.{specs.Outcomes.{read_outcome}, specs.CallContracts.{ReadContract}, proofs.ContractLaws.{by_refused}, proofs.QuestionLaws.{ask_yes}}

@@ -1,5 +1,6 @@
 -- What the parts of question 11 come to, and the tables that reading writes.
-use Rattle.lists.{specs.Kit.{◌≡◌, refl, sym, ap, subst, ◌∙◌, ◌⊎◌, inl, inr, Bool, true, false, ◌&&◌, List, ℕ, ◌*◌, ◌≤◌, ◌<◌, arith, eqb, length, get_or, take}}
+use Rattle.std.specs.Prelude.{◌≡◌, ◌⊎◌, ◌&&◌, ◌*◌, ◌≤◌, ◌<◌}
+use Rattle.lists.{specs.Kit.{refl, sym, ap, subst, ◌∙◌, inl, inr, Bool, true, false, List, ℕ, arith, eqb, length, get_or, take}}
 use Rattle.lists.{specs.Kit.{ext_get_or, eqb-true}, specs.Lists.{overwrite}, specs.Facts.{Bytes}, proofs.Tests.{bool_cases, never, iff_eq, and_left, and_right}}
 use Rattle.lists.{proofs.Tests.{and_both}, proofs.Map.{get_d_map_range}, proofs.Overwrite.{overwrite_take}}
 use Rattle.mesh.{specs.Limits.{max_radios, max_neighbours}, specs.Graph.{Link, Graph, graph, proper, ascending}, specs.Cores.{number, numbers}}

@@ -1,5 +1,6 @@
 -- What the parts of the question come to: links listed well, degrees within the limit, a k-order.
-use Rattle.lists.{specs.Kit.{◌≡◌, refl, sym, ap, ◌∙◌, Bool, true, false, ◌&&◌, List, ℕ, ◌+◌, ◌*◌, ◌≤◌, arith}, proofs.Tests.{never, and_left, and_right}}
+use Rattle.std.specs.Prelude.{◌≡◌, ◌&&◌, ◌+◌, ◌*◌, ◌≤◌}
+use Rattle.lists.{specs.Kit.{refl, sym, ap, ◌∙◌, Bool, true, false, List, ℕ, arith}, proofs.Tests.{never, and_left, and_right}}
 use Rattle.mesh.specs.{Limits.{max_neighbours}, Graph.{Link, graph, proper, ascending}, Orders.{is_k_order}, Image.{block_bytes, order_blocks, block_count}}
 use Rattle.mesh.specs.{Image.{image_order}}
 use Rattle.image_reader.specs.Site.{links_up_to, few_ends, KOrderDecided, SoundDecided, SiteDecided}

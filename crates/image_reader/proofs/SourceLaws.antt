@@ -1,11 +1,12 @@
 -- Questions 15 and 11 from the n that the header says.
---   found_none, found-other, found-this   what the two questions give, by whether the bytes are an image of the header's n
---   header-stops                          the number of the header is the image's
---   header-passes                         where it is 0, 9 and 10 got yes and the header says a size
---   opened-blocks, opened_no_size, opened-size   opening's three outcomes
---   source-none, source-other, source-this   the decision's three outcomes
---   source-refused, source-accepted       the tables after
-use Rattle.lists.{specs.Kit.{◌≡◌, refl, sym, ap, subst, ◌∙◌, ◌⊎◌, inl, inr, Bool, true, false, ◌&&◌, not, List, ℕ, zero, suc, ◌%◌, ◌≤◌, arith, eqb, length}}
+--   found_none, found_other, found_this   what the two questions give, by whether the bytes are an image of the header's n
+--   header_stops                          the number of the header is the image's
+--   header_passes                         where it is 0, 9 and 10 got yes and the header says a size
+--   opened_blocks, opened_no_size, opened_size   opening's three outcomes
+--   source_none, source_other, source_this   the decision's three outcomes
+--   source_refused, source_accepted       the tables after
+use Rattle.std.specs.Prelude.{◌≡◌, ◌⊎◌, ◌&&◌, ◌%◌, ◌≤◌}
+use Rattle.lists.{specs.Kit.{refl, sym, ap, subst, ◌∙◌, inl, inr, Bool, true, false, not, List, ℕ, zero, suc, arith, eqb, length}}
 use Rattle.lists.{specs.Kit.{eq-eqb, ne_eqb, eqb-true}, proofs.Tests.{bool_cases, never, and_right, and_both}}
 use Rattle.mesh.{specs.Limits.{size_good}, specs.Tables.{Tables, tables_of}, specs.Image.{block_bytes, word_at, image_graph, image_order, whole_blocks}}
 use Rattle.mesh.{specs.Image.{checks_good, is_image, other_size}, proofs.Sizes.{size_good_true}, proofs.Images.Sites.{is_image_radios}}

@@ -1,5 +1,6 @@
 -- The links table, link by link: marking one link more.
-use Rattle.lists.specs.{Kit.{◌≡◌, refl, sym, ap, ◌∙◌, Bool, true, false, ◌||◌, cond, List, [], ◌∷◌, ◌++◌, ℕ, ◌+◌, ◌*◌, ◌/◌, ◌%◌, ◌^◌, ◌≤◌, ◌<◌, arith, bit_or}}
+use Rattle.std.specs.Prelude.{◌≡◌, ◌||◌, ◌∷◌, ◌++◌, ◌+◌, ◌*◌, ◌/◌, ◌%◌, ◌^◌, ◌≤◌, ◌<◌}
+use Rattle.lists.specs.{Kit.{refl, sym, ap, ◌∙◌, Bool, true, false, cond, List, [], ℕ, arith, bit_or}}
 use Rattle.lists.specs.{Kit.{length, get_or, set, replicate}, Lists.{range, member}}
 use Rattle.mesh.{specs.Limits.{max_radios, row_bytes}, specs.Graph.{Link, link_of, graph, other_ends, linked, proper}, specs.Tables.{put_bit, put_link}}
 use Rattle.mesh.{specs.Tables.{links_table}, specs.Image.{image_link}, proofs.GraphLaws.{ends, joins, linked_by, linked_by_cons}}

@@ -1,6 +1,7 @@
 -- Laws of the counts over an image's links: links in a row, one link counted, and the loop that counts two runs of links.
-use Rattle.lists.{specs.Kit.{◌≡◌, refl, sym, ap, ap₂, subst, ◌∙◌, ◌⊎◌, inl, inr, Bool, true, false, ◌&&◌, cond, List, [], ◌∷◌, ◌++◌, map, ℕ, zero, suc, ◌+◌}}
-use Rattle.lists.{specs.Kit.{◌≤◌, ◌<◌, arith, ltb, eqb, length, get_or, set, replicate, length-set, get_or-replicate, get_or-set_same, get_or-set_other, ltb-true}}
+use Rattle.std.specs.Prelude.{◌≡◌, ◌⊎◌, ◌&&◌, ◌∷◌, ◌++◌, ◌+◌, ◌≤◌, ◌<◌}
+use Rattle.lists.{specs.Kit.{refl, sym, ap, ap₂, subst, ◌∙◌, inl, inr, Bool, true, false, cond, List, [], map, ℕ, zero, suc}}
+use Rattle.lists.{specs.Kit.{arith, ltb, eqb, length, get_or, set, replicate, length-set, get_or-replicate, get_or-set_same, get_or-set_other, ltb-true}}
 use Rattle.lists.{specs.Kit.{eqb-true, eqb-false, eq-eqb, ne_eqb}, specs.Lists.{range, count}, proofs.Tests.{bool_cases, and_left, and_right}}
 use Rattle.lists.{proofs.Count.{count_append, count_le_length}, proofs.Range.{range_append, length_range}, proofs.Map.{map_append, length-map}}
 use Rattle.mesh.{specs.Graph.{Link, link_of, other_ends, proper}, specs.Image.{image_link}, proofs.Tables.AscendingLinks.{link_eq}}

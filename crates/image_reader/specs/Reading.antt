@@ -1,13 +1,14 @@
 -- The reader's questions about an image. An image says its n in its header, so the header's n is the only one to be tried.
---   alone-refusal      1, 9, 10, 15, 11
---   header-refusal     9, 10, and 11 where the header says no size
+--   alone_refusal      1, 9, 10, 15, 11
+--   header_refusal     9, 10, and 11 where the header says no size
 --   OpenedAs          the header's number, and what it says
 --   ImageRoom         what deciding question 11 wants
 --   ImageDecided      whether the bytes are an image of n radios, and then its order and its numbers
 --   SourceRoom        what deciding questions 15 and 11 wants
 --   SourceDecided     15, 11 or 0, and then the order and the numbers
 -- Definitions only.
-use Rattle.lists.specs.Kit.{◌≡◌, Bool, true, List, ℕ, ◌≤◌, ◌<◌, get_or}
+use Rattle.std.specs.Prelude.{◌≡◌, ◌≤◌, ◌<◌}
+use Rattle.lists.specs.Kit.{Bool, true, List, ℕ, get_or}
 use Rattle.mesh.specs.{Limits.{max_radios, size_good}, Cores.{number}, Image.{word_at, image_order, image_graph, checks_good, is_image}}
 use Rattle.calls.specs.{Questions.{ask, blocks_refusal, image_refusal}, Chains.{source_refusal}}
 use Rattle.image.specs.Header.{HeaderOf}

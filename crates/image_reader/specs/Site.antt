@@ -1,20 +1,20 @@
 -- The links and the order that an image lists, as they are read in place: bs is the image.
 --   links_up_to n bs m           the first m links of the image bs of n radios
---   order-entry bs j             entry j of the order of the image bs
+--   order_entry bs j             entry j of the order of the image bs
 --   LinkAt                      a-b is link j of the image of n radios
 --   passed m q                   how many of m links stand in the first q blocks of links
 --   key_of x                     the key of a link whose four bytes are the number x: 65536 times the lower radio, and the higher one
---   key-link k                   the link with the key k
---   next-key n p k               the link with the key k is proper and stands after the one with the key p
---   listed-from n p ls           the links ls are proper and stand ascending after p
+--   key_link k                   the link with the key k
+--   next_key n p k               the link with the key k is proper and stands after the one with the key p
+--   listed_from n p ls           the links ls are proper and stand ascending after p
 --   Listed                       whether m links are listed well is what the first j, whose last one has a key, and the links after them decide
 --   tallied rs s ls v            how many links of v in ls have another end w with the rank of v below that of w and the slack s
 --   Tallied                      these counts for each radio below n
---   count-link rs s a b cs       the counts cs with the link a-b counted at each end whose rank is below that of the other and the slack s
+--   count_link rs s a b cs       the counts cs with the link a-b counted at each end whose rank is below that of the other and the slack s
 --   LinkFits                    what counting a link wants
 --   count_at rs s bs at cs       the same with the link that stands at a place of the image bs
 --   LinkThere                   what counting the link at that place wants
---   few-ends most n ls           no radio below n has more than `most` links in ls
+--   few_ends most n ls           no radio below n has more than `most` links in ls
 --   running_maxima_of value m xs the running maxima of the values along xs, and at least m
 --   LinksRoom                   what going through the first m links wants
 --   TallyRoom                   what counting over the first m links wants
@@ -26,7 +26,8 @@
 --   SiteRoom                    what deciding wants
 --   SiteDecided                 whether the first m links and the order make a sound site, and then the order and the numbers
 -- Definitions only.
-use Rattle.lists.specs.{Kit.{◌≡◌, Bool, true, ◌&&◌, cond, List, [], ◌∷◌, map, ℕ, suc, ◌+◌, ◌*◌, ◌-◌, ◌/◌, ◌%◌, ◌≤◌, ◌<◌, min, max, ltb, leb, length, get_or, set}}
+use Rattle.std.specs.Prelude.{◌≡◌, ◌&&◌, ◌∷◌, ◌+◌, ◌*◌, ◌-◌, ◌/◌, ◌%◌, ◌≤◌, ◌<◌}
+use Rattle.lists.specs.{Kit.{Bool, true, cond, List, [], map, ℕ, suc, min, max, ltb, leb, length, get_or, set}}
 use Rattle.lists.specs.{Kit.{drop}, Lists.{range, all, count}}
 use Rattle.mesh.specs.{Limits.{max_radios, max_neighbours}, Graph.{Link, Graph, graph, link_of, link_before, other_ends, linked, proper, ascending}}
 use Rattle.mesh.specs.{Cores.{number}, Orders.{each_once, is_k_order}, Image.{block_bytes, block_entries, block_links, order_blocks, block_count, word_at}}

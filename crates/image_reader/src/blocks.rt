@@ -1,5 +1,6 @@
 // The blocks of links of an image, each in one loop: where its links stand is worked out once a block. The order's blocks likewise.
-ghost use Rattle.lists.specs.Kit.{◌≡◌, [], ◌≤◌, ◌<◌, ◌+◌, ◌*◌, min, cond, ltb, length, get_or, set};
+ghost use Rattle.std.specs.Prelude.{◌≡◌, ◌≤◌, ◌<◌, ◌+◌, ◌*◌};
+ghost use Rattle.lists.specs.Kit.{[], min, cond, ltb, length, get_or, set};
 ghost use Rattle.mesh.specs.Limits.{max_radios};
 ghost use Rattle.mesh.specs.Image.{block_bytes, block_entries, block_links};
 ghost use Rattle.image_reader.specs.Site.{links_up_to, passed, key_of, next_key, Listed, Tallied, count_link, OrderRead};
@@ -8,7 +9,7 @@ ghost use Rattle.image_reader.specs.Site.{LinkFits, LinkThere, count_at, LinksRo
 use image::{bytes, layout};
 
 // The links of a block: where the first one stands, and how many there are.
-#[derive(Drop)]
+#[derive(Clone, Copy)]
 pub struct Part {
     pub at: usize,
     pub count: usize,

@@ -1,5 +1,6 @@
 // The image reader.
-ghost use Rattle.lists.specs.Kit.{◌≡◌, ℕ, ◌≤◌, ◌*◌, length, get_or};
+ghost use Rattle.std.specs.Prelude.{◌≡◌, ◌≤◌, ◌*◌};
+ghost use Rattle.lists.specs.Kit.{ℕ, length, get_or};
 ghost use Rattle.mesh.specs.Limits.{row_bytes};
 ghost use Rattle.mesh.specs.Lent.{lent};
 ghost use Rattle.image_reader.specs.Reading.{alone_refusal, SourceRoom};
@@ -38,9 +39,9 @@ fn read_site(
 ) -> u32
     requires room { SourceRoom n header.radios header.links image.now (length listed.old) (length cores.old) }
     requires sized { (length links.old ≡ row_bytes * n) × (length numbers.old ≡ n) × (length order.old ≡ n) }
-    requires asked { read_refusal n (lengths_of (lent links numbers order)) image.now ≡ source_refusal n image.now }
-    ensures { ReadContract n image.now (lent links.entry numbers.entry order.entry) result
-        (lent links.exit numbers.exit order.exit) }
+    requires asked { read_refusal n (lengths_of (lent links.old numbers.old order.old)) image.now ≡ source_refusal n image.now }
+    ensures { ReadContract n image.now (lent links.old numbers.old order.old) result
+        (lent links.new numbers.new order.new) }
 {
     let number = source::refusal(n, header, image, listed, cores);
     if number != 0 {
@@ -55,8 +56,8 @@ fn read_site(
 // Reads an image of n radios into the tables: links and order as the image lists them, the numbers worked out. Refused by 1, 2, 9,
 // 10, 15 and 11: then every table keeps its content.
 pub fn read(n: u32, links: &mut [u8], numbers: &mut [u8], order: &mut [u16], image: &[u8]) -> u32
-    ensures { ReadContract n image.now (lent links.entry numbers.entry order.entry) result
-        (lent links.exit numbers.exit order.exit) }
+    ensures { ReadContract n image.now (lent links.old numbers.old order.old) result
+        (lent links.new numbers.new order.new) }
 {
     let lengths = tables::sizes::of_tables(
         Site { radios: n },

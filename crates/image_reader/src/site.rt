@@ -1,7 +1,8 @@
 // Whether the links and the order that an image lists make a sound site, and then the numbers. It is put to the image in place: counts
 // over the links, block by block, with a count for each radio. A test of all entries of a table does not stop at the first no:
 // the compiler then does many at a time.
-ghost use Rattle.lists.specs.Kit.{◌≡◌, true, ◌&&◌, [], map, ℕ, ◌≤◌, ◌<◌, ◌+◌, ◌*◌, leb, length, get_or};
+ghost use Rattle.std.specs.Prelude.{◌≡◌, ◌&&◌, ◌≤◌, ◌<◌, ◌+◌, ◌*◌};
+ghost use Rattle.lists.specs.Kit.{true, [], map, ℕ, leb, length, get_or};
 ghost use Rattle.lists.specs.Lists.{range, all};
 ghost use Rattle.mesh.specs.Limits.{max_radios, max_neighbours};
 ghost use Rattle.mesh.specs.Graph.{graph, proper, ascending};

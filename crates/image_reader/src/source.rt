@@ -1,5 +1,6 @@
 // Of which tables the bytes are the image: questions 15 and 11, decided together from the n that the header says.
-ghost use Rattle.lists.specs.Kit.{◌≡◌, length};
+ghost use Rattle.std.specs.Prelude.{◌≡◌};
+ghost use Rattle.lists.specs.Kit.{length};
 ghost use Rattle.image_reader.specs.Reading.{OpenedAs, ImageRoom, ImageDecided, SourceRoom, SourceDecided};
 
 use super::site;

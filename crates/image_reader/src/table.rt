@@ -1,6 +1,7 @@
 // The links table that an image lists, written block by block. The links are known to be proper, so a bit is set without asking whether it
 // is in the table, as `rows::put_bit` does: that is a tenth of reading a dense image.
-ghost use Rattle.lists.specs.Kit.{◌≡◌, true, ◌≤◌, ◌<◌, ◌+◌, ◌*◌, length};
+ghost use Rattle.std.specs.Prelude.{◌≡◌, ◌≤◌, ◌<◌, ◌+◌, ◌*◌};
+ghost use Rattle.lists.specs.Kit.{true, length};
 ghost use Rattle.mesh.specs.Limits.{max_radios, row_bytes};
 ghost use Rattle.mesh.specs.Graph.{graph};
 ghost use Rattle.mesh.specs.Tables.{put_bit, put_link, links_table};

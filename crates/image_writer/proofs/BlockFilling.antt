@@ -1,7 +1,8 @@
 -- Laws of the writer's blocks: each kind of block is the image's block.
 -- In order: a block of links, the blocks before the links, blocks one after the other, all blocks of links, the image.
-use Rattle.lists.{specs.Kit.{◌≡◌, refl, sym, ap, ap₂, ◌∙◌, ◌⊎◌, inl, inr, true, false, List, [], ◌∷◌, ◌++◌, flat_map, append_assoc, append-nil, ℕ, zero, suc}}
-use Rattle.lists.{specs.Kit.{◌+◌, ◌*◌, ◌-◌, ◌/◌, ◌^◌, ◌≤◌, ◌<◌, min, arith, ltb, length, take, drop, set, replicate, length-append, length-drop, length-set}}
+use Rattle.std.specs.Prelude.{◌≡◌, ◌⊎◌, ◌∷◌, ◌++◌, ◌+◌, ◌*◌, ◌-◌, ◌/◌, ◌^◌, ◌≤◌, ◌<◌}
+use Rattle.lists.{specs.Kit.{refl, sym, ap, ap₂, ◌∙◌, inl, inr, true, false, List, [], flat_map, append_assoc, append-nil, ℕ, zero, suc}}
+use Rattle.lists.{specs.Kit.{min, arith, ltb, length, take, drop, set, replicate, length-append, length-drop, length-set}}
 use Rattle.lists.{specs.Kit.{take-append-drop, sets, sets-eq, length-sets, take_at, take_all, drop_at, drop-drop, length-take-le, lt-ltb, le-ltb}}
 use Rattle.lists.{specs.Lists.{range}, proofs.Parts.{length_flat_map}, proofs.Map.{flat_map_append}, proofs.Range.{range_append}}
 use borrow.Rule.Slice.PartMut.{put_mid, put_same, same_len_mid}

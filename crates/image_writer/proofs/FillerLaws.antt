@@ -1,6 +1,7 @@
 -- Laws of the block filler.
 -- In order: a block opened, zeros stored, a block sealed, an opened block with its payload sealed, entries put one after the other.
-use Rattle.lists.{specs.Kit.{◌≡◌, refl, sym, ap, ap₂, ◌∙◌, List, [], ◌∷◌, ◌++◌, flat_map, append_assoc, append-nil, ℕ, ◌+◌, ◌*◌, ◌-◌, ◌/◌, ◌%◌, ◌≤◌, ◌<◌, min}}
+use Rattle.std.specs.Prelude.{◌≡◌, ◌∷◌, ◌++◌, ◌+◌, ◌*◌, ◌-◌, ◌/◌, ◌%◌, ◌≤◌, ◌<◌}
+use Rattle.lists.{specs.Kit.{refl, sym, ap, ap₂, ◌∙◌, List, [], flat_map, append_assoc, append-nil, ℕ, min}}
 use Rattle.lists.{specs.Kit.{arith, div-div-eq-div-mul, add-one, length, get_or, take, drop, set, replicate, length-append, length-take, length-drop}}
 use Rattle.lists.{specs.Kit.{replicate-append-replicate, drop_of_length-le, sets, sets-eq, length-sets, take-suc, take_at, take_all, length-take-le, drop-drop}}
 use Rattle.lists.{specs.Kit.{get_or-take, get_or-drop}, proofs.Parts.{length_flat_map, drop_replicate}, proofs.Overwrite.{sets_append}, proofs.Map.{flat_map_append}}

@@ -7,3 +7,5 @@ pub mod LinksPut
 pub mod BlockFilling
 -- the writer's outcomes
 pub mod WriteLaws
+-- its functions in a linked program
+pub mod World

@@ -1,6 +1,7 @@
 -- Laws of links put into a block.
 -- In order: putting links, one link, a part of the links, the links of a word, of a row and of the rows, a cursor.
-use Rattle.lists.{specs.Kit.{◌≡◌, refl, sym, ap, ap₂, ◌∙◌, inl, inr, List, [], ◌∷◌, ◌++◌, flat_map, append-nil, ℕ, ◌+◌, ◌*◌, ◌-◌, ◌/◌, ◌%◌, ◌^◌, ◌≤◌, ◌<◌}}
+use Rattle.std.specs.Prelude.{◌≡◌, ◌∷◌, ◌++◌, ◌+◌, ◌*◌, ◌-◌, ◌/◌, ◌%◌, ◌^◌, ◌≤◌, ◌<◌}
+use Rattle.lists.{specs.Kit.{refl, sym, ap, ap₂, ◌∙◌, inl, inr, List, [], flat_map, append-nil, ℕ}}
 use Rattle.lists.{specs.Kit.{arith, bit_and, count_trailing_zeros, length, get_or, take, drop, length-append, length-take, length-drop, sets, take-append-le}}
 use Rattle.lists.{specs.Kit.{drop-append-le, take-add, drop-drop, length-take-le}, proofs.Map.{map_append, flat_map_append}, proofs.Parts.{length_flat_map}}
 use Rattle.lists.{proofs.Overwrite.{sets_append}}

@@ -1,8 +1,9 @@
 -- The writer meets its contract, on plain values.
 -- In order: the number of questions 1 to 3, the links of a sound site, the three outcomes.
-use Rattle.lists.specs.{Kit.{◌≡◌, sym, ap, ap₂, ◌∙◌, true, List, ◌++◌, flat_map, ℕ, ◌+◌, ◌*◌, ◌≤◌, ◌<◌, arith, length, drop, lt-leb}, Lists.{range, overwrite}}
-use Rattle.mesh.{specs.Limits.{max_radios, max_neighbours, row_bytes}, specs.Graph.{Link, Graph, graph}, specs.Tables.{Tables, graph_in}, specs.Sound.{within}}
-use Rattle.mesh.{specs.Sound.{few, sound}, specs.Image.{block_bytes, blocks_for, order_blocks, block_count, block_at, image_of}}
+use Rattle.std.specs.Prelude.{◌≡◌, ◌++◌, ◌+◌, ◌*◌, ◌≤◌, ◌<◌}
+use Rattle.lists.specs.{Kit.{sym, ap, ap₂, ◌∙◌, true, List, flat_map, ℕ, arith, length, drop, lt-leb}, Lists.{range, overwrite}}
+use Rattle.mesh.{specs.Limits.{max_radios, max_neighbours, row_bytes}, specs.Graph.{Link, Graph, graph}, specs.Tables.{Tables, graph_in}}
+use Rattle.mesh.{specs.Sound.{sound}, specs.Image.{block_bytes, blocks_for, order_blocks, block_count, block_at, image_of}}
 use Rattle.mesh.{proofs.Images.Of.{length_image_of}, proofs.Images.Tables.{valid_graph_in}, proofs.Tables.DegreeSum.{links_few}}
 use Rattle.calls.{specs.Questions.{ask, lengths_of, site_refusal, image_length}, specs.CallContracts.{WriteContract}}
 use Rattle.calls.{specs.Outcomes.{write_outcome}, proofs.ContractLaws.{listing_refused, listing_answered}, proofs.QuestionLaws.{ask_no}}

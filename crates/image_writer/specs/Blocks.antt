@@ -1,17 +1,18 @@
 -- The blocks of an image as the writer fills them in: what its functions require and come back with.
---   marked-graph                the graph of the links that the rows mark
+--   marked_graph                the graph of the links that the rows mark
 --   Place at                    a place of a block where a link may stand, or the payload's end
 --   LinksPut                   links put into a block from a place on, as many as were done, and what is left of them
 --   Stopped                     nothing is left of a word, or the block is full
---   row-left, links-left        the links that a cursor leaves of its row, and of all rows
+--   row_left, links_left        the links that a cursor leaves of its row, and of all rows
 --   RowThere, RowsThere       the rows that are read
 --   RowStopped                 nothing is left of a row, or the block is full
 --   Going, NextLink            a cursor after a row, and after a block
 --   LinksFilled                a block of links, filled in
 --   LinksFit, AllLinksFilled what all blocks of links want, and come to
---   front-block                 a block before them
+--   front_block                 a block before them
 -- That these are the image is `image_filled` in proofs/BlockFilling.antt. Definitions only.
-use Rattle.lists.specs.{Kit.{◌≡◌, ◌⊎◌, List, [], ◌++◌, flat_map, ℕ, zero, suc, ◌+◌, ◌*◌, ◌-◌, ◌%◌, ◌^◌, ◌≤◌, ◌<◌, min, length, take, drop, sets}, Lists.{range}}
+use Rattle.std.specs.Prelude.{◌≡◌, ◌⊎◌, ◌++◌, ◌+◌, ◌*◌, ◌-◌, ◌%◌, ◌^◌, ◌≤◌, ◌<◌}
+use Rattle.lists.specs.{Kit.{List, [], flat_map, ℕ, zero, suc, min, length, take, drop, sets}, Lists.{range}}
 use Rattle.mesh.specs.{Limits.{max_radios, row_bytes}, Graph.{Link, Graph, graph}, Image.{block_bytes, block_links, word, link_bytes, block, blocks_for}}
 use Rattle.mesh.specs.{Image.{order_payload, links_payload}}
 use Rattle.rows.specs.{Rows.{row_from, set_bits}, Links.{links_to, links_from}}

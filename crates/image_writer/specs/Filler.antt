@@ -3,7 +3,8 @@
 --   sealed block         the block with its check in its last four bytes
 -- That an opened block with its payload put and sealed is `block` of mesh is `sealed_payload` in proofs/FillerLaws.antt.
 -- Definitions only.
-use Rattle.lists.specs.Kit.{List, ◌∷◌, ◌++◌, ℕ, take, replicate}
+use Rattle.std.specs.Prelude.{◌∷◌, ◌++◌}
+use Rattle.lists.specs.Kit.{List, ℕ, take, replicate}
 use Rattle.mesh.specs.Image.{word, long, check_sum}
 
 unfoldable pub opened : (kind index : ℕ) → List ℕ

@@ -1,2 +1,4 @@
 // Writes the image of sound tables.
+#![tactic(auto)]
+
 pub mod writer;

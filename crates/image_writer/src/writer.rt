@@ -1,6 +1,7 @@
 // The image writer. Each block is filled in through its own part of the buffer: the blocks of links first, since where they end tells how
 // many links there are, then the others.
-ghost use Rattle.lists.specs.Kit.{◌≡◌, ◌++◌, flat_map, ◌≤◌, ◌<◌, ◌+◌, ◌*◌, leb, length, take, drop, sets};
+ghost use Rattle.std.specs.Prelude.{◌≡◌, ◌++◌, ◌≤◌, ◌<◌, ◌+◌, ◌*◌};
+ghost use Rattle.lists.specs.Kit.{flat_map, leb, length, take, drop, sets};
 ghost use Rattle.lists.specs.Lists.{range};
 ghost use Rattle.mesh.specs.Graph.{link_of};
 ghost use Rattle.mesh.specs.Image.{block_bytes, block_entries, block_count, order_blocks, word, link_bytes, block};
@@ -96,7 +97,7 @@ fn put_link(part: &mut [u8], at: usize, a: u32, b: u32)
 
 // How far the links are written: up to place `at` of a block. Left are the radios that the set bits of `rest` mark, from radio `first` on, in
 // row `row`; then its words after word k; then the rows after it.
-#[derive(Drop)]
+#[derive(Clone, Copy)]
 struct Cursor {
     at: usize,
     row: u32,
@@ -106,7 +107,7 @@ struct Cursor {
 }
 
 // How far a word is written.
-#[derive(Drop)]
+#[derive(Clone, Copy)]
 struct Bits {
     at: usize,
     rest: u64,
@@ -275,7 +276,7 @@ fn fill_links(part: &mut [u8], index: u32, n: u32, links: &[u8], c: Cursor) -> C
 }
 
 // Where the links end: the number of the block after them, and how many they are.
-#[derive(Drop)]
+#[derive(Clone, Copy)]
 struct Ended {
     blocks: u32,
     count: u32,
@@ -345,7 +346,7 @@ fn has_room(n: u32, links: &[u8], bytes: usize) -> bool
 // Writes the image of sound tables in front of the buffer; the value is its length in bytes, and bytes past it keep their
 // content. Refused by 1 to 3 and 9: then the value is 0 and the buffer keeps its content.
 pub fn write(n: u32, links: &[u8], numbers: &[u8], order: &[u16], buffer: &mut [u8]) -> Value
-    ensures { WriteContract n (lent links.entry numbers.entry order.entry) buffer.old result buffer.new }
+    ensures { WriteContract n (lent links.now numbers.now order.now) buffer.old result buffer.new }
 {
     let number = soundness::refusal(n, links, numbers, order, true);
     if number != 0 {

@@ -1,5 +1,6 @@
 -- The three cases of `rules_out`: a radio above the level, one that is left, one that was taken.
-use Rattle.lists.specs.Kit.{◌≡◌, Bool, ℕ, ◌+◌, ◌≤◌, ◌<◌, ltb, lt-ltb, le-ltb}
+use Rattle.std.specs.Prelude.{◌≡◌, ◌+◌, ◌≤◌, ◌<◌}
+use Rattle.lists.specs.Kit.{Bool, ℕ, ltb, lt-ltb, le-ltb}
 use Rattle.lift.specs.Counters.{rules_out}
 
 module _ (k : ℕ) (gone : Bool) (m x : ℕ) where

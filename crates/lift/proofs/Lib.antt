@@ -9,3 +9,5 @@ mod SearchLaws
 mod SearchSteps
 -- Laws of the tests, case by case.
 pub mod CounterLaws
+-- its functions in a linked program
+pub mod World

@@ -1,8 +1,9 @@
 -- The order of sound tables, by the table of places, and the radios at which a pair may begin.
---   places-ordered    what the places say of the graph (`Ordered`)
---   tight-is          the table's test of a radio is the graph's
+--   places_ordered    what the places say of the graph (`Ordered`)
+--   tight_is          the table's test of a radio is the graph's
 --   LaterCounting    the later ones of the first i listed radios are counted
-use Rattle.lists.{specs.Kit.{◌≡◌, sym, ap, subst, ◌∙◌, Bool, false, cond, List, [], ◌∷◌, ℕ, zero, suc, ◌+◌, ◌/◌, ◌≤◌, ◌<◌, arith, add-one, le_trans, le_of_eq}}
+use Rattle.std.specs.Prelude.{◌≡◌, ◌∷◌, ◌+◌, ◌/◌, ◌≤◌, ◌<◌}
+use Rattle.lists.{specs.Kit.{sym, ap, subst, ◌∙◌, Bool, false, cond, List, [], ℕ, zero, suc, arith, add-one, le_trans, le_of_eq}}
 use Rattle.lists.{specs.Kit.{ltb, eqb, length, get_or, drop, drop_of_length-le, drop-cons, eq-eqb, ne_eqb, le-leb, lt-leb, lt-ltb, le-ltb}, specs.Lists.{In}}
 use Rattle.lists.{specs.Lists.{EntriesBelow, count, range, filter}, specs.Facts.{Rising, EachOnce}, proofs.Tests.{bit_one, byte_bit}}
 use Rattle.lists.{proofs.Member.{get_d_of_in, in_get_d}, proofs.Range.{once_in, once_length, range_in}, proofs.Filter.{count_filter, in_filter}}
@@ -85,7 +86,7 @@ module _ (links numbers places : List ℕ) (s : SearchPlaces links numbers place
   unfolding is_tight tight
   tight_is k r v l = rw (number_entry n t (links_site links places_links) v l, later_is v l)
 
--- ---- is-tight
+-- ---- is_tight
 
 module _ (k r : ℕ) (ts ns ps : List ℕ) (v : ℕ) where
   pub tight_other : (get_or ns v 0 ≡ k → ⊥) → false ≡ is_tight k r ts ns ps v

@@ -1,17 +1,18 @@
 -- The leaves of the peel, as laws of counters and sets.
---   is-due        what each test of the code says of it
+--   is_due        what each test of the code says of it
 --   Lowered       of nobody, of one radio, of some radios and then others
 --   Lowering      what the rest leaves, the whole leaves; the bits of a word and the words of two sets in turn
 --   Marking       the radios below v are marked where they pass a test
-use Rattle.lists.{specs.Kit.{◌≡◌, refl, sym, ap, subst, ◌∙◌, ◌⊎◌, inl, inr, Bool, true, false, ◌&&◌, ◌||◌, not, cond, List, [], ◌∷◌, ℕ, ◌+◌, ◌-◌, ◌≤◌}}
-use Rattle.lists.{specs.Kit.{◌<◌, arith, ltb, leb, eqb, length, get_or, set, replicate, length-set, length-replicate}}
+use Rattle.std.specs.Prelude.{◌≡◌, ◌⊎◌, ◌&&◌, ◌||◌, ◌∷◌, ◌+◌, ◌-◌, ◌≤◌, ◌<◌, ◌++◌, ◌*◌, ◌^◌}
+use Rattle.lists.{specs.Kit.{refl, sym, ap, subst, ◌∙◌, inl, inr, Bool, true, false, not, cond, List, [], ℕ}}
+use Rattle.lists.{specs.Kit.{arith, ltb, leb, eqb, length, get_or, set, replicate, length-set, length-replicate}}
 use Rattle.lists.{specs.Kit.{get_or-set_same, get_or-set_other, eqb-true, eqb-false, eq-eqb, ne_eqb, ltb-true, ltb-false, le-leb, lt-leb, lt-ltb}}
 use Rattle.lists.{specs.Kit.{le-ltb}, specs.Lists.{In, member}, specs.Facts.{Distinct}, proofs.Tests.{bool_cases, cond_false, iff_eq}}
 use Rattle.lists.{proofs.Member.{not_member}, proofs.Parts.{get_d_any}}
 use Rattle.mesh.{specs.Limits.{max_radios, row_bytes}, specs.Tables.{marked, put_bit, byte_at}, proofs.Tables.Laws.{marked_put_bit, marked_replicate}}
 use Rattle.mesh.{proofs.Tables.Laws.{length_put_bit}}
 use Rattle.lifting.{specs.Peeling.{left}, proofs.Peeling.{below_left, high_left}}
-use Rattle.lists.{specs.Kit.{◌++◌, ◌*◌, ◌^◌, bit_and, and_le_l, count_trailing_zeros}, specs.Lists.{range, filter}, proofs.Range.{range_in, distinct_range}}
+use Rattle.lists.{specs.Kit.{bit_and, and_le_l, count_trailing_zeros}, specs.Lists.{range, filter}, proofs.Range.{range_in, distinct_range}}
 use Rattle.lists.{proofs.Filter.{in_filter, distinct_filter}, proofs.Member.{member_append, member_in}, proofs.Distinct.{distinct_right, distinct_apart}}
 use Rattle.mesh.specs.Tables.{digit}
 use Rattle.rows.{specs.Rows.{set_bits}, specs.Sets.{common}, proofs.WordLaws.{set_bits_filter, set_bits_lowest, set_bits_nothing}}
@@ -31,7 +32,7 @@ or_no false b e = e
 less_other : (v w : ℕ) → w < v + 1 → (v ≡ w → ⊥) → w < v
 less_other v w l ne = omega arith
 
--- ---- is-due
+-- ---- is_due
 
 module _ (k a : ℕ) (held cs : List ℕ) (v : ℕ) (l : v < length cs) where
   pub due_high : k < get_or cs v 0 → false ≡ is_due k a held cs v

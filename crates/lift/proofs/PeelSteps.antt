@@ -1,13 +1,14 @@
 -- Turns of the peel: a radio that is due is taken, and the counters say the same of the graph after as before.
 --   SoundLinks    what sound links say of the graph that they mark
---   state-takes    the state after a turn, and that fewer radios are left
-use Rattle.lists.{specs.Kit.{◌≡◌, refl, sym, ap, subst, ◌∙◌, ◌⊎◌, inl, inr, Bool, true, false, ◌&&◌, ◌||◌, not, cond, List, ℕ, suc, ◌+◌, ◌-◌, ◌/◌, ◌≤◌, ◌<◌}}
+--   state_takes    the state after a turn, and that fewer radios are left
+use Rattle.std.specs.Prelude.{◌≡◌, ◌⊎◌, ◌&&◌, ◌||◌, ◌+◌, ◌-◌, ◌/◌, ◌≤◌, ◌<◌, ◌*◌, ◌^◌, ◌%◌}
+use Rattle.lists.{specs.Kit.{refl, sym, ap, subst, ◌∙◌, inl, inr, Bool, true, false, not, cond, List, ℕ, suc}}
 use Rattle.lists.{specs.Kit.{min, arith, ltb, leb, eqb, length, get_or, set, take, length-set, List·getD-eq-default, get_or-set_same, get_or-set_other, eqb-true}}
 use Rattle.lists.{specs.Kit.{eqb-false, eq-eqb, ne_eqb, ltb-true, ltb-false, lt-ltb, leb-true, leb-false, le-leb, lt-leb, not-true, not-false}}
 use Rattle.lists.{specs.Lists.{In, member, count, range, overwrite, head_or}, proofs.Tests.{bool_cases, never, and_left, and_right, and_both}}
 use Rattle.lists.{proofs.Tests.{or_cases, or_left, or_right, cond_false, cond_true}, proofs.Ascending.{head_or_lowest}, proofs.Member.{member_in}}
 use Rattle.lists.{proofs.Member.{head_or_below}, proofs.Parts.{get_d_any}, proofs.Filter.{member_filter}, proofs.Range.{in_range}, proofs.All.{all_in}}
-use Rattle.lists.{specs.Kit.{◌*◌, ◌^◌, ◌%◌, bit_and, and_le_l, count_trailing_zeros, replicate, length-replicate, get_or-replicate}, specs.Lists.{all}}
+use Rattle.lists.{specs.Kit.{bit_and, and_le_l, count_trailing_zeros, replicate, length-replicate, get_or-replicate}, specs.Lists.{all}}
 use Rattle.mesh.{specs.Limits.{max_radios, max_neighbours, row_bytes}, specs.Graph.{linked}, specs.Cores.{number}, specs.Tables.{Tables, tables, marked, digit}}
 use Rattle.mesh.{specs.Tables.{put_bit, byte_at, graph_in}, specs.Sound.{sound}, specs.Valid.{Valid}, proofs.Tables.Laws.{marked_put_bit, length_put_bit}}
 use Rattle.mesh.{proofs.Tables.Rows.{few_of}, proofs.Images.Tables.{valid_graph_in}}

@@ -1,8 +1,9 @@
 -- The leaves of the search over pairs, and the questions before it.
---   is_free, may-lift     what each test of the code says of them
---   search-ready          what the search reads, once questions 1 to 3 got yes
+--   is_free, may_lift     what each test of the code says of them
+--   search_ready          what the search reads, once questions 1 to 3 got yes
 --   answer-..             what the call answers
-use Rattle.lists.specs.Kit.{◌≡◌, sym, ap, subst, ◌∙◌, Bool, true, false, not, List, [], ℕ, ◌/◌, ◌≤◌, ◌<◌, arith, ltb, leb, length, get_or, lt-ltb, le-ltb, le-leb}
+use Rattle.std.specs.Prelude.{◌≡◌, ◌/◌, ◌≤◌, ◌<◌}
+use Rattle.lists.specs.Kit.{sym, ap, subst, ◌∙◌, Bool, true, false, not, List, [], ℕ, arith, ltb, leb, length, get_or, lt-ltb, le-ltb, le-leb}
 use Rattle.lists.specs.Kit.{lt-leb, not-true, not-false}
 use Rattle.mesh.specs.{Limits.{max_radios, max_neighbours, row_bytes}, Tables.{Tables, marked, graph_in}, Sound.{sound}, Graph.{link_of, neighbours_in}}
 use Rattle.calls.{specs.Questions.{lengths_of, radio_refusal}, specs.Lift.{lifting, first_pair, is_lifted}, specs.LiftOutcome.{pair}}
@@ -25,7 +26,7 @@ module _ (k : ℕ) (ts ns : List ℕ) (v : ℕ) where
   unfolding is_free room_left
   free_room x h e = rw (le-leb k (get_or ns v 0) h, e)
 
--- ---- may-lift
+-- ---- may_lift
 
 module _ (a : ℕ) (ts ps fs ks : List ℕ) (c : ℕ) where
   abbrev begins : Bool

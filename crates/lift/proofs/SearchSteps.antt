@@ -2,7 +2,8 @@
 --   trying_start    the marked radios are the higher ends of a's candidates
 --   end-..          the lower end a is done: no candidates, a pair that lifts, or all ruled out
 --   pair-..         the first pair, or none
-use Rattle.lists.{specs.Kit.{◌≡◌, refl, sym, subst, ◌∙◌, ◌⊎◌, inl, inr, Bool, true, false, ◌&&◌, not, cond, List, ℕ, ◌+◌, ◌/◌, ◌≤◌, ◌<◌, min, arith, ltb, leb}}
+use Rattle.std.specs.Prelude.{◌≡◌, ◌⊎◌, ◌&&◌, ◌+◌, ◌/◌, ◌≤◌, ◌<◌}
+use Rattle.lists.{specs.Kit.{refl, sym, subst, ◌∙◌, inl, inr, Bool, true, false, not, cond, List, ℕ, min, arith, ltb, leb}}
 use Rattle.lists.{specs.Kit.{eqb, length, get_or, replicate, length-replicate, eqb-true, eq-eqb, ltb-true, ltb-false, lt-ltb, le-leb, lt-leb, leb-true}}
 use Rattle.lists.{specs.Kit.{leb-false, not-true}, proofs.Tests.{bool_cases, never, and_left, and_right, and_both}, specs.Lists.{head_or}}
 use Rattle.mesh.{specs.Limits.{max_radios, max_neighbours, row_bytes}, specs.Graph.{Graph, link_of, linked, degree}, specs.Cores.{number}}

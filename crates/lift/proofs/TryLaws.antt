@@ -1,9 +1,10 @@
 -- The leaves of a pair tried, as laws of counters and rows.
---   counter-start, stop, ruled_out   what each test of the code says of them
+--   counter_start, stop, ruled_out   what each test of the code says of them
 --   Starting    the counters of the radios below v stand
 --   Ruling      the radios below i are ruled out or stay
 --   held_at     a set of one radio
-use Rattle.lists.{specs.Kit.{◌≡◌, refl, sym, ap, subst, ◌∙◌, ◌⊎◌, inl, inr, Bool, true, false, ◌&&◌, not, cond, List, ℕ, ◌+◌, ◌≤◌, ◌<◌, arith, ltb, eqb}}
+use Rattle.std.specs.Prelude.{◌≡◌, ◌⊎◌, ◌&&◌, ◌+◌, ◌≤◌, ◌<◌}
+use Rattle.lists.{specs.Kit.{refl, sym, ap, subst, ◌∙◌, inl, inr, Bool, true, false, not, cond, List, ℕ, arith, ltb, eqb}}
 use Rattle.lists.{specs.Kit.{length, get_or, set, replicate, length-set, length-replicate, get_or-set_same, get_or-set_other, eqb-true, eqb-false, eq-eqb, ne_eqb}}
 use Rattle.lists.{specs.Kit.{ltb-true, lt-ltb, le-ltb}, proofs.Tests.{bool_cases, iff_eq}, proofs.Parts.{get_d_any}}
 use Rattle.mesh.{specs.Limits.{max_radios, row_bytes}, specs.Tables.{marked, put_bit, byte_at}, proofs.Tables.Laws.{marked_replicate, marked_put_bit}}

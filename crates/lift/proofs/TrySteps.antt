@@ -1,10 +1,11 @@
 -- A pair tried: what the peel with its ends left alone says of the pairs of the lower end.
 --   SearchSite    what sound tables and the check's counts say of the graph
---   settling-start the counters before the peels of a lower end
+--   settling_start the counters before the peels of a lower end
 --   settled-..     the peel with all untried radios held
---   tried-found    the pair lifts the radio
---   tried-not      the pair does not, nor do the others that are ruled out
-use Rattle.lists.{specs.Kit.{◌≡◌, refl, sym, ap, subst, ◌∙◌, ◌⊎◌, inl, inr, Bool, true, false, ◌&&◌, ◌||◌, not, cond, and-false, List, ℕ, ◌+◌, ◌/◌, ◌≤◌, ◌<◌}}
+--   tried_found    the pair lifts the radio
+--   tried_not      the pair does not, nor do the others that are ruled out
+use Rattle.std.specs.Prelude.{◌≡◌, ◌⊎◌, ◌&&◌, ◌||◌, ◌+◌, ◌/◌, ◌≤◌, ◌<◌}
+use Rattle.lists.{specs.Kit.{refl, sym, ap, subst, ◌∙◌, inl, inr, Bool, true, false, not, cond, and-false, List, ℕ}}
 use Rattle.lists.{specs.Kit.{min, arith, le_antisymm, ltb, leb, eqb, length, get_or, replicate, List·getD-eq-default, eqb-true, eqb-false, eq-eqb, ne_eqb}}
 use Rattle.lists.{specs.Kit.{ltb-true, ltb-false, lt-ltb}, specs.Lists.{count, range, head_or}, proofs.Tests.{bool_cases, never, and_left}}
 use Rattle.lists.{proofs.Range.{in_range, range_in}, proofs.Count.{count_less, count_mono}}

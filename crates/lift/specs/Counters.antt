@@ -1,8 +1,9 @@
 -- What the search for a link that lifts a radio of level k asks of single numbers: a degree, a core number m, a counter x.
---   room-left d          a radio with d neighbours may have one more
---   rules-out k t m x    the pair of a radio with number m and counter x does not lift the radio asked for; t is whether no pair does whose other end stays
+--   room_left d          a radio with d neighbours may have one more
+--   rules_out k t m x    the pair of a radio with number m and counter x does not lift the radio asked for; t is whether no pair does whose other end stays
 -- Definitions only.
-use Rattle.lists.specs.Kit.{Bool, ◌||◌, cond, ℕ, ◌+◌, ltb}
+use Rattle.std.specs.Prelude.{◌||◌, ◌+◌}
+use Rattle.lists.specs.Kit.{Bool, cond, ℕ, ltb}
 use Rattle.mesh.specs.Limits.{max_neighbours}
 
 unfoldable pub room_left : (degree : ℕ) → Bool

@@ -1,7 +1,7 @@
 -- The peel of a level: what its functions do to the counters and to the set of radios that are due.
---   graph-of links     the graph that a links table marks, of as many radios as it has rows
+--   graph_of links     the graph that a links table marks, of as many radios as it has rows
 --   SoundLinks        the links table of sound tables
---   is-due             v is to be taken: its counter is at most the level, it is not a, and if it is held the counter is below the level
+--   is_due             v is to be taken: its counter is at most the level, it is not a, and if it is held the counter is below the level
 --   Due                a set has exactly the radios that are to be taken
 --   Lowered            some radios, where they are left, have one less, and are due where they are then to be taken
 --   gone_of            r is taken, or a has fewer neighbours that stay than the level: no pair of a whose other end stays lifts r
@@ -12,7 +12,8 @@
 --   PeelBegin         what a peel begins with
 --   PeelEnd           what the peel comes back with
 -- A set of radios is one row. Definitions only.
-use Rattle.lists.specs.{Kit.{◌≡◌, ◌⊎◌, Bool, true, false, ◌&&◌, ◌||◌, not, cond, List, ℕ, ◌+◌, ◌-◌, ◌/◌, ◌≤◌, ◌<◌, ltb, leb, eqb, length, get_or}, Lists.{member}}
+use Rattle.std.specs.Prelude.{◌≡◌, ◌⊎◌, ◌&&◌, ◌||◌, ◌+◌, ◌-◌, ◌/◌, ◌≤◌, ◌<◌}
+use Rattle.lists.specs.{Kit.{Bool, true, false, not, cond, List, ℕ, ltb, leb, eqb, length, get_or}, Lists.{member}}
 use Rattle.mesh.specs.{Limits.{max_radios, row_bytes}, Graph.{Graph}, Tables.{tables, marked, graph_in}}
 use Rattle.rows.specs.Sets.{in_set}
 use Rattle.soundness.specs.Checks.{fits_sound}

@@ -1,14 +1,15 @@
 -- The search over pairs, by lower and then higher radio.
 --   is_free, Free      v may be an end of a pair that lifts a radio of level k: its number is not below, and it has room for a neighbour
 --   SearchPlaces      the places of the radios in the order of sound tables
---   later-than         how many of some radios stand later than a place
+--   later_than         how many of some radios stand later than a place
 --   place_in           where a radio stands, by the table of places
---   is-tight, Tight    v is of level k, has exactly k later neighbours and stands no later than r
---   may-lift, Marked   the pair a, c may lift a radio of level k, where a may be an end: its first end in the order is tight
+--   is_tight, Tight    v is of level k, has exactly k later neighbours and stands no later than r
+--   may_lift, Marked   the pair a, c may lift a radio of level k, where a may be an end: its first end in the order is tight
 --   HigherEnd         the lowest radio above a whose pair with a lifts r, or none
 --   PairFound         the first pair that lifts r, or none
 -- Definitions only.
-use Rattle.lists.specs.{Kit.{◌≡◌, Bool, true, false, ◌&&◌, not, List, [], ℕ, ◌/◌, ◌≤◌, ◌<◌, ltb, leb, eqb, length, get_or}, Lists.{count}}
+use Rattle.std.specs.Prelude.{◌≡◌, ◌&&◌, ◌/◌, ◌≤◌, ◌<◌}
+use Rattle.lists.specs.{Kit.{Bool, true, false, not, List, [], ℕ, ltb, leb, eqb, length, get_or}, Lists.{count}}
 use Rattle.mesh.specs.{Limits.{max_radios, max_neighbours, row_bytes}, Graph.{link_of}, Tables.{tables, marked}}
 use Rattle.calls.specs.Lift.{lifts, lifting, first_pair, is_lifted}
 use Rattle.rows.specs.Rows.{neighbours_of, row_count}

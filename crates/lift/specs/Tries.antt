@@ -1,6 +1,6 @@
 -- A pair tried: what its functions do to the counters and to the row of untried radios.
---   SearchSite        sound tables and the not_lower counts that the check found
---   counter-start      the counter of v before the peel
+--   SearchSite        sound tables and the not-lower counts that the check found
+--   counter_start      the counter of v before the peel
 --   Started            the counters before the peel
 --   SearchNumbers     sound tables, for what reads no counts
 --   ruled_out          the pair of a and c does not lift the radio: c had too few neighbours when it was taken, or the radio was taken and c not
@@ -11,7 +11,8 @@
 --   Settled            what the peel with all untried radios held comes back with
 --   Tried              what trying a pair comes back with
 -- Definitions only.
-use Rattle.lists.specs.{Kit.{◌≡◌, Bool, true, false, ◌&&◌, not, cond, List, ℕ, ◌/◌, ◌≤◌, ◌<◌, ltb, leb, eqb, length, get_or}, Lists.{count, range, head_or}}
+use Rattle.std.specs.Prelude.{◌≡◌, ◌&&◌, ◌/◌, ◌≤◌, ◌<◌}
+use Rattle.lists.specs.{Kit.{Bool, true, false, not, cond, List, ℕ, ltb, leb, eqb, length, get_or}, Lists.{count, range, head_or}}
 use Rattle.mesh.specs.{Limits.{max_radios, row_bytes}, Graph.{link_of, neighbours_in}, Cores.{number}, Tables.{tables, marked}}
 use Rattle.calls.specs.Lift.{lifts}
 use Rattle.soundness.specs.Checks.{fits_sound}

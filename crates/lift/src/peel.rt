@@ -1,7 +1,8 @@
 // The peel of a level, without any new link: radios with at most K neighbours that are left or above are taken, never a, the lower end of
 // the pairs tried, and a held radio only with fewer than K, where the link of its pair would not keep it. A counter below 128 is of a radio
 // that is left, 128 more of one that is taken, as it was when it was taken; 255 stands for no radio of the level.
-ghost use Rattle.lists.specs.Kit.{◌≡◌, true, ◌||◌, not, ◌+◌, ◌≤◌, ◌<◌, ◌-◌, [], ◌∷◌, length, replicate};
+ghost use Rattle.std.specs.Prelude.{◌≡◌, ◌||◌, ◌+◌, ◌≤◌, ◌<◌, ◌-◌, ◌∷◌};
+ghost use Rattle.lists.specs.Kit.{true, not, [], length, replicate};
 ghost use Rattle.mesh.specs.Limits.{max_radios, row_bytes};
 ghost use Rattle.lists.specs.Lists.{range, count};
 ghost use Rattle.rows.specs.Rows.{set_bits};

@@ -1,6 +1,7 @@
 // The search over pairs, by lower and then higher radio: for each lower end the pairs that may lift the radio are tried, the lowest higher
 // end first, until one lifts it or all are ruled out.
-ghost use Rattle.lists.specs.Kit.{◌≡◌, ◌/◌, ◌≤◌, ◌<◌, length, get_or, take};
+ghost use Rattle.std.specs.Prelude.{◌≡◌, ◌/◌, ◌≤◌, ◌<◌};
+ghost use Rattle.lists.specs.Kit.{length, get_or, take};
 ghost use Rattle.lists.specs.Lists.{EntriesBelow};
 ghost use Rattle.mesh.specs.Limits.{max_radios, max_neighbours, row_bytes};
 ghost use Rattle.mesh.specs.Tables.{marked};

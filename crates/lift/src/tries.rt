@@ -1,7 +1,8 @@
 // Pairs of one lower end tried: the radio's level is peeled with that end and all untried higher ends left alone, and from there, for each pair
 // tried, with its two ends. Where the radio is left and both ends have enough, the pair lifts it; else what was taken rules this pair out, and
 // others of the same lower end.
-ghost use Rattle.lists.specs.Kit.{◌≡◌, cond, ◌≤◌, ◌<◌, eqb, length, get_or};
+ghost use Rattle.std.specs.Prelude.{◌≡◌, ◌≤◌, ◌<◌};
+ghost use Rattle.lists.specs.Kit.{cond, eqb, length, get_or};
 ghost use Rattle.lists.specs.Lists.{count, range};
 ghost use Rattle.mesh.specs.Limits.{max_radios, row_bytes};
 ghost use Rattle.mesh.specs.Tables.{marked};

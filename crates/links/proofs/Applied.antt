@@ -1,8 +1,9 @@
 -- A plan applied, on plain values: what is written is what an accepted link call comes to.
 -- In order: laws of lists, a bound on numbers, the changed radios, the numbers, the order, the call.
-use Rattle.lists.{specs.Kit.{◌≡◌, sym, ap, ap₂, ◌∙◌, ◌⊎◌, inl, inr, Bool, true, false, ◌&&◌, not, List, [], ◌∷◌, ℕ, suc, ◌+◌, ◌-◌, ◌≤◌, ◌<◌, arith, le_trans}}
+use Rattle.std.specs.Prelude.{◌≡◌, ◌⊎◌, ◌&&◌, ◌∷◌, ◌+◌, ◌-◌, ◌≤◌, ◌<◌}
+use Rattle.lists.{specs.Kit.{sym, ap, ap₂, ◌∙◌, inl, inr, Bool, true, false, not, List, [], ℕ, suc, arith, le_trans}}
 use Rattle.lists.{specs.Kit.{eqb, ℤ, length, get_or, take, drop, length-drop, length-take-le, take_all, ext_get_or, get_or-take, get_or-drop}}
-use Rattle.lists.{specs.Lists.{range, count, filter, member, overwrite, In, EntriesBelow}, specs.Facts.{Distinct}, proofs.Tests.{bool_cases, never, and_left}}
+use Rattle.lists.{specs.Lists.{range, filter, member, overwrite, In, EntriesBelow}, specs.Facts.{Distinct}, proofs.Tests.{bool_cases, never, and_left}}
 use Rattle.lists.{proofs.Member.{in_member, member_in, not_member, get_d_of_in}, proofs.Range.{range_in, length_range, distinct_range}}
 use Rattle.lists.{proofs.Count.{count_mono, count_le_length}, proofs.Filter.{length_filter, filter_ext, distinct_filter, filter_range_within}}
 use Rattle.lists.{proofs.Filter.{filter_member_filter}, proofs.Overwrite.{take_overwrite}}

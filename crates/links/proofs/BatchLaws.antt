@@ -1,5 +1,6 @@
 -- A batch meets its contract, on plain values: its questions, its loop, the call.
-use Rattle.lists.specs.Kit.{◌≡◌, refl, sym, ap, subst, ◌∙◌, true, List, ◌∷◌, ℕ, suc, ◌+◌, ◌*◌, ◌%◌, ◌≤◌, ◌<◌, arith, length, get_or, drop, drop_of_length-le}
+use Rattle.std.specs.Prelude.{◌≡◌, ◌∷◌, ◌+◌, ◌*◌, ◌%◌, ◌≤◌, ◌<◌}
+use Rattle.lists.specs.Kit.{refl, sym, ap, subst, ◌∙◌, true, List, ℕ, suc, arith, length, get_or, drop, drop_of_length-le}
 use Rattle.lists.specs.Kit.{drop-cons, eqb-true}
 use mir.{Syntax.{w32, w64}, Val.{Fits}}
 use Rattle.mesh.specs.{Limits.{max_radios}, Tables.{Tables}, Sound.{sound}}

@@ -1,5 +1,6 @@
 -- Laws of what applying a plan writes. In order: the changed radios, the stretch in the order, the step.
-use Rattle.lists.{specs.Kit.{◌≡◌, refl, sym, ap, ap₂, ◌∙◌, Bool, true, false, List, [], ◌∷◌, ◌++◌, append_assoc, ℕ, zero, suc, ◌+◌, ◌-◌, ◌≤◌, arith, ℤ, pos}}
+use Rattle.std.specs.Prelude.{◌≡◌, ◌∷◌, ◌++◌, ◌+◌, ◌-◌, ◌≤◌}
+use Rattle.lists.{specs.Kit.{refl, sym, ap, ap₂, ◌∙◌, Bool, true, false, List, [], append_assoc, ℕ, zero, suc, arith, ℤ, pos}}
 use Rattle.lists.{specs.Kit.{negsuc, length, take, drop, length-drop, length-take-le, take-take, take-add, drop-drop, paste, take-paste, drop-paste}}
 use Rattle.lists.{specs.Lists.{range, member}, proofs.Count.{count_le_length}, proofs.Filter.{length_filter}, proofs.Range.{length_range}}
 use Rattle.lists.{proofs.Parts.{drop_take}}

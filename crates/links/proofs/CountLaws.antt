@@ -1,7 +1,8 @@
--- The not_lower counts after a link: the loops that count radios anew, and which radios keep theirs.
+-- The not-lower counts after a link: the loops that count radios anew, and which radios keep theirs.
 -- In order: a counted list, a listed row, radios put into a set, the touched radios, counts anew, of a word, of a set.
-use Rattle.lists.{specs.Kit.{◌≡◌, refl, sym, ap, subst, ◌∙◌, ◌⊎◌, inl, inr, Bool, true, false, ◌||◌, cond, or-false, List, [], ◌∷◌, ◌++◌, ℕ, suc, ◌+◌, ◌*◌}}
-use Rattle.lists.{specs.Kit.{◌-◌, ◌/◌, ◌%◌, ◌^◌, ◌≤◌, ◌<◌, min, arith, add-one, bit_and, and_le_l, count_trailing_zeros, leb, eqb, length, get_or, set, take, drop}}
+use Rattle.std.specs.Prelude.{◌≡◌, ◌⊎◌, ◌||◌, ◌∷◌, ◌++◌, ◌+◌, ◌*◌, ◌-◌, ◌/◌, ◌%◌, ◌^◌, ◌≤◌, ◌<◌}
+use Rattle.lists.{specs.Kit.{refl, sym, ap, subst, ◌∙◌, inl, inr, Bool, true, false, cond, or-false, List, [], ℕ, suc}}
+use Rattle.lists.{specs.Kit.{min, arith, add-one, bit_and, and_le_l, count_trailing_zeros, leb, eqb, length, get_or, set, take, drop}}
 use Rattle.lists.{specs.Kit.{replicate, length-set, drop_of_length-le, length-take-le, get_or-take, get_or-set_same, get_or-set_other, drop-cons, eqb-true}}
 use Rattle.lists.{specs.Kit.{eqb-false, eq-eqb}, specs.Facts.{folded}, specs.Lists.{range, count, filter, member, overwrite, In}, proofs.Tests.{bool_cases}}
 use Rattle.lists.{proofs.Tests.{or_cases, or_left, or_right}, proofs.Member.{in_get_d, get_d_of_in, member_in, in_member, member_append, in_left, in_right}}
@@ -128,6 +129,7 @@ module _ (a b : ℕ) (cs ts : List ℕ) where
 
   in_around : (v w : ℕ) (xs : List ℕ) → In v xs → In w (around ts v) → In w (all_around ts xs)
   unfolding all_around
+  in_around v w [] x'' i = elim x'' [ ]
   in_around v w (x ∷ xs) (inl q) i = in_left w (around ts x) (all_around ts xs) (subst (λ (y : ℕ). In w (around ts y)) (sym q) i)
   in_around v w (x ∷ xs) (inr m) i = in_right w (around ts x) (all_around ts xs) (in_around v w xs m i)
 

@@ -15,3 +15,5 @@ pub mod Marking
 pub mod ChangeLaws
 -- Asking and committing meet their contracts, on plain values.
 pub mod ProposalLaws
+-- its functions in a linked program
+pub mod World

@@ -1,5 +1,6 @@
 -- A link call meets its contract, on plain values: refused and accepted, by the plan that was made.
-use Rattle.lists.specs.{Kit.{◌≡◌, sym, ◌∙◌, Bool, List, ℕ, arith, pos, length}, Lists.{overwrite}}
+use Rattle.std.specs.Prelude.{◌≡◌}
+use Rattle.lists.specs.{Kit.{sym, ◌∙◌, Bool, List, ℕ, arith, pos, length}, Lists.{overwrite}}
 use Rattle.mesh.specs.{Limits.{max_neighbours}, Levels.{changed, step_of}, Tables.{Tables, graph_in}, Sound.{sound}}
 use Rattle.calls.{specs.Questions.{answer_length, lengths_of, ends_refusal}, specs.Switches.{switch, switched}, specs.Outcomes.{reply}}
 use Rattle.calls.{specs.Outcomes.{linked_with, link_outcome}, specs.CallContracts.{LinkContract}, specs.declared.Reply.{Reply}, proofs.ContractLaws.{by_accepted}}

@@ -1,6 +1,7 @@
 -- A set of radios kept as one row: a list of radios marked in it, one after the other, and the set listed ascending.
--- In order: all-marked, in_order.
-use Rattle.lists.{specs.Kit.{◌≡◌, refl, ap, ◌∙◌, ◌⊎◌, inl, inr, Bool, true, false, ◌||◌, cond, List, [], ◌∷◌, ℕ, ◌+◌, ◌*◌, ◌≤◌, ◌<◌, ◌/◌, arith, ltb, eqb}}
+-- In order: all_marked, in_order.
+use Rattle.std.specs.Prelude.{◌≡◌, ◌⊎◌, ◌||◌, ◌∷◌, ◌+◌, ◌*◌, ◌≤◌, ◌<◌, ◌/◌}
+use Rattle.lists.{specs.Kit.{refl, ap, ◌∙◌, inl, inr, Bool, true, false, cond, List, [], ℕ, arith, ltb, eqb}}
 use Rattle.lists.{specs.Kit.{length, replicate, length-replicate, set_out, eq-eqb, ne_eqb, ltb-true, ltb-false}, proofs.Loops.{length_folded}}
 use Rattle.lists.{specs.Facts.{folded}, specs.Lists.{range, member}, proofs.Tests.{bool_cases}, proofs.Range.{range_in}, proofs.Filter.{filter_ext}}
 use Rattle.mesh.{specs.Limits.{max_radios, row_bytes}, specs.Tables.{byte_at, marked, put_bit}, proofs.Tables.Laws.{length_put_bit, marked_put_bit}}
@@ -8,7 +9,7 @@ use Rattle.mesh.{proofs.Tables.Laws.{marked_replicate, byte_at_less}}
 use Rattle.rows.{specs.Rows.{neighbours_of, row_listed}, proofs.RowWords.{row_listed_whole}}
 use Rattle.links.specs.Changes.{all_marked, in_order}
 
--- ---- all-marked
+-- ---- all_marked
 
 pub length_all_marked : (vs ts : List ℕ) → length (all_marked vs ts) ≡ length ts
 unfolding all_marked

@@ -1,5 +1,6 @@
 -- Places put anew for a part of the order: outside of it nothing moved, so that the table tells every radio's place again.
-use Rattle.lists.{specs.Kit.{◌≡◌, refl, sym, ap, ◌∙◌, ◌⊎◌, inl, inr, true, false, List, [], ◌∷◌, ◌++◌, append_assoc, ℕ, ◌+◌, ◌-◌, ◌≤◌, ◌<◌, arith, ltb, length}}
+use Rattle.std.specs.Prelude.{◌≡◌, ◌⊎◌, ◌∷◌, ◌++◌, ◌+◌, ◌-◌, ◌≤◌, ◌<◌}
+use Rattle.lists.{specs.Kit.{refl, sym, ap, ◌∙◌, inl, inr, true, false, List, [], append_assoc, ℕ, arith, ltb, length}}
 use Rattle.lists.{specs.Kit.{get_or, set, take, drop, length-set, paste, length_paste_head, length-take-le, take_at, get_or-take, get_or-drop, get_or-append-add}}
 use Rattle.lists.{specs.Kit.{get_or-set_same, get_or-set_other, ltb-true, ltb-false}, specs.Facts.{folded, Distinct}, specs.Lists.{range, member, In}}
 use Rattle.lists.{proofs.Tests.{bool_cases, never}, proofs.Member.{member_in, in_member}, proofs.Range.{in_range, range_in}, proofs.Distinct.{distinct_twice}}

@@ -1,11 +1,12 @@
 -- Asking and committing meet their contracts, on plain values. In order: a plan's changed radios, asking, a proposal held against a plan,
 -- committing.
-use Rattle.lists.{specs.Kit.{◌≡◌, refl, sym, ap, subst, ◌∙◌, Bool, true, false, ◌&&◌, List, ℕ, ◌≤◌, min, arith, ℤ, pos, length, take, replicate}}
+use Rattle.std.specs.Prelude.{◌≡◌, ◌&&◌, ◌≤◌}
+use Rattle.lists.{specs.Kit.{refl, sym, ap, subst, ◌∙◌, Bool, true, false, List, ℕ, min, arith, ℤ, pos, length, take, replicate}}
 use Rattle.lists.{specs.Kit.{length-replicate, length-take-le, take_all}, specs.Lists.{same, overwrite}, proofs.Parts.{take_min}}
 use Rattle.lists.{proofs.Overwrite.{take_overwrite}}
 use mir.{Syntax.{w8}, Val.{SFits, to_z, of_z}, Facts.{to_z-of_z}}
 use Rattle.mesh.specs.{Limits.{max_radios}, Graph.{Graph}, Levels.{changed, step_of}, Tables.{Tables, graph_in}, Sound.{sound}}
-use Rattle.calls.{specs.Questions.{ask, lengths_of, same_step, is_proposal, commit_refusal}, specs.Outcomes.{Linked, tabled, ask_outcome}}
+use Rattle.calls.{specs.Questions.{ask, lengths_of, same_step, is_proposal, commit_refusal}, specs.Outcomes.{Linked, tabled}}
 use Rattle.calls.{specs.Outcomes.{commit_outcome}, specs.CallContracts.{AskContract, CommitContract}, specs.declared.Reply.{Reply}, proofs.QuestionLaws.{ask_yes}}
 use Rattle.calls.{proofs.QuestionLaws.{ask_no}, proofs.ContractLaws.{asking_is, by_accepted, by_refused}, proofs.Proposals.{commit_numbered, proposal_iff}}
 use Rattle.calls.{proofs.Proposals.{same_step_eq}}

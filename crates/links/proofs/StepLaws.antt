@@ -1,11 +1,12 @@
 -- A link taken up or down on tables that are known to be sound, on plain values.
 -- In order: what is known of prepared tables, the plan, what it is applied to, the counts that stay, the tables after.
-use Rattle.lists.{specs.Kit.{◌≡◌, refl, sym, ap, subst, ◌∙◌, ◌⊎◌, inl, inr, Bool, true, false, ◌&&◌, cond, List, ℕ, ◌+◌, ◌*◌, ◌≤◌, ◌<◌, arith, ltb, leb}}
+use Rattle.std.specs.Prelude.{◌≡◌, ◌⊎◌, ◌&&◌, ◌+◌, ◌*◌, ◌≤◌, ◌<◌}
+use Rattle.lists.{specs.Kit.{refl, sym, ap, subst, ◌∙◌, inl, inr, Bool, true, false, cond, List, ℕ, arith, ltb, leb}}
 use Rattle.lists.{specs.Kit.{length, get_or, take, ltb-true, ltb-false}, specs.Lists.{range, count, member, In}, specs.Facts.{EachOnce}}
 use Rattle.lists.{proofs.Tests.{bool_cases, never, and_left, and_right}, proofs.Member.{in_get_d, in_member, not_member, member_in}, proofs.Count.{count_ext}}
 use Rattle.lists.{proofs.Range.{once_below, once_distinct}, proofs.Overwrite.{take_overwrite}}
-use Rattle.mesh.{specs.Limits.{max_radios, max_neighbours, row_bytes}, specs.Graph.{Graph, relinked, Allowed}, specs.Cores.{number, numbers}}
-use Rattle.mesh.{specs.Levels.{changed}, specs.Tables.{Tables, tables, marked, graph_in}, specs.Sound.{number_in, rows_proper, sound}}
+use Rattle.mesh.{specs.Limits.{max_radios, max_neighbours, row_bytes}, specs.Graph.{Graph, relinked, Allowed}}
+use Rattle.mesh.{specs.Levels.{changed}, specs.Tables.{Tables, marked, graph_in}, specs.Sound.{number_in, rows_proper, sound}}
 use Rattle.mesh.{proofs.Cores.Peeling.{get_d_numbers}, proofs.Cores.KOrders.{k_order_certificate}, proofs.Links.Call.{changed_below, unchanged_number}}
 use Rattle.mesh.{proofs.Tables.Rows.{symmetric_of, within_of, few_of}}
 use Rattle.calls.{specs.Questions.{lengths_of, size_good, site_lengths, ends_refusal}, specs.Switches.{switch, switched}, specs.declared.Reply.{Reply}}

@@ -1,5 +1,5 @@
 -- What applying a plan writes.
---   all-marked xs ts     the row 0 of ts with the bit of each radio of xs set: a set of radios is kept as one row
+--   all_marked xs ts     the row 0 of ts with the bit of each radio of xs set: a set of radios is kept as one row
 --   in_order xs          the radios of the list xs, ascending, each once
 --   counted_step up k    document 01's step, by the count of changed radios
 --   PlanFits            the stretch and the order are long enough for a plan
@@ -7,7 +7,8 @@
 --   PlanPut             what is written into the tables, with a list of the changed radios
 --   Applied              the same, and what is listed and told
 -- Laws are in proofs/ChangeLaws.antt and proofs/Marking.antt. Definitions only.
-use Rattle.lists.specs.{Kit.{◌≡◌, Bool, true, cond, List, ℕ, zero, suc, ◌+◌, ◌≤◌, ℤ, pos, negsuc, length, take, paste}, Facts.{folded}}
+use Rattle.std.specs.Prelude.{◌≡◌, ◌+◌, ◌≤◌}
+use Rattle.lists.specs.{Kit.{Bool, true, cond, List, ℕ, zero, suc, ℤ, pos, negsuc, length, take, paste}, Facts.{folded}}
 use Rattle.lists.specs.{Lists.{range, filter, member, overwrite}}
 use Rattle.mesh.specs.{Limits.{max_radios}, Tables.{Tables, put_bit, put_link}}
 use Rattle.calls.specs.declared.Reply.{Reply}

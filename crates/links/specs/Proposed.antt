@@ -1,7 +1,8 @@
 -- A proposal held against a plan.
---   plan-proposes   step and list are what the plan would change
+--   plan_proposes   step and list are what the plan would change
 -- Definitions only.
-use Rattle.lists.specs.{Kit.{Bool, ◌&&◌, List, ℕ, ℤ, length}, Lists.{same}}
+use Rattle.std.specs.Prelude.{◌&&◌}
+use Rattle.lists.specs.{Kit.{Bool, List, ℕ, ℤ, length}, Lists.{same}}
 use Rattle.calls.specs.Questions.{same_step}
 use Rattle.plan.specs.Planned.{changed_part}
 use Rattle.links.specs.Changes.{in_order, counted_step}

@@ -1,19 +1,20 @@
 -- A link taken up or down on tables that are known to be sound: what the check finds is kept from link to link.
---   Prepared         questions 1 to 3 get yes of the tables, and places and not_lower counts of every radio are at hand
+--   Prepared         questions 1 to 3 get yes of the tables, and places and not-lower counts of every radio are at hand
 --   StepReady       the same, and questions 4 to 7 of a link get yes
 --   ChangedBy       the tables that the link leaves, the radios that it changed, and the part of the order outside of which nothing moved
---   places-put       the places of the radios that stand at some places of the order, put into the table of places
+--   places_put       the places of the radios that stand at some places of the order, put into the table of places
 --   Carried          the tables that it leaves, prepared again
 --   Stepped          the number of questions 4 to 7, and the tables after them, prepared again
 --   around ts v      the radio v and its neighbours
---   all-around       some radios and their neighbours
+--   all_around       some radios and their neighbours
 --   Joined           a set with some radios put in
---   set-radios ws    the radios of the set ws, ascending
+--   set_radios ws    the radios of the set ws, ascending
 --   touched          both ends, the changed radios and their neighbours, ascending: the radios whose not_lower count may differ
---   recounted        the not_lower counts, some radios counted anew
+--   recounted        the not-lower counts, some radios counted anew
 --   RowsKnown       rows that can be counted
 -- Laws are in proofs/CountLaws.antt and proofs/StepLaws.antt. Definitions only.
-use Rattle.lists.specs.{Kit.{◌≡◌, ◌⊎◌, Bool, true, ◌||◌, List, [], ◌∷◌, ◌++◌, ℕ, ◌+◌, ◌*◌, ◌≤◌, ◌<◌, eqb, length, get_or, set, take}, Facts.{folded}}
+use Rattle.std.specs.Prelude.{◌≡◌, ◌⊎◌, ◌||◌, ◌∷◌, ◌++◌, ◌+◌, ◌*◌, ◌≤◌, ◌<◌}
+use Rattle.lists.specs.{Kit.{Bool, true, List, [], ℕ, eqb, length, get_or, set, take}, Facts.{folded}}
 use Rattle.lists.specs.{Lists.{range, filter, member, In}}
 use Rattle.mesh.specs.{Limits.{max_radios, max_neighbours, row_bytes}, Levels.{changed}, Tables.{Tables, graph_in}}
 use Rattle.calls.specs.{Questions.{ends_refusal}, Switches.{switch, switched}}
@@ -58,7 +59,7 @@ pub record Stepped (up : Bool) (n a b : ℕ) (t : Tables) (r : ℕ) (v : Tables)
   pub refused : (r ≡ 0 → ⊥) → v ≡ t
   pub prepared : Prepared n v places not_lower
 
--- ---- not_lower counts
+-- ---- not-lower counts
 
 abbrev pub around : (links : List ℕ) → (v : ℕ) → List ℕ
 around ts v = v ∷ neighbours_of ts v

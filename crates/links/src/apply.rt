@@ -1,5 +1,6 @@
 // A planned link call, written into the tables.
-ghost use Rattle.lists.specs.Kit.{◌≡◌, ◌+◌, ◌-◌, ◌≤◌, length, take, paste};
+ghost use Rattle.std.specs.Prelude.{◌≡◌, ◌+◌, ◌-◌, ◌≤◌};
+ghost use Rattle.lists.specs.Kit.{length, take, paste};
 ghost use Rattle.lists.specs.Lists.{overwrite};
 ghost use Rattle.mesh.specs.Lent.{lent};
 ghost use Rattle.plan.specs.Planned.{changed_part};
@@ -111,7 +112,7 @@ pub fn write(
 )
     requires { PlanFits plan.start plan.size plan.taken (length stretch.now) (length order.old) }
     ensures { PlanPut up a b plan.start plan.size stretch.now (take k list.now) step
-        (lent links.entry numbers.entry order.entry) (lent links.exit numbers.exit order.exit) }
+        (lent links.old numbers.old order.old) (lent links.new numbers.new order.new) }
 {
     rows::put_link(links, up, a, b);
     steps::step_numbers(numbers, list, k, step);
@@ -133,8 +134,8 @@ pub fn apply(
 ) -> Reply
     requires { PlanFits plan.start plan.size plan.taken (length stretch.now) (length order.old) }
     ensures { Applied up a b plan.start plan.size plan.taken stretch.now
-        (lent links.entry numbers.entry order.entry) answer.old result
-        (lent links.exit numbers.exit order.exit) answer.new }
+        (lent links.old numbers.old order.old) answer.old result
+        (lent links.new numbers.new order.new) answer.new }
 {
     let reply = report(up, plan, stretch, answer);
     write(

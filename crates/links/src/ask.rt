@@ -20,7 +20,7 @@ pub fn ask(
     order: &[u16],
     answer: &mut [u16],
 ) -> Reply
-    ensures { AskContract up n a b (lent links.entry numbers.entry order.entry) answer.old result
+    ensures { AskContract up n a b (lent links.now numbers.now order.now) answer.old result
         answer.new }
 {
     let mut stretch = [0u16; Site::RADIOS as usize];

@@ -1,5 +1,6 @@
 // A batch: links taken up one by one, until one is refused. The tables are checked once.
-ghost use Rattle.lists.specs.Kit.{◌≡◌, true, length};
+ghost use Rattle.std.specs.Prelude.{◌≡◌};
+ghost use Rattle.lists.specs.Kit.{true, length};
 ghost use Rattle.mesh.specs.Lent.{lent};
 ghost use Rattle.calls.specs.Batches.{list_length};
 ghost use Rattle.calls.specs.Outcomes.{tabled, links_taken};
@@ -21,9 +22,9 @@ fn take_links(
     places: &mut [u16; Site::RADIOS as usize],
     not_lower: &mut [u8; Site::RADIOS as usize],
 ) -> Value
-    requires { Prepared n (lent links numbers order) places.old not_lower.old × (list_length (length list.now) ≡ true) }
-    ensures { tabled result (lent links.exit numbers.exit order.exit)
-        ≡ links_taken n list.now (lent links.entry numbers.entry order.entry) }
+    requires { Prepared n (lent links.old numbers.old order.old) places.old not_lower.old × (list_length (length list.now) ≡ true) }
+    ensures { tabled result (lent links.new numbers.new order.new)
+        ≡ links_taken n list.now (lent links.old numbers.old order.old) }
 {
     let mut done: u32 = 0;
     let mut at: usize = 0;
@@ -58,8 +59,8 @@ fn take_links(
 // of links done, which remain; number 0 where none is. Refused by 1 to 3, before any link, the value is 0 and every table keeps its
 // content.
 pub fn batch(n: u32, links: &mut [u8], numbers: &mut [u8], order: &mut [u16], list: &[u16]) -> Value
-    ensures { BatchContract n list.now (lent links.entry numbers.entry order.entry) result
-        (lent links.exit numbers.exit order.exit) }
+    ensures { BatchContract n list.now (lent links.old numbers.old order.old) result
+        (lent links.new numbers.new order.new) }
 {
     let mut places = [0u16; Site::RADIOS as usize];
     let mut not_lower = [0u8; Site::RADIOS as usize];

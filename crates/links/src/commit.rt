@@ -1,5 +1,6 @@
 // Committing: a link call that is carried out where a proposal is true.
-ghost use Rattle.lists.specs.Kit.{◌≡◌, ◌≤◌, pos, length};
+ghost use Rattle.std.specs.Prelude.{◌≡◌, ◌≤◌};
+ghost use Rattle.lists.specs.Kit.{pos, length};
 ghost use Rattle.mesh.specs.Lent.{lent};
 ghost use Rattle.calls.specs.CallContracts.{CommitContract};
 ghost use Rattle.links.specs.Proposed.{plan_proposes};
@@ -49,8 +50,8 @@ pub fn commit(
     order: &mut [u16],
     list: &[u16],
 ) -> Reply
-    ensures { CommitContract up n a b step list.now (lent links.entry numbers.entry order.entry) result
-        (lent links.exit numbers.exit order.exit) }
+    ensures { CommitContract up n a b step list.now (lent links.old numbers.old order.old) result
+        (lent links.new numbers.new order.new) }
 {
     let mut stretch = [0u16; Site::RADIOS as usize];
     let decided = decision::plan(

@@ -1,6 +1,7 @@
 // The not-lower counts brought up to date after a link: only radios whose own number, neighbours or neighbours' numbers changed are
 // counted anew.
-ghost use Rattle.lists.specs.Kit.{◌≡◌, ℕ, ◌+◌, ◌*◌, ◌≤◌, ◌<◌, leb, length, get_or, take};
+ghost use Rattle.std.specs.Prelude.{◌≡◌, ◌+◌, ◌*◌, ◌≤◌, ◌<◌};
+ghost use Rattle.lists.specs.Kit.{ℕ, leb, length, get_or, take};
 ghost use Rattle.lists.specs.Lists.{count, In};
 ghost use Rattle.mesh.specs.Limits.{max_radios, max_neighbours, row_bytes};
 ghost use Rattle.rows.specs.Rows.{neighbours_of, set_bits};

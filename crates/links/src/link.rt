@@ -20,8 +20,8 @@ pub fn link(
     order: &mut [u16],
     answer: &mut [u16],
 ) -> Reply
-    ensures { LinkContract up n a b (lent links.entry numbers.entry order.entry) answer.old result
-        (lent links.exit numbers.exit order.exit) answer.new }
+    ensures { LinkContract up n a b (lent links.old numbers.old order.old) answer.old result
+        (lent links.new numbers.new order.new) answer.new }
 {
     let mut stretch = [0u16; Site::RADIOS as usize];
     let decided = decision::plan(

@@ -1,6 +1,7 @@
 // One link of a list taken up or down on tables that are known to be sound. What the check finds of them, the place and the not-lower
 // count of each radio, is kept up to date from link to link, so that the next one needs no check.
-ghost use Rattle.lists.specs.Kit.{◌≡◌, ℕ, ◌≤◌, ◌<◌, ◌+◌, length, get_or};
+ghost use Rattle.std.specs.Prelude.{◌≡◌, ◌≤◌, ◌<◌, ◌+◌};
+ghost use Rattle.lists.specs.Kit.{ℕ, length, get_or};
 ghost use Rattle.lists.specs.Lists.{range};
 ghost use Rattle.mesh.specs.Limits.{max_radios};
 ghost use Rattle.mesh.specs.Lent.{lent};
@@ -11,7 +12,7 @@ use mesh::Site;
 use plan::{decision, end_questions};
 
 // What a link changed: so many numbers, and of the order at most `size` entries from `start` on.
-#[derive(Drop)]
+#[derive(Clone, Copy)]
 struct Outcome {
     count: u32,
     start: usize,
@@ -31,10 +32,10 @@ fn change(
     not_lower: &[u8; Site::RADIOS as usize],
     changed: &mut [u16; Site::RADIOS as usize],
 ) -> Outcome
-    requires ready { StepReady up (length order.old) a b (lent links numbers order) places.now not_lower.now }
+    requires ready { StepReady up (length order.old) a b (lent links.old numbers.old order.old) places.now not_lower.now }
     requires room { length changed.old ≡ max_radios }
-    ensures { ChangedBy up (length order.old) a b (lent links.entry numbers.entry order.entry)
-        (lent links.exit numbers.exit order.exit) result.count changed.new result.start result.size }
+    ensures { ChangedBy up (length order.old) a b (lent links.old numbers.old order.old)
+        (lent links.new numbers.new order.new) result.count changed.new result.start result.size }
 {
     let mut counters = *not_lower;
     let mut stretch = [0u16; Site::RADIOS as usize];
@@ -84,9 +85,9 @@ pub fn step(
     places: &mut [u16; Site::RADIOS as usize],
     not_lower: &mut [u8; Site::RADIOS as usize],
 ) -> u32
-    requires { Prepared n (lent links numbers order) places.old not_lower.old }
-    ensures { Stepped up n a b (lent links.entry numbers.entry order.entry) result
-        (lent links.exit numbers.exit order.exit) places.new not_lower.new }
+    requires { Prepared n (lent links.old numbers.old order.old) places.old not_lower.old }
+    ensures { Stepped up n a b (lent links.old numbers.old order.old) result
+        (lent links.new numbers.new order.new) places.new not_lower.new }
 {
     let number = end_questions::ends_refusal(up, n, a, b, links);
     if number != 0 {

@@ -1,11 +1,12 @@
 -- Each call on marks by its questions: what the code decides is what its contract says.
---   set-refused, remove-refused, return_refused   1, 2, 3 or 17 got no: the contract's number is that one
+--   set_refused, remove_refused, return_refused   1, 2, 3 or 17 got no: the contract's number is that one
 --   markable           else the tables' image fits a place, and the name is one
---   set-again, set_full, set_new   setting: the name is there; it is new and there are 8 marks; it is new
+--   set_again, set_full, set_new   setting: the name is there; it is new and there are 8 marks; it is new
 --   removed, remove_absent      removing; 18
---   returned, return-absent     coming back; 18
-use Rattle.lists.{specs.Kit.{◌≡◌, refl, sym, ap, ap₂, subst, ◌∙◌, ◌⊎◌, inl, inr, Bool, true, false, ◌&&◌, ◌||◌, List, [], ◌∷◌, ◌++◌, ℕ, suc, ◌+◌, ◌*◌, ◌-◌}}
-use Rattle.lists.{specs.Kit.{◌≤◌, ◌<◌, arith, ltb, leb, eqb, length, take, drop, replicate, length-drop, drop-drop, take_all, length-take-le, eqb-true}}
+--   returned, return_absent     coming back; 18
+use Rattle.std.specs.Prelude.{◌≡◌, ◌⊎◌, ◌&&◌, ◌||◌, ◌∷◌, ◌++◌, ◌+◌, ◌*◌, ◌-◌, ◌≤◌, ◌<◌}
+use Rattle.lists.{specs.Kit.{refl, sym, ap, ap₂, subst, ◌∙◌, inl, inr, Bool, true, false, List, [], ℕ, suc}}
+use Rattle.lists.{specs.Kit.{arith, ltb, leb, eqb, length, take, drop, replicate, length-drop, drop-drop, take_all, length-take-le, eqb-true}}
 use Rattle.lists.{specs.Kit.{leb-true, leb-false, lt-ltb, le-ltb}, proofs.Parts.{take_drop_take}, proofs.Tests.{never, bool_cases, trichotomy}}
 use Rattle.mesh.{specs.Limits.{size_good}, specs.Tables.{Tables, graph_in}, specs.Sound.{sound}, specs.Image.{image_of, is_image}, specs.Marks.{name_bytes}}
 use Rattle.mesh.{specs.Marks.{place_bytes, places, store_bytes, image_size, image_in, place_of, marks_in, store_of, has_mark, found, with_mark, place_at}}
@@ -19,7 +20,7 @@ use Rattle.calls.{specs.CallContracts.{SetContract, RemoveContract, ReturnContra
 use Rattle.calls.{proofs.ChainLaws.{site_zero, site_yes, write_yes}, proofs.ContractLaws.{by_accepted, by_refused, by_zero}, proofs.MarkCalls.{MarkAsked}}
 use Rattle.calls.{proofs.MarkCalls.{mark_zero, mark_is_image, mark_read}}
 use Rattle.marks.specs.{Store.{Located}, Placing.{Markable, mark_place, put_place}}
-use Rattle.calls.specs.{Outcomes.{listing}, Chains.{set_store, removed_store}}
+use Rattle.calls.specs.{Outcomes.{listing}, Chains.{set_store}}
 
 -- ---- 1, 2, 3 or 17 got no
 

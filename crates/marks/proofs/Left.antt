@@ -1,6 +1,7 @@
 -- What is left of a list decides as the whole does: laws of one step for each loop that passes over a list.
-use Rattle.lists.{specs.Kit.{◌≡◌, refl, sym, ap, ap₂, ◌∙◌, ◌⊎◌, inl, inr, Bool, true, false, ◌&&◌, ◌||◌, or-false, and-true, and_assoc, List, [], ◌∷◌, ℕ, zero}}
-use Rattle.lists.{specs.Kit.{suc, ◌+◌, ◌-◌, ◌≤◌, ◌<◌, arith, ltb, leb, eqb, length, get_or, take, drop, length-drop, drop_of_length-le, drop-cons, take_all}}
+use Rattle.std.specs.Prelude.{◌≡◌, ◌⊎◌, ◌&&◌, ◌||◌, ◌∷◌, ◌+◌, ◌-◌, ◌≤◌, ◌<◌}
+use Rattle.lists.{specs.Kit.{refl, sym, ap, ap₂, ◌∙◌, inl, inr, Bool, true, false, or-false, and-true, and_assoc, List, [], ℕ, zero}}
+use Rattle.lists.{specs.Kit.{suc, arith, ltb, leb, eqb, length, get_or, take, drop, length-drop, drop_of_length-le, drop-cons, take_all}}
 use Rattle.lists.{specs.Kit.{bit_or, or_zero_l, or_add_and, and_le_r, eqb-true, eqb-false, ltb-true, lt-ltb, le-ltb, eq-eqb, ne_eqb, le-leb, lt-leb}}
 use Rattle.lists.{specs.Lists.{all}, proofs.Tests.{iff_eq, or_right, bool_cases, and_both}}
 use Rattle.mesh.specs.Marks.{is_alphanumeric, alphanumerics_then_spaces, is_zeros, before}

@@ -7,3 +7,5 @@ pub mod Left
 -- A place tested part by part; loops over the store.
 pub mod MarkTests
 pub mod StoreLoops
+-- its functions in a linked program
+pub mod World

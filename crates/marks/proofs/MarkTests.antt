@@ -1,5 +1,6 @@
 -- The size of a place's image; a place tested part by part: name, image, zeros.
-use Rattle.lists.{specs.Kit.{◌≡◌, sym, ap, ◌∙◌, ◌⊎◌, inl, inr, Bool, true, false, ◌&&◌, List, ℕ, ◌+◌, ◌*◌, ◌-◌, ◌^◌, ◌≤◌, ◌<◌, arith, length, take, drop}}
+use Rattle.std.specs.Prelude.{◌≡◌, ◌⊎◌, ◌&&◌, ◌+◌, ◌*◌, ◌-◌, ◌^◌, ◌≤◌, ◌<◌}
+use Rattle.lists.{specs.Kit.{sym, ap, ◌∙◌, inl, inr, Bool, true, false, List, ℕ, arith, length, take, drop}}
 use Rattle.lists.{specs.Kit.{length-drop, take_all, drop-drop}, proofs.Tests.{bool_cases}}
 use Rattle.mesh.{specs.Limits.{size_good}, specs.Image.{block_bytes, block_count, order_blocks, blocks_for, word_at, is_image}, specs.Marks.{name_bytes}}
 use Rattle.mesh.{specs.Marks.{place_bytes, is_name, is_zeros, name_in, image_size, image_in, is_mark}, proofs.Marks.Laws.{mark_place, length_is_image}}

@@ -1,7 +1,8 @@
 -- Bytes being moved by one place: laws of one step of both loops.
 --   up_none, up_turn       from the last byte on: the bytes from i on are moved
---   down-none, down_turn   from the first byte on: the bytes before i are moved
-use Rattle.lists.specs.Kit.{◌≡◌, refl, sym, ap, ap₂, subst, ◌∙◌, List, [], ◌∷◌, ◌++◌, append_assoc, ℕ, zero, suc, ◌+◌, ◌-◌, ◌≤◌, ◌<◌, arith, length, get_or, take}
+--   down_none, down_turn   from the first byte on: the bytes before i are moved
+use Rattle.std.specs.Prelude.{◌≡◌, ◌∷◌, ◌++◌, ◌+◌, ◌-◌, ◌≤◌, ◌<◌}
+use Rattle.lists.specs.Kit.{refl, sym, ap, ap₂, subst, ◌∙◌, List, [], append_assoc, ℕ, zero, suc, arith, length, get_or, take}
 use Rattle.lists.specs.Kit.{drop, set, length-append, length-drop, length-set, take-append-drop, take-suc, drop-cons, length-take-le, get_or-drop, set_at, paste}
 use Rattle.lists.specs.Kit.{paste-suc, get_or-append-add}
 use Rattle.mesh.specs.{Marks.{place_bytes}, MarkPlaces.{moved_up, moved_down}}

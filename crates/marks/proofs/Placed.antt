@@ -1,7 +1,8 @@
 -- A mark put into its place: zeros, the name in front, then the image in front of the rest.
 --   placed       so the place is the mark of the name and the tables
 --   placed_at    put into place i of a store
-use Rattle.lists.{specs.Kit.{◌≡◌, ap, ap₂, ◌∙◌, List, [], ◌++◌, append-nil, ℕ, ◌+◌, ◌*◌, ◌-◌, ◌≤◌, arith, length, take, drop, replicate}}
+use Rattle.std.specs.Prelude.{◌≡◌, ◌++◌, ◌+◌, ◌*◌, ◌-◌, ◌≤◌}
+use Rattle.lists.{specs.Kit.{ap, ap₂, ◌∙◌, List, [], append-nil, ℕ, arith, length, take, drop, replicate}}
 use Rattle.lists.{specs.Kit.{length-drop, length-replicate, drop_of_length-le, take_at, drop_at, drop-drop, take_all}, specs.Lists.{overwrite}}
 use Rattle.lists.{proofs.Parts.{drop_replicate}}
 use borrow.Rule.Slice.PartMut.{put_mid}

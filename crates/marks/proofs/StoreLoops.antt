@@ -1,5 +1,6 @@
 -- Laws of one step of each loop over the store.
-use Rattle.lists.specs.{Kit.{◌≡◌, refl, sym, ap, ap₂, ◌∙◌, Bool, true, false, ◌&&◌, cond, List, [], ◌∷◌, ℕ, zero, suc, ◌+◌, ◌*◌, ◌-◌, ◌≤◌, ◌<◌, arith, length}}
+use Rattle.std.specs.Prelude.{◌≡◌, ◌&&◌, ◌∷◌, ◌+◌, ◌*◌, ◌-◌, ◌≤◌, ◌<◌}
+use Rattle.lists.specs.{Kit.{refl, sym, ap, ap₂, ◌∙◌, Bool, true, false, cond, List, [], ℕ, zero, suc, arith, length}}
 use Rattle.lists.specs.{Kit.{take, drop, drop_of_length-le, drop-cons, drop-drop, eqb-true}, Lists.{same}}
 use Rattle.mesh.{specs.Limits.{size_good}, specs.Marks.{name_bytes, place_bytes, places, store_bytes, before, is_name, is_zeros, name_in, is_mark, places_of}}
 use Rattle.mesh.{specs.Marks.{used, marks_in, are_marks, is_store, place_at, name_at}, specs.MarkPlaces.{rank, heads}, proofs.Marks.Rules.{mark_at}}

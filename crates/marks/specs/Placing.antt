@@ -1,9 +1,10 @@
 -- A mark put into its place.
 --   Markable n t x     the tables are sound ones of n radios whose image a place holds, and x is a name
---   mark-place n t x   the place of the name x and the image of the tables
---   put-place bs i p   the store bs with p as place i
+--   mark_place n t x   the place of the name x and the image of the tables
+--   put_place bs i p   the store bs with p as place i
 -- Definitions only.
-use Rattle.lists.specs.Kit.{◌≡◌, true, List, ◌++◌, ℕ, ◌+◌, ◌*◌, ◌-◌, take, drop}
+use Rattle.std.specs.Prelude.{◌≡◌, ◌++◌, ◌+◌, ◌*◌, ◌-◌}
+use Rattle.lists.specs.Kit.{true, List, ℕ, take, drop}
 use Rattle.mesh.specs.{Tables.{Tables, graph_in}, Sound.{sound}, Image.{image_of}, Marks.{name_bytes, place_bytes, is_name, place_of}}
 use Rattle.calls.specs.{Questions.{lengths_of}, Chains.{write_refusal}}
 

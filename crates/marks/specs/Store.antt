@@ -3,7 +3,8 @@
 --   Counted bs k      how many places are used
 --   Located bs x used rank there   how many places are used, how many names stand before x, and whether the next is x
 -- Definitions only.
-use Rattle.lists.specs.Kit.{◌≡◌, Bool, List, [], ℕ, zero, suc, ◌≤◌, length, drop}
+use Rattle.std.specs.Prelude.{◌≡◌, ◌≤◌}
+use Rattle.lists.specs.Kit.{Bool, List, [], ℕ, zero, suc, length, drop}
 use Rattle.mesh.specs.{Marks.{places, store_bytes, name_at, marks_in}, MarkPlaces.{rank, heads}}
 
 unfoldable pub last_name : (store : List ℕ) → (i : ℕ) → List ℕ

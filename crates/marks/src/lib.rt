@@ -1,6 +1,9 @@
 // Named marks: set, removed, come back to. `store` puts question 17 to the lent store and says where a name stands. Places are moved within
 // the store, and nothing of one is copied to the stack.
-ghost use Rattle.lists.specs.Kit.{◌≡◌, ◌<◌, ◌+◌, length};
+#![tactic(auto)]
+
+ghost use Rattle.std.specs.Prelude.{◌≡◌, ◌<◌, ◌+◌};
+ghost use Rattle.lists.specs.Kit.{length};
 ghost use Rattle.mesh.specs.Lent.{lent};
 ghost use Rattle.mesh.specs.Marks.{place_bytes, places, store_bytes};
 ghost use Rattle.calls.specs.CallContracts.{SetContract, RemoveContract, ReturnContract};
@@ -21,8 +24,8 @@ mod zeros;
 
 // The place is the mark of the name and the tables after.
 fn put_mark(n: u32, links: &[u8], numbers: &[u8], order: &[u16], name: &[u8], place: &mut [u8])
-    requires { Markable n (lent links numbers order) name.now × (length place.old ≡ place_bytes) }
-    ensures { place.new ≡ mark_place n (lent links.entry numbers.entry order.entry) name.now }
+    requires { Markable n (lent links.now numbers.now order.now) name.now × (length place.old ≡ place_bytes) }
+    ensures { place.new ≡ mark_place n (lent links.now numbers.now order.now) name.now }
 {
     fill::fill8(place, 0);
     fill::copy8(place, name);
@@ -39,9 +42,9 @@ fn put_at(
     kept: &mut [u8],
     i: usize,
 )
-    requires { Markable n (lent links numbers order) name.now × (length kept.old ≡ store_bytes) × (i < places) }
+    requires { Markable n (lent links.now numbers.now order.now) name.now × (length kept.old ≡ store_bytes) × (i < places) }
     ensures { kept.new ≡ put_place kept.old i
-        (mark_place n (lent links.entry numbers.entry order.entry) name.now) }
+        (mark_place n (lent links.now numbers.now order.now) name.now) }
 {
     let at = PLACE * i;
     let end = at + PLACE;
@@ -51,7 +54,7 @@ fn put_at(
 // Sets the mark of the name: the image of the tables, in place of one of that name. Refused by 1, 2, 3, 17 and 19: then every byte of
 // the store keeps its content.
 pub fn set(n: u32, links: &[u8], numbers: &[u8], order: &[u16], name: &[u8], kept: &mut [u8]) -> u32
-    ensures { SetContract n name.now (lent links.entry numbers.entry order.entry) kept.old result
+    ensures { SetContract n name.now (lent links.now numbers.now order.now) kept.old result
         kept.new }
 {
     let spot = store::spot_of(n, links, numbers, order, name, kept);
@@ -80,7 +83,7 @@ pub fn remove(
     name: &[u8],
     kept: &mut [u8],
 ) -> u32
-    ensures { RemoveContract n name.now (lent links.entry numbers.entry order.entry) kept.old result
+    ensures { RemoveContract n name.now (lent links.now numbers.now order.now) kept.old result
         kept.new }
 {
     let spot = store::spot_of(n, links, numbers, order, name, kept);
@@ -107,8 +110,8 @@ pub fn come_back(
     name: &[u8],
     kept: &[u8],
 ) -> u32
-    ensures { ReturnContract n name.now kept.now (lent links.entry numbers.entry order.entry) result
-        (lent links.exit numbers.exit order.exit) }
+    ensures { ReturnContract n name.now kept.now (lent links.old numbers.old order.old) result
+        (lent links.new numbers.new order.new) }
 {
     let spot = store::spot_of(n, links, numbers, order, name, kept);
     if spot.number != 0 {

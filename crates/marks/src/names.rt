@@ -1,5 +1,5 @@
 // Names: 8 bytes, A to Z and 0 to 9, at least one, then spaces.
-ghost use Rattle.lists.specs.Kit.{◌≡◌};
+ghost use Rattle.std.specs.Prelude.{◌≡◌};
 ghost use Rattle.mesh.specs.Marks.{is_alphanumeric, alphanumerics_then_spaces, is_name, before};
 
 use super::zeros;

@@ -1,5 +1,6 @@
 // One place of the store: a name, an image and zeros to its end.
-ghost use Rattle.lists.specs.Kit.{◌≡◌, true, ◌<◌, ◌^◌, length, drop};
+ghost use Rattle.std.specs.Prelude.{◌≡◌, ◌<◌, ◌^◌};
+ghost use Rattle.lists.specs.Kit.{true, length, drop};
 ghost use Rattle.mesh.specs.Limits.{size_good};
 ghost use Rattle.mesh.specs.Marks.{name_bytes, place_bytes, image_size, is_mark};
 

@@ -1,5 +1,6 @@
 // Bytes of a store moved by one place.
-ghost use Rattle.lists.specs.Kit.{◌≡◌, ◌≤◌, ◌+◌, length};
+ghost use Rattle.std.specs.Prelude.{◌≡◌, ◌≤◌, ◌+◌};
+ghost use Rattle.lists.specs.Kit.{length};
 ghost use Rattle.mesh.specs.Marks.{place_bytes};
 ghost use Rattle.mesh.specs.MarkPlaces.{moved_up, moved_down};
 

@@ -1,5 +1,6 @@
 // The store of marks: 8 places, used ones first, in rising order of name.
-ghost use Rattle.lists.specs.Kit.{◌≡◌, true, ◌≤◌, ◌<◌, length};
+ghost use Rattle.std.specs.Prelude.{◌≡◌, ◌≤◌, ◌<◌};
+ghost use Rattle.lists.specs.Kit.{true, length};
 ghost use Rattle.mesh.specs.Limits.{size_good};
 ghost use Rattle.mesh.specs.Lent.{lent};
 ghost use Rattle.mesh.specs.Sound.{sound};
@@ -90,7 +91,7 @@ fn rank_of(store: &[u8], k: usize, name: &[u8]) -> usize
 
 // What questions 1, 2, 3 and 17 come to, and where the number is 0 the spot of a name: how many places are used, how many names stand before
 // it, and whether the next one is the name.
-#[derive(Drop)]
+#[derive(Clone, Copy)]
 pub struct Spot {
     pub number: u32,
     pub used: usize,
@@ -144,8 +145,8 @@ pub fn spot_of(
     name: &[u8],
     store: &[u8],
 ) -> Spot
-    ensures asked { result.number ≡ mark_refusal n (lengths_of (lent links.entry numbers.entry order.entry))
-        (sound n (lent links.entry numbers.entry order.entry)) name.now store.now 0 }
+    ensures asked { result.number ≡ mark_refusal n (lengths_of (lent links.now numbers.now order.now))
+        (sound n (lent links.now numbers.now order.now)) name.now store.now 0 }
     ensures located { result.number ≡ 0 → Located store.now name.now result.used result.rank result.there }
 {
     let number = soundness::refusal(n, links, numbers, order, store.len() == STORE);

@@ -1,5 +1,6 @@
 // Bytes in a row.
-ghost use Rattle.lists.specs.Kit.{◌≡◌, ℕ, eqb};
+ghost use Rattle.std.specs.Prelude.{◌≡◌};
+ghost use Rattle.lists.specs.Kit.{ℕ, eqb};
 ghost use Rattle.lists.specs.Lists.{all};
 ghost use Rattle.mesh.specs.Marks.{is_zeros};
 

@@ -1,6 +1,7 @@
 -- The questions of a link call, asked of the tables, on plain values.
 -- In order: sound tables, what a plan is made from, the questions, what a plan is applied to.
-use Rattle.lists.{specs.Kit.{◌≡◌, sym, ap, ◌∙◌, Bool, true, ◌&&◌, List, ℕ, ◌*◌, ◌≤◌, ◌<◌, arith, le_trans, le_of_eq, leb, length, get_or}, specs.Lists.{range}}
+use Rattle.std.specs.Prelude.{◌≡◌, ◌&&◌, ◌*◌, ◌≤◌, ◌<◌}
+use Rattle.lists.{specs.Kit.{sym, ap, ◌∙◌, Bool, true, List, ℕ, arith, le_trans, le_of_eq, leb, length, get_or}, specs.Lists.{range}}
 use Rattle.lists.{proofs.Range.{range_in}, proofs.Filter.{length_filter, filter_ext}}
 use Rattle.mesh.{specs.Limits.{max_radios, max_neighbours, row_bytes}, specs.Graph.{Graph, radios, linked, neighbours_in}, specs.Cores.{number, numbers}}
 use Rattle.mesh.{specs.Tables.{Tables, graph_in}, specs.Sound.{number_in, rows_proper, sound}, proofs.Cores.Peeling.{get_d_numbers}, proofs.Tables.Rows.{few_of}}

@@ -1,6 +1,7 @@
 -- What stands before the first turn: the counters of both ends brought to the graph after the call, and the places that fit.
-use Rattle.lists.{specs.Kit.{◌≡◌, refl, sym, ap, ◌∙◌, ◌⊎◌, inl, inr, Bool, true, false, ◌&&◌, ◌||◌, cond, or-true, or-false, and-false, List, [], ◌∷◌, ℕ, ◌+◌}}
-use Rattle.lists.{specs.Kit.{◌-◌, ◌≤◌, ◌<◌, arith, leb, eqb, length, get_or, set, get_or-set_same, get_or-set_other, eqb-true, eq-eqb}, specs.Lists.{member, In}}
+use Rattle.std.specs.Prelude.{◌≡◌, ◌⊎◌, ◌&&◌, ◌||◌, ◌∷◌, ◌+◌, ◌-◌, ◌≤◌, ◌<◌}
+use Rattle.lists.{specs.Kit.{refl, sym, ap, ◌∙◌, inl, inr, Bool, true, false, cond, or-true, or-false, and-false, List, [], ℕ}}
+use Rattle.lists.{specs.Kit.{arith, leb, eqb, length, get_or, set, get_or-set_same, get_or-set_other, eqb-true, eq-eqb}, specs.Lists.{member, In}}
 use Rattle.lists.{proofs.Tests.{bool_cases}}
 use Rattle.mesh.{specs.Limits.{max_radios}, specs.Peel.{bound}}
 use Rattle.plan.specs.Turns.{end_counted, ends_counted, places_fitting, BeginReady}

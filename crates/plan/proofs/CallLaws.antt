@@ -1,5 +1,6 @@
 -- A plan with its questions asked, on plain values: refused, made from what, made.
-use Rattle.lists.specs.Kit.{◌≡◌, refl, sym, subst, ◌∙◌, Bool, List, ℕ, ◌≤◌, length}
+use Rattle.std.specs.Prelude.{◌≡◌, ◌≤◌}
+use Rattle.lists.specs.Kit.{refl, sym, subst, ◌∙◌, Bool, List, ℕ, length}
 use Rattle.mesh.specs.{Limits.{max_radios, max_neighbours}, Graph.{Graph}, Tables.{Tables, graph_in}, Sound.{sound}}
 use Rattle.calls.specs.Questions.{lengths_of, answer_length, ends_refusal}
 use Rattle.soundness.specs.Checks.{Asked}

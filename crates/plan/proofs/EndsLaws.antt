@@ -1,6 +1,7 @@
 -- Questions 4 to 7 of a link call, put to the rows of the links table: what each "no" of the code gives, and the "yes" to all.
 -- In order: the rows of a proper table, then each outcome.
-use Rattle.lists.{specs.Kit.{◌≡◌, refl, sym, ap, ◌∙◌, Bool, true, false, ◌&&◌, not, Bool·beq, List, ℕ, ◌*◌, ◌≤◌, ◌<◌, arith, length, lt-ltb, le-ltb, eq-eqb}}
+use Rattle.std.specs.Prelude.{◌≡◌, ◌&&◌, ◌*◌, ◌≤◌, ◌<◌}
+use Rattle.lists.{specs.Kit.{refl, sym, ap, ◌∙◌, Bool, true, false, not, Bool·beq, List, ℕ, arith, length, lt-ltb, le-ltb, eq-eqb}}
 use Rattle.lists.{specs.Kit.{ne_eqb}, proofs.Tests.{and_left, and_right}}
 use Rattle.mesh.{specs.Limits.{max_radios, row_bytes}, specs.Graph.{Graph, linked, degree}, specs.Tables.{marked, graph_in}, specs.Sound.{symmetric}}
 use Rattle.mesh.{specs.Sound.{irreflexive, within, few, rows_proper}, proofs.Tables.ReadBack.{linked_graph_in, degree_graph_in}}

@@ -1,8 +1,9 @@
 -- The entries at the places of a set, listed the lowest first.
 --   EntriesListing   what is listed so far and what is left give what the whole gives
 -- In order: places listed, the set bits of a word, the words of a set; places that tell marked entries.
-use Rattle.lists.{specs.Kit.{◌≡◌, refl, sym, ap, ◌∙◌, ◌⊎◌, inl, inr, Bool, true, false, cond, List, [], ◌∷◌, ◌++◌, append-nil, ℕ, zero, suc, ◌+◌, ◌*◌, ◌-◌}}
-use Rattle.lists.{specs.Kit.{◌/◌, ◌%◌, ◌^◌, ◌≤◌, ◌<◌, arith, add-one, add-zero, bit_and, and_le_l, count_trailing_zeros, length, get_or, set, take, drop, replicate}}
+use Rattle.std.specs.Prelude.{◌≡◌, ◌⊎◌, ◌∷◌, ◌++◌, ◌+◌, ◌*◌, ◌-◌, ◌/◌, ◌%◌, ◌^◌, ◌≤◌, ◌<◌}
+use Rattle.lists.{specs.Kit.{refl, sym, ap, ◌∙◌, inl, inr, Bool, true, false, cond, List, [], append-nil, ℕ, zero, suc}}
+use Rattle.lists.{specs.Kit.{arith, add-one, add-zero, bit_and, and_le_l, count_trailing_zeros, length, get_or, set, take, drop, replicate}}
 use Rattle.lists.{specs.Kit.{length-append, length-replicate, eqb, sets, drop-cons, eqb-true, eqb-false}, specs.Lists.{filter, range}}
 use Rattle.lists.{proofs.Filter.{filter_append, filter_none, in_filter}, proofs.Map.{map_append, length-map}, proofs.Member.{in_left, in_right}}
 use Rattle.lists.{proofs.Overwrite.{sets_append}, proofs.Range.{range_in, range_append}, proofs.Tests.{bool_cases, never}}

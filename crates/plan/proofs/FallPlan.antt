@@ -1,6 +1,7 @@
 -- The plan of a link going down: both ends are released. Before the call each radio of the level has K neighbours or more that are not
 -- below it, so that only an end's place can fit before the first turn. So the peel is ready.
-use Rattle.lists.{specs.Kit.{◌≡◌, refl, sym, ap, ◌∙◌, ◌⊎◌, inl, inr, Bool, true, false, ◌&&◌, ◌||◌, List, [], ◌∷◌, ℕ, ◌+◌, ◌-◌, ◌≤◌, ◌<◌, min, arith, leb, eqb}}
+use Rattle.std.specs.Prelude.{◌≡◌, ◌⊎◌, ◌&&◌, ◌||◌, ◌∷◌, ◌+◌, ◌-◌, ◌≤◌, ◌<◌}
+use Rattle.lists.{specs.Kit.{refl, sym, ap, ◌∙◌, inl, inr, Bool, true, false, List, [], ℕ, min, arith, leb, eqb}}
 use Rattle.lists.{specs.Kit.{length, get_or, replicate, length-replicate, lt-leb}, specs.Lists.{member, In}, proofs.Tests.{never}, proofs.Member.{in_member}}
 use Rattle.mesh.{specs.Limits.{max_radios}, specs.Graph.{Graph}, specs.Cores.{number}, specs.Tables.{tables, graph_in}}
 use Rattle.mesh.{specs.Peel.{bound, none}}

@@ -1,5 +1,6 @@
 -- A level's numbers counted part by part: a byte counts a part, and the parts come to the whole.
-use Rattle.lists.{specs.Kit.{◌≡◌, sym, ap, Bool, List, ℕ, ◌+◌, ◌≤◌, ◌<◌, arith, take, drop, length-take, take-append-drop, drop-drop}, specs.Lists.{count}}
+use Rattle.std.specs.Prelude.{◌≡◌, ◌+◌, ◌≤◌, ◌<◌}
+use Rattle.lists.{specs.Kit.{sym, ap, Bool, List, ℕ, arith, take, drop, length-take, take-append-drop, drop-drop}, specs.Lists.{count}}
 use Rattle.lists.{proofs.Tests.{bit_one, byte_bit}, proofs.Count.{count_append, count_not}, proofs.Loops.{CountedFrom}}
 use mir.{Syntax.{w8}, Val.{bool_byte, Fits}}
 

@@ -1,12 +1,12 @@
 -- The stretch of a level: which radios stand in it, and in which order their places are.
 -- In order: laws of lists, the radios of the stretch, places along what is left of it.
-use Rattle.lists.{specs.Kit.{◌≡◌, sym, ap, ◌∙◌, ◌⊎◌, inl, inr, Bool, true, false, List, [], ◌∷◌, ℕ, suc, ◌+◌, ◌-◌, ◌≤◌, ◌<◌, arith, length, get_or}}
+use Rattle.std.specs.Prelude.{◌≡◌, ◌⊎◌, ◌∷◌, ◌+◌, ◌-◌, ◌≤◌, ◌<◌, ◌&&◌}
+use Rattle.lists.{specs.Kit.{sym, ap, ◌∙◌, inl, inr, Bool, true, false, List, [], ℕ, suc, arith, length, get_or}}
 use Rattle.lists.{specs.Lists.{head_or, In}, specs.Facts.{Distinct, Rising}, proofs.Tests.{bool_cases}, proofs.Member.{in_get_d, get_d_of_in}}
 use Rattle.lists.{proofs.Member.{head_or_below}, proofs.Ascending.{head_or_lowest, rising_index}}
 use Rattle.mesh.specs.{Limits.{max_radios}}
 use Rattle.plan.specs.Peels.{stretch, Level}
 use Rattle.plan.proofs.StretchLoops.{length_stretch, get_d_stretch}
-use Rattle.lists.specs.Kit.{◌&&◌}
 use Rattle.lists.proofs.Ascending.{ascending_range, ascending_filter}
 use Rattle.lists.proofs.Range.{in_range}
 use Rattle.lists.proofs.Tests.{and_left, and_both}

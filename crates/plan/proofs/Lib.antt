@@ -48,3 +48,5 @@ pub mod WalkSteps
 pub mod WalkPlan
 -- the walk by words: its turns
 pub mod WordTurns
+-- its functions in a linked program
+pub mod World

@@ -1,6 +1,7 @@
 -- The neighbours of a radio after a link went up or down: by the row's own bits where the radio is no end of the link, else by
 -- a copy of the row with one bit put.
-use Rattle.lists.{specs.Kit.{◌≡◌, refl, sym, ap, ◌∙◌, ◌⊎◌, inl, inr, Bool, true, false, ◌&&◌, cond, List, ℕ, suc, ◌+◌, ◌*◌, ◌/◌, ◌≤◌, ◌<◌, min, arith, eqb}}
+use Rattle.std.specs.Prelude.{◌≡◌, ◌⊎◌, ◌&&◌, ◌+◌, ◌*◌, ◌/◌, ◌≤◌, ◌<◌}
+use Rattle.lists.{specs.Kit.{refl, sym, ap, ◌∙◌, inl, inr, Bool, true, false, cond, List, ℕ, suc, min, arith, eqb}}
 use Rattle.lists.{specs.Kit.{length, take, drop, length-drop, take_all, get_or-take, get_or-drop, length-take-le, eqb-true, eqb-false, eq-eqb, ne_eqb}}
 use Rattle.lists.{specs.Lists.{range, overwrite}, proofs.Tests.{bool_cases}, proofs.Range.{range_in}, proofs.Filter.{filter_ext}}
 use Rattle.lists.{proofs.Overwrite.{overwrite_all}}

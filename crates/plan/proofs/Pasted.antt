@@ -1,5 +1,6 @@
 -- A list copied over a part of another that is lent.
-use Rattle.lists.{specs.Kit.{◌≡◌, sym, ap, ap₂, ◌∙◌, List, ◌++◌, append_assoc, ℕ, ◌+◌, ◌-◌, ◌≤◌, arith, length, take, drop, take_all, paste}}
+use Rattle.std.specs.Prelude.{◌≡◌, ◌++◌, ◌+◌, ◌-◌, ◌≤◌}
+use Rattle.lists.{specs.Kit.{sym, ap, ap₂, ◌∙◌, List, append_assoc, ℕ, arith, length, take, drop, take_all, paste}}
 use Rattle.lists.{specs.Lists.{overwrite}, proofs.Overwrite.{overwrite_take}}
 use borrow.Rule.Slice.PartMut.{mid_of, put_mid, mid_len, Post-is}
 

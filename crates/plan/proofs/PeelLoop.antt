@@ -1,5 +1,6 @@
 -- The loop of the peel, as its invariant: the entries written so far are taken, and p is the lowest place that fits.
-use Rattle.lists.{specs.Kit.{◌≡◌, refl, sym, ap, ◌∙◌, ◌⊎◌, inl, inr, Bool, true, false, not, cond, List, [], ◌∷◌, ◌++◌, ℕ, ◌+◌, ◌/◌, ◌%◌, ◌≤◌, ◌<◌, arith}}
+use Rattle.std.specs.Prelude.{◌≡◌, ◌⊎◌, ◌∷◌, ◌++◌, ◌+◌, ◌/◌, ◌%◌, ◌≤◌, ◌<◌}
+use Rattle.lists.{specs.Kit.{refl, sym, ap, ◌∙◌, inl, inr, Bool, true, false, not, cond, List, [], ℕ, arith}}
 use Rattle.lists.{specs.Kit.{add-one, eqb, length, get_or, set, take, replicate, length-set, length-replicate, get_or-replicate, length-take-le, take-suc-set}}
 use Rattle.lists.{specs.Kit.{eqb-true, eqb-false}, specs.Lists.{head_or, member, all, range, In}, proofs.All.{all_in}, proofs.Tests.{bool_cases, never}}
 use Rattle.lists.{proofs.Member.{in_left, in_right, in_cases, member_in, in_member, not_member}, proofs.Range.{in_range}}

@@ -1,10 +1,11 @@
 -- A turn of the peel, on plain values: the lowest fitting place is that of the radio that the peel takes next, and after its
 -- neighbours are released counters and fitting places tell of what is left then. At the end the radios whose counter is above
 -- the bound are the stuck ones.
-use Rattle.lists.{specs.Kit.{◌≡◌, refl, sym, ap, ◌∙◌, ◌⊎◌, inl, inr, Bool, true, false, not, ◌&&◌, ◌||◌, cond, List, [], ◌∷◌, ◌++◌, ℕ, ◌+◌, ◌≤◌, ◌<◌, arith}}
+use Rattle.std.specs.Prelude.{◌≡◌, ◌⊎◌, ◌&&◌, ◌||◌, ◌∷◌, ◌++◌, ◌+◌, ◌≤◌, ◌<◌}
+use Rattle.lists.{specs.Kit.{refl, sym, ap, ◌∙◌, inl, inr, Bool, true, false, not, cond, List, [], ℕ, arith}}
 use Rattle.lists.{specs.Kit.{ltb, leb, eqb, length, get_or, length-append, eqb-true, eqb-false, ne_eqb, leb-true, leb-false, lt-ltb, le-ltb}, specs.Lists.{count}}
 use Rattle.lists.{specs.Lists.{filter, member, head_or, In}, specs.Facts.{Distinct, Rising}, proofs.Tests.{bool_cases, never, and_left, and_right, bit_false}}
-use Rattle.lists.{proofs.Member.{in_left, in_right, in_cases, in_drop, member_in, in_member, not_member, split_in}, proofs.Count.{count_append, count_mid}}
+use Rattle.lists.{proofs.Member.{in_left, in_right, in_cases, in_drop, member_in, in_member, not_member, split_in}, proofs.Count.{count_mid}}
 use Rattle.lists.{proofs.Count.{count_pos, count_all}, proofs.Distinct.{permutation_in, distinct_mid, distinct_right, distinct_apart, permutation_distinct}}
 use Rattle.lists.{proofs.Filter.{filter_ext, in_filter, filter_in, distinct_filter}, proofs.Ascending.{rising_filter, rising_before}}
 use Rattle.mesh.{specs.Limits.{max_radios}, specs.Tables.{marked}, specs.Peel.{Peels}}

@@ -1,5 +1,6 @@
 -- Where the next turn of a walk is, by the lowest place due; the beginning end, branch by branch.
-use Rattle.lists.specs.{Kit.{◌≡◌, List, ℕ, ◌+◌, ◌≤◌, ◌<◌, arith, get_or, lt-ltb, le-ltb, le-leb, lt-leb}, Lists.{head_or}}
+use Rattle.std.specs.Prelude.{◌≡◌, ◌+◌, ◌≤◌, ◌<◌}
+use Rattle.lists.specs.{Kit.{List, ℕ, arith, get_or, lt-ltb, le-ltb, le-leb, lt-leb}, Lists.{head_or}}
 use Rattle.mesh.specs.Limits.{max_radios}
 use Rattle.plan.specs.Places.{stop_place, next_place, beginning_end}
 use Rattle.rows.specs.Sets.{common}

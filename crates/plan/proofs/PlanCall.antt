@@ -1,5 +1,6 @@
 -- The facts that a plan's code hands from call to call, as the code names its values.
-use Rattle.lists.specs.{Kit.{◌≡◌, ap, ◌∙◌, Bool, true, false, not, List, ℕ, ◌+◌, ◌≤◌, ◌<◌, min, arith, ltb, length, get_or, replicate, length-replicate, sets}}
+use Rattle.std.specs.Prelude.{◌≡◌, ◌+◌, ◌≤◌, ◌<◌}
+use Rattle.lists.specs.{Kit.{ap, ◌∙◌, Bool, true, false, not, List, ℕ, min, arith, ltb, length, get_or, replicate, length-replicate, sets}}
 use Rattle.lists.specs.{Lists.{range, filter}}
 use Rattle.mesh.{specs.Limits.{max_radios}, specs.Graph.{linked}, specs.Tables.{tables, graph_in}, proofs.GraphLaws.{linked_sym}}
 use Rattle.mesh.{proofs.Links.Call.{linked_positive}, specs.Peel.{bound}}

@@ -1,5 +1,6 @@
 -- What a plan comes to: the taken, then the stuck, are document 01's layout of the stretch, and one part of them the changed radios.
-use Rattle.lists.{specs.Kit.{◌≡◌, refl, sym, ap, ap₂, subst, ◌∙◌, ◌⊎◌, inl, inr, Bool, true, false, cond, List, [], ◌++◌, append_assoc, ℕ, ◌+◌, ◌≤◌, ◌<◌}}
+use Rattle.std.specs.Prelude.{◌≡◌, ◌⊎◌, ◌++◌, ◌+◌, ◌≤◌, ◌<◌}
+use Rattle.lists.{specs.Kit.{refl, sym, ap, ap₂, subst, ◌∙◌, inl, inr, Bool, true, false, cond, List, [], append_assoc, ℕ}}
 use Rattle.lists.{specs.Kit.{arith, ltb, length, get_or, take, drop, length-append, take-append-drop, paste, paste-zero, drop-drop, sets, sets-eq, length-sets}}
 use Rattle.lists.{specs.Kit.{take_at, drop_at, take-take, get_or-take, length-take-le}, specs.Lists.{filter, member, In}, proofs.Member.{in_cases, in_get_d}}
 use Rattle.lists.{proofs.Count.{count_all}}

@@ -1,6 +1,7 @@
 -- The level that a link call peels, from sound tables and a call that is allowed: its stretch, its radios, the neighbours after
 -- the call.
-use Rattle.lists.{specs.Kit.{◌≡◌, refl, sym, ap, ap₂, ◌∙◌, ◌⊎◌, inl, inr, Bool, true, false, ◌&&◌, cond, List, ◌++◌, ℕ, ◌+◌, ◌-◌, ◌≤◌, ◌<◌, min, arith, ltb}}
+use Rattle.std.specs.Prelude.{◌≡◌, ◌⊎◌, ◌&&◌, ◌++◌, ◌+◌, ◌-◌, ◌≤◌, ◌<◌}
+use Rattle.lists.{specs.Kit.{refl, sym, ap, ap₂, ◌∙◌, inl, inr, Bool, true, false, cond, List, ℕ, min, arith, ltb}}
 use Rattle.lists.{specs.Kit.{eqb, length, get_or, length-append, ltb-true, ltb-false, eqb-true, eq-eqb}, specs.Lists.{count, In}, specs.Facts.{EachOnce}}
 use Rattle.lists.{proofs.Tests.{bool_cases, never, and_left, and_right}, proofs.Filter.{in_filter, filter_in}, proofs.Range.{once_in, once_below}}
 use Rattle.lists.{proofs.Member.{in_get_d, get_d_of_in}, proofs.Count.{count_map}}

@@ -1,6 +1,7 @@
 -- What a plan starts from: the level's not-lower counts, changed at both ends, count the neighbours after the call among the level
 -- and above; the marked places are the ones that fit. So the peel is ready.
-use Rattle.lists.{specs.Kit.{◌≡◌, refl, sym, ap, ◌∙◌, ◌⊎◌, inl, inr, Bool, true, false, not, ◌&&◌, ◌||◌, cond, List, [], ◌++◌, ℕ, ◌+◌, ◌-◌, ◌≤◌, ◌<◌, min}}
+use Rattle.std.specs.Prelude.{◌≡◌, ◌⊎◌, ◌&&◌, ◌||◌, ◌++◌, ◌+◌, ◌-◌, ◌≤◌, ◌<◌}
+use Rattle.lists.{specs.Kit.{refl, sym, ap, ◌∙◌, inl, inr, Bool, true, false, not, cond, List, [], ℕ, min}}
 use Rattle.lists.{specs.Kit.{arith, ltb, leb, eqb, length, get_or, ltb-true, eqb-true, eqb-false, le-leb, lt-leb}, specs.Lists.{range, count, member, In}}
 use Rattle.lists.{specs.Facts.{Distinct}, proofs.Tests.{bool_cases, and_left, and_both}, proofs.Member.{in_cases, member_in, in_member}}
 use Rattle.lists.{proofs.Count.{count_append, count_pos, count_none, count_ext}, proofs.Filter.{in_filter}, proofs.Range.{in_range, range_in, once_in}}

@@ -1,6 +1,7 @@
 -- The plan of a level that rises whole: no radio of it fits with the link, so the peel takes nobody and the stretch stands as it stood.
 -- In order: which radios fit with the link, the loop over the stretch, the plan.
-use Rattle.lists.{specs.Kit.{◌≡◌, refl, sym, ap, ◌∙◌, ◌⊎◌, inl, inr, Bool, true, false, ◌||◌, cond, List, ◌++◌, ℕ, ◌+◌, ◌-◌, ◌≤◌, ◌<◌, min, arith, add-zero}}
+use Rattle.std.specs.Prelude.{◌≡◌, ◌⊎◌, ◌||◌, ◌++◌, ◌+◌, ◌-◌, ◌≤◌, ◌<◌}
+use Rattle.lists.{specs.Kit.{refl, sym, ap, ◌∙◌, inl, inr, Bool, true, false, cond, List, ℕ, min, arith, add-zero}}
 use Rattle.lists.{specs.Kit.{ltb, leb, eqb, length, get_or, drop, take, paste, sets, sets-eq, ltb-true, leb-true, leb-false, eqb-true, eqb-false, lt-ltb, le-leb}}
 use Rattle.lists.{specs.Kit.{eq-eqb, ne_eqb, not-true}, specs.Lists.{all, filter, In}, proofs.All.{all_in}, proofs.Filter.{filter_all}}
 use Rattle.lists.{proofs.Tests.{bool_cases, iff_eq}}

@@ -1,6 +1,7 @@
 -- The loops over a level's stretch, as invariants over what is left of their lists.
 -- In order: what stands at a place of the stretch; its radios that a test passes, listed; whether all of them pass it.
-use Rattle.lists.specs.{Kit.{◌≡◌, refl, ap, ◌∙◌, Bool, true, false, List, ◌∷◌, ℕ, ◌+◌, ◌≤◌, ◌<◌, arith, add-one, length, get_or, set, drop, length-drop}}
+use Rattle.std.specs.Prelude.{◌≡◌, ◌∷◌, ◌+◌, ◌≤◌, ◌<◌}
+use Rattle.lists.specs.{Kit.{refl, ap, ◌∙◌, Bool, true, false, List, ℕ, arith, add-one, length, get_or, set, drop, length-drop}}
 use Rattle.lists.specs.{Kit.{length-set, sets, drop-cons, drop-length, get_or-take, get_or-drop, length-take-le}, Lists.{all, filter}}
 use Rattle.plan.specs.Peels.{stretch}
 

@@ -1,7 +1,8 @@
 -- What releasing listed radios comes to: each radio of the level that is listed has a counter one less, and its place is marked
 -- if that counter is then the bound; no other place of the level changes.
-use Rattle.lists.{specs.Kit.{◌≡◌, refl, sym, ap, ◌∙◌, ◌⊎◌, inl, inr, Bool, true, false, ◌&&◌, ◌||◌, cond, or-true, or-false, and-false, List, [], ◌∷◌, ℕ, ◌+◌}}
-use Rattle.lists.{specs.Kit.{◌-◌, ◌<◌, arith, leb, eqb, length, get_or, set, get_or-set_same, get_or-set_other, eqb-true, eqb-false, eq-eqb, ne_eqb, leb-true}}
+use Rattle.std.specs.Prelude.{◌≡◌, ◌⊎◌, ◌&&◌, ◌||◌, ◌∷◌, ◌+◌, ◌-◌, ◌<◌}
+use Rattle.lists.{specs.Kit.{refl, sym, ap, ◌∙◌, inl, inr, Bool, true, false, cond, or-true, or-false, and-false, List, [], ℕ}}
+use Rattle.lists.{specs.Kit.{arith, leb, eqb, length, get_or, set, get_or-set_same, get_or-set_other, eqb-true, eqb-false, eq-eqb, ne_eqb, leb-true}}
 use Rattle.lists.{specs.Kit.{leb-false, le-leb, lt-leb}, specs.Lists.{member}, proofs.Tests.{never, bool_cases, and_left}, proofs.Member.{not_member}}
 use Rattle.mesh.{specs.Limits.{max_radios}}
 use Rattle.plan.specs.Turns.{counter_less, released, place_marked, places_released, Releasable}

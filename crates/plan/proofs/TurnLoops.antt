@@ -1,7 +1,8 @@
 -- The loops of a turn, as invariants over what is left of their lists.
 -- In order: lengths, the places that fit at the start, radios released: one, of a list, of a word, of a row.
-use Rattle.lists.{specs.Kit.{◌≡◌, refl, sym, ap, ◌∙◌, ◌⊎◌, inl, inr, Bool, true, false, ◌&&◌, cond, List, [], ◌∷◌, ◌++◌, ℕ, suc, ◌+◌, ◌*◌, ◌-◌, ◌/◌, ◌%◌, ◌^◌}}
-use Rattle.lists.{specs.Kit.{◌≤◌, ◌<◌, arith, add-one, bit_and, and_le_l, count_trailing_zeros, leb, eqb, length, get_or, set, drop, length-set, drop-cons}}
+use Rattle.std.specs.Prelude.{◌≡◌, ◌⊎◌, ◌&&◌, ◌∷◌, ◌++◌, ◌+◌, ◌*◌, ◌-◌, ◌/◌, ◌%◌, ◌^◌, ◌≤◌, ◌<◌}
+use Rattle.lists.{specs.Kit.{refl, sym, ap, ◌∙◌, inl, inr, Bool, true, false, cond, List, [], ℕ, suc}}
+use Rattle.lists.{specs.Kit.{arith, add-one, bit_and, and_le_l, count_trailing_zeros, leb, eqb, length, get_or, set, drop, length-set, drop-cons}}
 use Rattle.lists.{specs.Kit.{get_or-set_other, drop-length, eq-eqb, ne_eqb}, specs.Lists.{range, filter}, proofs.Tests.{bool_cases}, proofs.Member.{in_left}}
 use Rattle.lists.{proofs.Distinct.{distinct_left}, proofs.Filter.{filter_filter}, proofs.Parts.{length_cond}}
 use Rattle.mesh.{specs.Limits.{max_radios, row_bytes}, specs.Tables.{digit, marked}}

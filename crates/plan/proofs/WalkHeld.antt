@@ -1,6 +1,7 @@
 -- What a turn of the walk that holds a radio writes into its tables, as the turns of crate walks ask it: its counter, and the places of its
 -- later neighbours.
-use Rattle.lists.{specs.Kit.{◌≡◌, refl, sym, ◌∙◌, ◌⊎◌, inl, inr, Bool, true, false, List, ℕ, ◌+◌, ◌-◌, ◌<◌, arith, length, get_or, set, ne_eqb, get_or-set_same}}
+use Rattle.std.specs.Prelude.{◌≡◌, ◌⊎◌, ◌+◌, ◌-◌, ◌<◌}
+use Rattle.lists.{specs.Kit.{refl, sym, ◌∙◌, inl, inr, Bool, true, false, List, ℕ, arith, length, get_or, set, ne_eqb, get_or-set_same}}
 use Rattle.lists.{specs.Kit.{get_or-set_other}, specs.Lists.{In}, proofs.Tests.{bool_cases}, proofs.Member.{member_in}}
 use Rattle.mesh.{specs.Limits.{max_radios}, specs.Tables.{marked}}
 use Rattle.rows.{specs.Rows.{neighbours_of}, proofs.RowListLaws.{in_neighbours_of, member_neighbours_of}}

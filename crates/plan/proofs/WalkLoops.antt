@@ -1,6 +1,7 @@
 -- The loops of the walk's leaves, and what touching listed radios comes to: places due are kept, and each new one is the place of a listed
 -- radio that stands later in the level.
-use Rattle.lists.{specs.Kit.{◌≡◌, refl, sym, ap, ◌∙◌, ◌⊎◌, inl, inr, Bool, true, false, cond, List, [], ◌∷◌, ◌++◌, ℕ, ◌+◌, ◌-◌, ◌≤◌, ◌<◌, arith, eqb, length}}
+use Rattle.std.specs.Prelude.{◌≡◌, ◌⊎◌, ◌∷◌, ◌++◌, ◌+◌, ◌-◌, ◌≤◌, ◌<◌}
+use Rattle.lists.{specs.Kit.{refl, sym, ap, ◌∙◌, inl, inr, Bool, true, false, cond, List, [], ℕ, arith, eqb, length}}
 use Rattle.lists.{specs.Kit.{get_or, take, drop, length-take-le, get_or-take, take-take, paste, eqb-true, eq-eqb, ne_eqb, lt-ltb, le-ltb}, specs.Lists.{count}}
 use Rattle.lists.{specs.Lists.{overwrite, In}, specs.Facts.{folded}, proofs.Tests.{bool_cases}, proofs.Member.{in_get_d}, proofs.Parts.{length_cond}}
 use Rattle.lists.{proofs.Loops.{CountedFrom, counted_turn, counted_end, length_folded}}
@@ -89,6 +90,7 @@ module _ (k p : ℕ) (ns ps : List ℕ) where
   pub touched_marks : (near ds : List ℕ) → Small near → length ds ≡ 8 → (w : ℕ) → In w near → is_later k p ns ps w ≡ true
       → in_set (places_touched k p ns ps near ds) (get_or ps w 0) ≡ true
   unfolding places_touched folded place_touched
+  touched_marks [] ds small long w x4 t = elim x4 [ ]
   touched_marks (v ∷ vs) ds small long w (inl s) t =
       let lw = small w (inl s) t in
       touched_keeps vs (cond (is_later k p ns ps v) (put_in (get_or ps v 0) ds) ds) (λ u i. small u (inr i)) (length_place_touched v ds ∙ long) (get_or ps w 0) lw

@@ -1,5 +1,6 @@
 -- The facts that the walk's code hands from call to call, as the code names its values.
-use Rattle.lists.specs.{Kit.{◌≡◌, sym, ap, ◌∙◌, true, false, List, ℕ, ◌+◌, ◌-◌, ◌≤◌, ◌<◌, arith, length, get_or, set, take}, Lists.{count, head_or}}
+use Rattle.std.specs.Prelude.{◌≡◌, ◌+◌, ◌-◌, ◌≤◌, ◌<◌}
+use Rattle.lists.specs.{Kit.{sym, ap, ◌∙◌, true, false, List, ℕ, arith, length, get_or, set, take}, Lists.{count, head_or}}
 use Rattle.mesh.specs.{Limits.{max_radios, max_neighbours}, Tables.{put_link}}
 use Rattle.rows.specs.{Rows.{neighbours_of}, Sets.{put_in, take_out}}
 use Rattle.plan.specs.{Turns.{released, places_released, Releasable, RowReady, ListsNeighbours}, Walks.{is_left, places_touched, radios_of, Known}}

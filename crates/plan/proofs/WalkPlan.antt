@@ -1,10 +1,11 @@
 -- A plan by the walk, from sound tables and a call that is allowed: what the walk is made from, and what it comes to.
 --   Chosen         the beginning end: it is of the lower level, and the other end does not stand before it
 --   site           what the walk is made from
---   walked-plan    the plan of a walk
---   settled-plan   the plan of the quick path
-use Rattle.lists.{specs.Kit.{◌≡◌, refl, sym, ap, subst, ◌∙◌, ◌⊎◌, inl, inr, Bool, true, false, cond, List, [], ◌∷◌, ◌++◌, append-nil, append_assoc, ℕ, suc}}
-use Rattle.lists.{specs.Kit.{◌+◌, ◌*◌, ◌-◌, ◌≤◌, ◌<◌, min, arith, ltb, leb, eqb, length, get_or, take, drop, length-drop, take-append-drop, drop_of_length-le}}
+--   walked_plan    the plan of a walk
+--   settled_plan   the plan of the quick path
+use Rattle.std.specs.Prelude.{◌≡◌, ◌⊎◌, ◌∷◌, ◌++◌, ◌+◌, ◌*◌, ◌-◌, ◌≤◌, ◌<◌}
+use Rattle.lists.{specs.Kit.{refl, sym, ap, subst, ◌∙◌, inl, inr, Bool, true, false, cond, List, [], append-nil, append_assoc, ℕ, suc}}
+use Rattle.lists.{specs.Kit.{min, arith, ltb, leb, eqb, length, get_or, take, drop, length-drop, take-append-drop, drop_of_length-le}}
 use Rattle.lists.{specs.Kit.{length-take-le, get_or-take, get_or-drop, drop-cons, drop-drop, drop-append-le, take-take, take_all, paste, paste-zero, ltb-true}}
 use Rattle.lists.{specs.Kit.{ltb-false, lt-ltb, eq-eqb, ne_eqb, leb-true}, specs.Lists.{count, filter, member, In}, proofs.Tests.{bool_cases}}
 use Rattle.lists.{proofs.Member.{in_left, in_right, in_cases, in_get_d, get_d_of_in}, proofs.Count.{count_append}, proofs.Filter.{in_filter, filter_in}}

@@ -1,6 +1,7 @@
 -- What a turn of the walk that takes a radio writes into its tables, as the turns of crate walks ask it: `turn::release` has the table of
 -- candidates in the place of the numbers.
-use Rattle.lists.{specs.Kit.{◌≡◌, refl, sym, ap, ◌∙◌, ◌⊎◌, inl, inr, Bool, true, false, ◌&&◌, ◌||◌, cond, or-true, List, [], ◌∷◌, ℕ, ◌+◌, ◌-◌, ◌≤◌, ◌<◌}}
+use Rattle.std.specs.Prelude.{◌≡◌, ◌⊎◌, ◌&&◌, ◌||◌, ◌∷◌, ◌+◌, ◌-◌, ◌≤◌, ◌<◌}
+use Rattle.lists.{specs.Kit.{refl, sym, ap, ◌∙◌, inl, inr, Bool, true, false, cond, or-true, List, [], ℕ}}
 use Rattle.lists.{specs.Kit.{arith, eqb, length, get_or, eqb-true, eq-eqb, ne_eqb}, specs.Lists.{member, In}}
 use Rattle.lists.{proofs.Tests.{bool_cases, never, and_left, and_right, or_cases}, proofs.Member.{member_in, in_member}}
 use Rattle.mesh.{specs.Limits.{max_radios}, specs.Tables.{marked}}

@@ -1,9 +1,10 @@
 -- The walk's loop: where its turns are, its invariant, and what it comes to.
---   start-state   before the first turn nothing is held, counted or due
+--   start_state   before the first turn nothing is held, counted or due
 --   settled_is    the quick path's count
 --   WalkFrom     the loop's invariant
 --   walk_end      what the loop and the listing of the candidates leave
-use Rattle.lists.{specs.Kit.{◌≡◌, refl, sym, ap, ◌∙◌, ◌⊎◌, inl, inr, Bool, true, false, List, [], ◌∷◌, ◌++◌, append-nil, ℕ, ◌+◌, ◌-◌, ◌≤◌, ◌<◌, min, arith}}
+use Rattle.std.specs.Prelude.{◌≡◌, ◌⊎◌, ◌∷◌, ◌++◌, ◌+◌, ◌-◌, ◌≤◌, ◌<◌}
+use Rattle.lists.{specs.Kit.{refl, sym, ap, ◌∙◌, inl, inr, Bool, true, false, List, [], append-nil, ℕ, min, arith}}
 use Rattle.lists.{specs.Kit.{add-zero, ltb, leb, eqb, length, get_or, take, drop, replicate, length-replicate, length-append, drop_of_length-le}}
 use Rattle.lists.{specs.Kit.{take-append-drop, length-take-le, sets, sets-eq, length-sets, take-take, take_at, drop_at, drop-cons, paste, leb-true, leb-false}}
 use Rattle.lists.{specs.Kit.{ltb-true, ltb-false}, specs.Lists.{count, head_or}, proofs.Tests.{bool_cases, never}, proofs.Parts.{get_d_zeros}}

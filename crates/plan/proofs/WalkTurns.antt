@@ -1,10 +1,11 @@
 -- The turns of the walk on its tables: each leaves a `WalkState` as a turn of crate walks does.
---   look-count    what `count_left` counts for the radio at the front is what it has left
---   look-held, look-taken   the front is looked at
+--   look_count    what `count_left` counts for the radio at the front is what it has left
+--   look_held, look_taken   the front is looked at
 --   back_done     a candidate is taken back
---   pass-done     radios are passed
-use Rattle.lists.{specs.Kit.{◌≡◌, refl, sym, ap, ◌∙◌, ◌⊎◌, inl, inr, Bool, true, false, cond, or-true, List, [], ◌∷◌, ◌++◌, append_assoc, ℕ, suc, ◌+◌, ◌-◌}}
-use Rattle.lists.{specs.Kit.{◌≤◌, ◌<◌, arith, add-one, le_antisymm, ltb, eqb, length, get_or, set, take, drop, length-set, length-drop, take-append-drop}}
+--   pass_done     radios are passed
+use Rattle.std.specs.Prelude.{◌≡◌, ◌⊎◌, ◌∷◌, ◌++◌, ◌+◌, ◌-◌, ◌≤◌, ◌<◌}
+use Rattle.lists.{specs.Kit.{refl, sym, ap, ◌∙◌, inl, inr, Bool, true, false, cond, or-true, List, [], append_assoc, ℕ, suc}}
+use Rattle.lists.{specs.Kit.{arith, add-one, le_antisymm, ltb, eqb, length, get_or, set, take, drop, length-set, length-drop, take-append-drop}}
 use Rattle.lists.{specs.Kit.{length-take-le, get_or-take, get_or-drop, get_or-set_same, get_or-set_other, take-suc-set, drop-cons, paste, take-paste, length-paste}}
 use Rattle.lists.{specs.Kit.{eqb-true, eqb-false, eq-eqb, ne_eqb, lt-ltb, ltb-true}, specs.Lists.{count, head_or, In}, specs.Facts.{Distinct}}
 use Rattle.lists.{proofs.Tests.{bool_cases, never, and_left, and_right, or_cases}, proofs.Member.{in_left, in_right, in_cases, in_member, member_in, in_get_d}}
@@ -500,6 +501,7 @@ module _ {a b k first size : ℕ} {ts ns tail ps : List ℕ} (s : WalkSite (rise
             )
           where
             in_length : (x : ℕ) (xs : List ℕ) → In x xs → 1 ≤ length xs
+            in_length x [] m = elim m [ ]
             in_length x (y ∷ ys) m = omega arith
 
         abbrev freed_back : List ℕ

@@ -1,8 +1,9 @@
 -- The leaves of the walk by words.
 -- In order: counters lowered, one by one and list by list; the neighbours after the call put into a set; listed radios as a set; where the next
 -- turn is.
-use Rattle.lists.{specs.Kit.{◌≡◌, refl, sym, ap, subst, ◌∙◌, ◌⊎◌, inl, inr, Bool, true, false, ◌&&◌, ◌||◌, cond, List, [], ◌∷◌, ◌++◌, ℕ, ◌+◌, ◌*◌, ◌-◌, ◌^◌}}
-use Rattle.lists.{specs.Kit.{◌≤◌, ◌<◌, arith, add-one, bit_and, and_le_l, count_trailing_zeros, ltb, leb, eqb, length, get_or, set, take, replicate, length-set}}
+use Rattle.std.specs.Prelude.{◌≡◌, ◌⊎◌, ◌&&◌, ◌||◌, ◌∷◌, ◌++◌, ◌+◌, ◌*◌, ◌-◌, ◌^◌, ◌≤◌, ◌<◌}
+use Rattle.lists.{specs.Kit.{refl, sym, ap, subst, ◌∙◌, inl, inr, Bool, true, false, cond, List, [], ℕ}}
+use Rattle.lists.{specs.Kit.{arith, add-one, bit_and, and_le_l, count_trailing_zeros, ltb, leb, eqb, length, get_or, set, take, replicate, length-set}}
 use Rattle.lists.{specs.Kit.{length-replicate, get_or-set_same, get_or-set_other, take-suc, take_all, leb-true, leb-false, ltb-true, ltb-false, eqb-true}}
 use Rattle.lists.{specs.Kit.{eqb-false, lt-ltb, le-ltb, le-leb, lt-leb, eq-eqb, ne_eqb}, specs.Lists.{range, count, member, head_or, In}}
 use Rattle.lists.{proofs.Ascending.{head_or_lowest, ascending_filter, ascending_range}, proofs.Count.{count_append, count_none}}

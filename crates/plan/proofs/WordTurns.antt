@@ -1,10 +1,11 @@
 -- The turns of the walk by words: each leaves a `WordsState` as a turn of crate walks does.
---   look-count    what is counted for the radio at the front is what it has left
---   look-held, look-taken   the front is looked at
+--   look_count    what is counted for the radio at the front is what it has left
+--   look_held, look_taken   the front is looked at
 --   back_done     a candidate is taken back
---   pass-done     the radio at the front is passed
---   words-end     what the loop and the listing of the candidates leave
-use Rattle.lists.{specs.Kit.{◌≡◌, refl, sym, ap, ◌∙◌, ◌⊎◌, inl, inr, Bool, true, false, not, ◌&&◌, ◌||◌, cond, List, [], ◌∷◌, ◌++◌, ℕ, suc, ◌+◌, ◌-◌, ◌≤◌, ◌<◌}}
+--   pass_done     the radio at the front is passed
+--   words_end     what the loop and the listing of the candidates leave
+use Rattle.std.specs.Prelude.{◌≡◌, ◌⊎◌, ◌&&◌, ◌||◌, ◌∷◌, ◌++◌, ◌+◌, ◌-◌, ◌≤◌, ◌<◌}
+use Rattle.lists.{specs.Kit.{refl, sym, ap, ◌∙◌, inl, inr, Bool, true, false, not, cond, List, [], ℕ, suc}}
 use Rattle.lists.{specs.Kit.{arith, add-one, ltb, eqb, length, get_or, set, take, drop, replicate, length-set, length-replicate, take-append-drop}}
 use Rattle.lists.{specs.Kit.{length-take-le, get_or-set_same, get_or-set_other, take-suc-set, drop-cons, sets, eqb-true, eqb-false, eq-eqb, ne_eqb, lt-ltb, le-ltb}}
 use Rattle.lists.{specs.Kit.{ltb-true, ltb-false}, specs.Facts.{Distinct}, specs.Lists.{range, count, member, head_or, In}, proofs.Count.{count_ext}}
@@ -566,6 +567,7 @@ module _ {rise : Rise} {span : Part} {ts ns tail ps : List ℕ}
         back_room = omega (arith, turns.length_held f k above part pos (turned.is_part s) st.walking, taken_length, in_length v cands back_held)
           where
             in_length : (x : ℕ) (xs : List ℕ) → In x xs → 1 ≤ length xs
+            in_length x [] m = elim m [ ]
             in_length x (y ∷ ys) m = omega arith
 
         pub back_fits : taken < length list

@@ -1,5 +1,6 @@
 -- What a link call is decided to be: the refusal number of questions 1 to 7, and where it is 0 the plan. Definitions only.
-use Rattle.lists.specs.Kit.{◌≡◌, Bool, List, ℕ}
+use Rattle.std.specs.Prelude.{◌≡◌}
+use Rattle.lists.specs.Kit.{Bool, List, ℕ}
 use Rattle.mesh.specs.{Tables.{Tables, graph_in}, Sound.{sound}}
 use Rattle.calls.specs.Questions.{lengths_of}
 use Rattle.calls.specs.Chains.{link_refusal}

@@ -1,15 +1,16 @@
 -- The peel of a level, as its loop sees it: f tells neighbours after the call.
 --   stretch order start size   the entries of the level's stretch
 --   above order start size     the entries after it
---   linked-after               neighbours after the call
+--   linked_after               neighbours after the call
 --   Level                      what the peel is made from: numbers, order and places that fit together, and neighbours after the call
---   stretch-at start size      where a stretch stands
+--   stretch_at start size      where a stretch stands
 --   Turning                    so many radios are taken, what is left, its counters and the fitting places
 --   LeftSet                   a set that has all radios but the taken
 --   PeelReady                 the same before the first turn, with rows and room for the loop
 --   PeelDone                  what the loop comes back with: the taken in front of the list, the stuck by their counters
 -- Laws are in proofs/LevelLaws.antt and proofs/PeelTurns.antt. Definitions only.
-use Rattle.lists.specs.{Kit.{◌≡◌, Bool, true, false, not, ◌&&◌, List, [], ℕ, ◌+◌, ◌*◌, ◌≤◌, ◌<◌, ltb, leb, length, get_or, take, drop}, Lists.{count, filter}}
+use Rattle.std.specs.Prelude.{◌≡◌, ◌&&◌, ◌+◌, ◌*◌, ◌≤◌, ◌<◌}
+use Rattle.lists.specs.{Kit.{Bool, true, false, not, List, [], ℕ, ltb, leb, length, get_or, take, drop}, Lists.{count, filter}}
 use Rattle.lists.specs.{Lists.{member, In}}
 use Rattle.mesh.specs.{Limits.{max_radios, row_bytes}, Graph.{linked, relinked}, Tables.{marked, put_link, graph_in}, Peel.{Takes, Peels}}
 use Rattle.rows.specs.Sets.{in_set}

@@ -1,16 +1,17 @@
 -- Places of the walk of a link going up, in the order and in its level.
---   level-start ns k           how many numbers are below k: where the stretch of level k starts
---   level-size ns k            how many numbers are k: how long that stretch is
---   other-end a b v            the other end of the link a-b, where v is an end; else v itself
---   beginning-end              the lower end, with equal numbers the earlier
---   stands-first first k ns os   the radio at place `first` stands first in level k
+--   level_start ns k           how many numbers are below k: where the stretch of level k starts
+--   level_size ns k            how many numbers are k: how long that stretch is
+--   other_end a b v            the other end of the link a-b, where v is an end; else v itself
+--   beginning_end              the lower end, with equal numbers the earlier
+--   stands_first first k ns os   the radio at place `first` stands first in level k
 --   next_place                 where the next turn is, `stop_place` when the walk is at its end
---   set-places ws              the places of a set of words, ascending
+--   set_places ws              the places of a set of words, ascending
 --   entries_at first tail ps   the entries of `tail`, which stands from place `first` on, at the places ps
 --   Stands first size ps       all of ps are places of it
 --   MarkedPlaces              a set of words that tells the places of marked entries
 -- Laws are in proofs/PlaceLaws.antt. Definitions only.
-use Rattle.lists.specs.{Kit.{◌≡◌, Bool, true, cond, List, map, ℕ, suc, ◌+◌, ◌-◌, ◌≤◌, ◌<◌, ltb, leb, eqb, length, get_or}, Lists.{count, filter, head_or, range}}
+use Rattle.std.specs.Prelude.{◌≡◌, ◌+◌, ◌-◌, ◌≤◌, ◌<◌}
+use Rattle.lists.specs.{Kit.{Bool, true, cond, List, map, ℕ, suc, ltb, leb, eqb, length, get_or}, Lists.{count, filter, head_or, range}}
 use Rattle.lists.specs.{Lists.{In}}
 use Rattle.mesh.specs.Limits.{max_radios}
 use Rattle.rows.specs.{Sets.{in_set}}

@@ -1,10 +1,11 @@
 -- A planned link call: what becomes of the lower end's stretch of the order, and which radios change. Nothing is written yet.
---   Ready          what a plan is made from: sound tables, a call that is allowed, places and not_lower counts of the lower end's level
---   plan-of        a plan from its numbers
+--   Ready          what a plan is made from: sound tables, a call that is allowed, places and not-lower counts of the lower end's level
+--   plan_of        a plan from its numbers
 --   Planned        what a plan says
 --   Applicable     what a plan is applied to: a valid site with its core numbers, a call that is allowed, room for the answer
 -- Definitions only.
-use Rattle.lists.specs.{Kit.{◌≡◌, Bool, true, List, ℕ, ◌+◌, ◌*◌, ◌≤◌, ◌<◌, leb, length, get_or, paste}, Lists.{member}}
+use Rattle.std.specs.Prelude.{◌≡◌, ◌+◌, ◌*◌, ◌≤◌, ◌<◌}
+use Rattle.lists.specs.{Kit.{Bool, true, List, ℕ, leb, length, get_or, paste}, Lists.{member}}
 use Rattle.mesh.specs.{Limits.{max_radios, max_neighbours, row_bytes}, Graph.{Graph, neighbours_in, Allowed}, Cores.{number, numbers}, Levels.{changed}}
 use Rattle.mesh.specs.{Levels.{lower_level, stretch_start, stretch_length, new_order}, Tables.{Tables, graph_in}, Sound.{sound}, Valid.{Valid}}
 use Rattle.plan.specs.{Planned.{changed_part}, declared.planned.Plan.{Plan}}

@@ -1,22 +1,23 @@
 -- The turns of the peel, on the tables that they change: counters, one a radio, and the fitting places, a set of words.
---   end-counted up k ns v cs      the counters cs after the end v of the link got a neighbour or lost one, where v is of level k
---   ends-counted                  the same for both ends
---   counter-less ns k v cs        the counters after v lost a neighbour, where v is of level k
+--   end_counted up k ns v cs      the counters cs after the end v of the link got a neighbour or lost one, where v is of level k
+--   ends_counted                  the same for both ends
+--   counter_less ns k v cs        the counters after v lost a neighbour, where v is of level k
 --   released ns k vs cs           the counters after each radio of vs did
---   place-marked ns ps k m v cs fs   the fitting places fs with the place of v, where v is of level k and its counter is m
---   places-released               the fitting places after each radio of vs lost a neighbour
---   places-fitting os cs m is fs  the fitting places fs with each of the places `is` whose radio has a counter of at most m
---   near-left ts v ws             the radios that row v of the links table ts marks and that are in the set ws, ascending
---   fits-linked a b m v c         v has at most m neighbours once the link a-b is up, where it has c without it
---   stays-linked a b m cs v       it has more, by the counters cs
+--   place_marked ns ps k m v cs fs   the fitting places fs with the place of v, where v is of level k and its counter is m
+--   places_released               the fitting places after each radio of vs lost a neighbour
+--   places_fitting os cs m is fs  the fitting places fs with each of the places `is` whose radio has a counter of at most m
+--   near_left ts v ws             the radios that row v of the links table ts marks and that are in the set ws, ascending
+--   fits_linked a b m v c         v has at most m neighbours once the link a-b is up, where it has c without it
+--   stays_linked a b m cs v       it has more, by the counters cs
 --   Releasable                    listed radios that can lose a neighbour: no repeats, and counters of the level above 0
---   call-of                       a link call at its level, from its parts
+--   call_of                       a link call at its level, from its parts
 --   BeginReady                   ends and places for the first turn
 --   RowReady                     ends of the link a-b and their rows, and the row of v
 --   NearReady                    the same, and room for the neighbours of v after the link a-b went up or down
 --   ListsNeighbours ts v r xs    the first r entries of xs are the radios that row v of ts marks
 -- Laws are in proofs/TurnLaws.antt. Definitions only.
-use Rattle.lists.specs.{Kit.{◌≡◌, ◌⊎◌, Bool, false, not, ◌&&◌, ◌||◌, cond, List, [], ◌∷◌, ℕ, suc, ◌+◌, ◌*◌, ◌-◌, ◌≤◌, ◌<◌, min, leb, eqb, length, get_or}}
+use Rattle.std.specs.Prelude.{◌≡◌, ◌⊎◌, ◌&&◌, ◌||◌, ◌∷◌, ◌+◌, ◌*◌, ◌-◌, ◌≤◌, ◌<◌}
+use Rattle.lists.specs.{Kit.{Bool, false, not, cond, List, [], ℕ, suc, min, leb, eqb, length, get_or}}
 use Rattle.lists.specs.{Kit.{set, take}, Lists.{filter, In}, Facts.{Distinct}}
 use Rattle.mesh.specs.{Limits.{max_radios, max_neighbours, row_bytes}, Tables.{put_link}}
 use Rattle.rows.specs.{Rows.{neighbours_of}, Sets.{in_set}}

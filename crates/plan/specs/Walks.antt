@@ -1,18 +1,19 @@
 -- The walk of a link going up, on the tables that it is lent and changes: the order from the beginning end's place on, the candidates (one
 -- byte a radio, 1 for a candidate) and their places, a set of words, their counters, and the places due, a set of words too.
---   is-left k p ns ps hs w       w counts for a radio at place p of level k: it is above, stands later in the level, or is a candidate
+--   is_left k p ns ps hs w       w counts for a radio at place p of level k: it is above, stands later in the level, or is a candidate
 --   is_later k p ns ps w         w stands in level k, later than place p
---   place-touched k p ns ps w ds   the places due ds with the place of w, where w stands later
---   places-touched               the same for each of the listed radios
+--   place_touched k p ns ps w ds   the places due ds with the place of w, where w stands later
+--   places_touched               the same for each of the listed radios
 --   Begins                       where a link going up begins: its lower end's level, and the place of the beginning end
 --   Known                        listed radios that have an entry in tables of these lengths
---   rise-of, part_of             a link going up, and the part that is walked, from their numbers
+--   rise_of, part_of             a link going up, and the part that is walked, from their numbers
 --   WalkSite                    what the walk is made from
 --   Written                      what the walk writes: the candidates, their counters, the places due, the candidates' places, the list
 --   WalkState                   so many radios are taken, how far the front is, and what is written so far
 --   WalkDone                    what the walk comes back with
 -- Laws are in proofs/WalkLoops.antt, proofs/WalkTables.antt and proofs/WalkTurns.antt. Definitions only.
-use Rattle.lists.specs.{Kit.{◌≡◌, ◌⊎◌, Bool, true, false, ◌&&◌, ◌||◌, cond, List, [], ◌++◌, ℕ, ◌+◌, ◌*◌, ◌-◌, ◌≤◌, ◌<◌, min, ltb, eqb, length, get_or, take}}
+use Rattle.std.specs.Prelude.{◌≡◌, ◌⊎◌, ◌&&◌, ◌||◌, ◌++◌, ◌+◌, ◌*◌, ◌-◌, ◌≤◌, ◌<◌}
+use Rattle.lists.specs.{Kit.{Bool, true, false, cond, List, [], ℕ, min, ltb, eqb, length, get_or, take}}
 use Rattle.lists.specs.{Kit.{drop}, Facts.{folded, Distinct}, Lists.{In}}
 use Rattle.mesh.specs.{Limits.{max_radios, max_neighbours, row_bytes}, Tables.{marked, put_link}, Peel.{Peels}}
 use Rattle.rows.specs.Rows.{neighbours_of}

@@ -3,9 +3,10 @@
 --   JoinedAfter    the neighbours that v has after the link a-b went up put into a set
 --   Lowerable       radios whose counters can be lowered: no repeats, an entry in each table, counters above 0
 --   Lowered         their counters are one less, and the places due are with the place of each whose counter came down to the bound
---   next-turn       where the next turn is: a place due, `max_radios` for the front, `stop_place` when the walk is at its end
+--   next_turn       where the next turn is: a place due, `max_radios` for the front, `stop_place` when the walk is at its end
 -- Laws are in proofs/WordLaws.antt. Definitions only.
-use Rattle.lists.specs.{Kit.{◌≡◌, ◌⊎◌, true, ◌||◌, cond, List, ℕ, ◌+◌, ◌*◌, ◌≤◌, ◌<◌, ltb, leb, eqb, length, get_or}, Facts.{Distinct}, Lists.{count, head_or}}
+use Rattle.std.specs.Prelude.{◌≡◌, ◌⊎◌, ◌||◌, ◌+◌, ◌*◌, ◌≤◌, ◌<◌}
+use Rattle.lists.specs.{Kit.{true, cond, List, ℕ, ltb, leb, eqb, length, get_or}, Facts.{Distinct}, Lists.{count, head_or}}
 use Rattle.lists.specs.{Lists.{In}}
 use Rattle.mesh.specs.{Limits.{max_radios, row_bytes}, Tables.{marked, put_link}}
 use Rattle.rows.specs.Sets.{in_set, common}

@@ -1,10 +1,11 @@
 -- The walk of a link going up by words, on the tables that it is lent and changes: sets of radios and of places, eight words each, and the
 -- counters of the candidates.
---   words-due       the places of the part that the walk has to look at: before the front the places due, from it on the touched radios'
+--   words_due       the places of the part that the walk has to look at: before the front the places due, from it on the touched radios'
 --   Work            what the walk writes
 --   WordsState     so many radios are taken, how far the front is, what is left, the candidates
 -- Laws are in proofs/WordTurns.antt. Definitions only.
-use Rattle.lists.specs.{Kit.{◌≡◌, Bool, true, not, ◌&&◌, cond, List, ℕ, ◌+◌, ◌-◌, ◌≤◌, ◌<◌, ltb, length, get_or, take, drop}, Lists.{member}}
+use Rattle.std.specs.Prelude.{◌≡◌, ◌&&◌, ◌+◌, ◌-◌, ◌≤◌, ◌<◌}
+use Rattle.lists.specs.{Kit.{Bool, true, not, cond, List, ℕ, ltb, length, get_or, take, drop}, Lists.{member}}
 use Rattle.mesh.specs.Limits.{max_radios}
 use Rattle.rows.specs.Sets.{in_set}
 use Rattle.walks.specs.Walk.{Walking}

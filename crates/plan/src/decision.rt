@@ -1,6 +1,7 @@
 // The plan of a link call: its questions, and the lower end's stretch laid out anew, by one peel up and down alike, or going up by the walk.
 // Nothing of the tables is written.
-ghost use Rattle.lists.specs.Kit.{◌≡◌, length};
+ghost use Rattle.std.specs.Prelude.{◌≡◌};
+ghost use Rattle.lists.specs.Kit.{length};
 ghost use Rattle.mesh.specs.Limits.{max_radios};
 ghost use Rattle.mesh.specs.Tables.{tables, graph_in};
 ghost use Rattle.mesh.specs.Lent.{lent};
@@ -36,7 +37,7 @@ pub fn plan_link(
 }
 
 // A refusal number, and where it is 0 a plan.
-#[derive(Drop)]
+#[derive(Clone, Copy)]
 pub struct Decision {
     pub number: u32,
     pub plan: Plan,
@@ -57,7 +58,7 @@ pub fn plan(
     stretch: &mut [u16; Site::RADIOS as usize],
 ) -> Decision
     requires { length stretch.old ≡ max_radios }
-    ensures { PlanContract up n a b (lent links.entry numbers.entry order.entry) answer stretch.old
+    ensures { PlanContract up n a b (lent links.now numbers.now order.now) answer stretch.old
         result.number result.plan.start result.plan.size result.plan.taken stretch.new }
 {
     let none = Plan {

@@ -1,5 +1,6 @@
 // Questions 4 to 7 of a link call, put to the rows of its ends. Nothing is written. Rows that are not proper have no graph to ask.
-ghost use Rattle.lists.specs.Kit.{◌≡◌, true, ◌*◌, ◌≤◌, length};
+ghost use Rattle.std.specs.Prelude.{◌≡◌, ◌*◌, ◌≤◌};
+ghost use Rattle.lists.specs.Kit.{true, length};
 ghost use Rattle.mesh.specs.Limits.{max_radios, max_neighbours, row_bytes};
 ghost use Rattle.mesh.specs.Tables.{graph_in};
 ghost use Rattle.mesh.specs.Sound.{rows_proper};

@@ -1,5 +1,6 @@
 // The ends of a link, which of them the walk begins at, and whether a radio leads its level.
-ghost use Rattle.lists.specs.Kit.{◌≡◌, [], ◌∷◌, min, get_or};
+ghost use Rattle.std.specs.Prelude.{◌≡◌, ◌∷◌};
+ghost use Rattle.lists.specs.Kit.{[], min, get_or};
 ghost use Rattle.plan.specs.Places.{other_end, beginning_end, stands_first};
 
 // The number of radio v.

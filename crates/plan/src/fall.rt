@@ -1,5 +1,6 @@
 // The plan of a link going down: both ends lose a neighbour, and where one of them then falls short its level is peeled.
-ghost use Rattle.lists.specs.Kit.{◌≡◌, false, length};
+ghost use Rattle.std.specs.Prelude.{◌≡◌};
+ghost use Rattle.lists.specs.Kit.{false, length};
 ghost use Rattle.mesh.specs.Limits.{max_radios};
 ghost use Rattle.mesh.specs.Tables.{tables, graph_in};
 ghost use Rattle.plan.specs.Plans.{Ready, Planned};

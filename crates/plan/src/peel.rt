@@ -1,5 +1,6 @@
 // The peel of a level: the radios that have too few neighbours are taken in turn, up and down alike.
-ghost use Rattle.lists.specs.Kit.{◌≡◌, true, false, ◌≤◌, ◌<◌, ◌+◌, min, length, get_or};
+ghost use Rattle.std.specs.Prelude.{◌≡◌, ◌≤◌, ◌<◌, ◌+◌};
+ghost use Rattle.lists.specs.Kit.{true, false, min, length, get_or};
 ghost use Rattle.lists.specs.Lists.{range};
 ghost use Rattle.mesh.specs.Limits.{max_radios};
 ghost use Rattle.mesh.specs.Tables.{tables, graph_in};

@@ -1,5 +1,6 @@
 // Sets of places, eight words each, and where the next turn of a walk is.
-ghost use Rattle.lists.specs.Kit.{◌≡◌, ℕ, ◌+◌, ◌*◌, ◌≤◌, ◌<◌, length, sets};
+ghost use Rattle.std.specs.Prelude.{◌≡◌, ◌+◌, ◌*◌, ◌≤◌, ◌<◌};
+ghost use Rattle.lists.specs.Kit.{ℕ, length, sets};
 ghost use Rattle.mesh.specs.Limits.{max_radios};
 ghost use Rattle.lists.specs.Lists.{In, head_or};
 ghost use Rattle.rows.specs.Rows.{set_bits};

@@ -1,8 +1,8 @@
 // A plan of a link call: what becomes of the lower end's stretch of the order.
-ghost use Rattle.lists.specs.Kit.{◌≡◌};
+ghost use Rattle.std.specs.Prelude.{◌≡◌};
 
 // What a plan comes back with: where the stretch stands, how long it is, and how many of its radios the peel took.
-#[derive(Drop)]
+#[derive(Clone, Copy)]
 pub struct Plan {
     pub start: usize,
     pub size: usize,

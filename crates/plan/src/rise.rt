@@ -1,5 +1,6 @@
 // The plan of a link going up: nothing, the whole level as it stands, a walk from the beginning end on, or the peel of a small level.
-ghost use Rattle.lists.specs.Kit.{◌≡◌, true, ℕ, ◌≤◌, ◌<◌, ◌+◌, length, get_or};
+ghost use Rattle.std.specs.Prelude.{◌≡◌, ◌≤◌, ◌<◌, ◌+◌};
+ghost use Rattle.lists.specs.Kit.{true, ℕ, length, get_or};
 ghost use Rattle.lists.specs.Lists.{all};
 ghost use Rattle.mesh.specs.Limits.{max_radios};
 ghost use Rattle.mesh.specs.Tables.{tables, graph_in};

@@ -1,5 +1,6 @@
 // The stretch of a level in the order.
-ghost use Rattle.lists.specs.Kit.{◌≡◌, ◌≤◌, length};
+ghost use Rattle.std.specs.Prelude.{◌≡◌, ◌≤◌};
+ghost use Rattle.lists.specs.Kit.{length};
 ghost use Rattle.plan.specs.Places.{level_start, level_size};
 
 use tables::fill;
@@ -8,14 +9,14 @@ use tables::fill;
 const PART: usize = 128;
 
 // Where a stretch starts, and how long it is.
-#[derive(Drop)]
+#[derive(Clone, Copy)]
 pub struct Stretch {
     pub start: usize,
     pub size: usize,
 }
 
 // How many of some numbers are below a level, and how many are equal to it.
-#[derive(Drop)]
+#[derive(Clone, Copy)]
 struct Counts {
     below: u8,
     equal: u8,

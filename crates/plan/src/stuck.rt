@@ -1,5 +1,6 @@
 // The stretch of a level in the order: the entries of it that the peel does not take.
-ghost use Rattle.lists.specs.Kit.{◌≡◌, ℕ, ◌≤◌, ◌<◌, ◌+◌, ltb, length, get_or, sets};
+ghost use Rattle.std.specs.Prelude.{◌≡◌, ◌≤◌, ◌<◌, ◌+◌};
+ghost use Rattle.lists.specs.Kit.{ℕ, ltb, length, get_or, sets};
 ghost use Rattle.mesh.specs.Limits.{max_radios};
 ghost use Rattle.lists.specs.Lists.{filter};
 ghost use Rattle.plan.specs.Peels.{stretch};

@@ -1,5 +1,6 @@
 // One turn of the peel: a radio is taken, and its neighbours after the call have one neighbour less that can still be taken.
-ghost use Rattle.lists.specs.Kit.{◌≡◌, false, ℕ, suc, ◌≤◌, ◌<◌, ◌+◌, ◌*◌, min, length, get_or, take};
+ghost use Rattle.std.specs.Prelude.{◌≡◌, ◌≤◌, ◌<◌, ◌+◌, ◌*◌};
+ghost use Rattle.lists.specs.Kit.{false, ℕ, suc, min, length, get_or, take};
 ghost use Rattle.mesh.specs.Limits.{max_radios, max_neighbours, row_bytes};
 ghost use Rattle.lists.specs.Lists.{range};
 ghost use Rattle.mesh.specs.Tables.{put_bit, put_link};
@@ -215,7 +216,7 @@ pub(crate) fn neighbours_after(
 }
 
 // A link call at the lower end's level: the peel takes radios with at most `most` neighbours.
-#[derive(Drop)]
+#[derive(Clone, Copy)]
 pub(crate) struct Call {
     pub(crate) up: bool,
     pub(crate) a: u32,

@@ -2,7 +2,8 @@
 // forward through its level. A radio that has more than `most` neighbours among what is above, what stands later in the level and the
 // candidates becomes a candidate; one that has not is taken, and a candidate that then falls short is taken back, the first in the order
 // first. What is no candidate's neighbour is passed without a look at its row. The order is lent from the beginning end's place on.
-ghost use Rattle.lists.specs.Kit.{◌≡◌, false, ℕ, ◌≤◌, ◌<◌, ◌+◌, ◌-◌, length, get_or, take, drop, paste, leb};
+ghost use Rattle.std.specs.Prelude.{◌≡◌, ◌≤◌, ◌<◌, ◌+◌, ◌-◌};
+ghost use Rattle.lists.specs.Kit.{false, ℕ, length, get_or, take, drop, paste, leb};
 ghost use Rattle.mesh.specs.Limits.{max_radios, max_neighbours, row_bytes};
 ghost use Rattle.lists.specs.Lists.{count, head_or};
 ghost use Rattle.rows.specs.Sets.{in_set, common};
@@ -22,7 +23,7 @@ use tables::fill;
 const CANDIDATE: u8 = 1;
 
 // A link going up at its lower end's level: radios with at most `most` neighbours left are taken.
-#[derive(Drop)]
+#[derive(Clone, Copy)]
 pub(crate) struct Rise {
     pub(crate) a: u32,
     pub(crate) b: u32,
@@ -30,14 +31,14 @@ pub(crate) struct Rise {
 }
 
 // The part of the level that a walk goes through: `size` entries of the order from place `first` on.
-#[derive(Drop)]
+#[derive(Clone, Copy)]
 pub(crate) struct Part {
     pub(crate) first: usize,
     pub(crate) size: usize,
 }
 
 // How far a walk has come: so many radios of the part, and of these so many taken.
-#[derive(Drop)]
+#[derive(Clone, Copy)]
 pub(crate) struct Reached {
     pub(crate) front: usize,
     pub(crate) taken: usize,

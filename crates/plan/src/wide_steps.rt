@@ -1,5 +1,6 @@
 // Leaves of the walk by words: sets of radios and of places, eight words each, and the counters of the candidates.
-ghost use Rattle.lists.specs.Kit.{◌≡◌, [], ◌∷◌, ℕ, ◌≤◌, ◌<◌, length, get_or};
+ghost use Rattle.std.specs.Prelude.{◌≡◌, ◌∷◌, ◌≤◌, ◌<◌};
+ghost use Rattle.lists.specs.Kit.{[], ℕ, length, get_or};
 ghost use Rattle.mesh.specs.Limits.{max_radios};
 ghost use Rattle.lists.specs.Lists.{member};
 ghost use Rattle.rows.specs.Rows.{set_bits};

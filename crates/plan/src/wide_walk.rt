@@ -2,7 +2,8 @@
 // radio at the front is what is left: the order from the beginning end on, without the taken. Numbers never fall along the order, so what
 // stands there is above, later in the level, or a candidate. It is counted in eight words. Neighbours of candidates are kept as a set of
 // radios, row joined to row, and only candidates that fell short are due, by place.
-ghost use Rattle.lists.specs.Kit.{◌≡◌, false, List, ℕ, ◌≤◌, ◌<◌, ◌+◌, length};
+ghost use Rattle.std.specs.Prelude.{◌≡◌, ◌≤◌, ◌<◌, ◌+◌};
+ghost use Rattle.lists.specs.Kit.{false, List, ℕ, length};
 ghost use Rattle.mesh.specs.Limits.{max_radios};
 ghost use Rattle.lists.specs.Lists.{head_or};
 ghost use Rattle.rows.specs.Sets.{in_set, common};

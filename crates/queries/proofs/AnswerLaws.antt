@@ -1,5 +1,6 @@
 -- Contracts of the questions, met: refused and answered. In order: number, neighbours, linked, first.
-use Rattle.lists.{specs.Kit.{◌≡◌, sym, ap, ◌∙◌, Bool, true, cond, List, ℕ, ◌+◌, ◌≤◌, ◌<◌, add-one, length, get_or, drop, drop_of_length-le, drop-cons, eq-eqb}}
+use Rattle.std.specs.Prelude.{◌≡◌, ◌+◌, ◌≤◌, ◌<◌}
+use Rattle.lists.{specs.Kit.{sym, ap, ◌∙◌, Bool, true, cond, List, ℕ, add-one, length, get_or, drop, drop_of_length-le, drop-cons, eq-eqb}}
 use Rattle.lists.{specs.Kit.{ne_eqb}, proofs.Tests.{byte_bit}}
 use mir.Val.{bool_byte}
 use Rattle.mesh.specs.{Limits.{max_neighbours}, Tables.{Tables, marked}, Sound.{sound}}

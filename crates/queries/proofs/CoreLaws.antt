@@ -1,5 +1,6 @@
 -- The connected core's contract, met: what the flood leaves out of its level's set, listed.
-use Rattle.lists.{specs.Kit.{◌≡◌, refl, sym, ap, ◌∙◌, Bool, true, false, ◌&&◌, not, List, ℕ, ◌≤◌, ◌<◌, arith, ltb, leb, length, get_or, take, take_all, ltb-true}}
+use Rattle.std.specs.Prelude.{◌≡◌, ◌&&◌, ◌≤◌, ◌<◌}
+use Rattle.lists.{specs.Kit.{refl, sym, ap, ◌∙◌, Bool, true, false, not, List, ℕ, arith, ltb, leb, length, get_or, take, take_all, ltb-true}}
 use Rattle.lists.{specs.Kit.{lt-ltb, le-leb}, specs.Lists.{range, filter, member, overwrite}, proofs.Tests.{never, and_left, and_right, and_both}}
 use Rattle.lists.{proofs.Member.{in_member, not_member}, proofs.Filter.{length_filter, filter_ext, filter_range_within}, proofs.Count.{count_le_length}}
 use Rattle.lists.{proofs.Range.{length_range}}

@@ -1,6 +1,7 @@
 -- Parts taken in turn: the set so far has the backbone of the parts taken.
 -- In order: the greatest number of listed radios; their bits; one part; the radios as a loop; the backbone's contract, met.
-use Rattle.lists.{specs.Kit.{◌≡◌, refl, sym, ap, ◌∙◌, ◌⊎◌, inl, inr, Bool, true, false, ◌&&◌, ◌||◌, not, cond, List, [], ◌∷◌, map, ℕ, suc, max, ◌+◌, ◌≤◌, ◌<◌}}
+use Rattle.std.specs.Prelude.{◌≡◌, ◌⊎◌, ◌&&◌, ◌||◌, ◌∷◌, ◌+◌, ◌≤◌, ◌<◌}
+use Rattle.lists.{specs.Kit.{refl, sym, ap, ◌∙◌, inl, inr, Bool, true, false, not, cond, List, [], map, ℕ, suc, max}}
 use Rattle.lists.{specs.Kit.{arith, add-one, ltb, leb, eqb, length, get_or, take, replicate, length-replicate, take_all, leb-true, le-leb, ltb-true, ltb-false}}
 use Rattle.lists.{specs.Kit.{eqb-true, eqb-false, lt-ltb, le-ltb, eq-eqb, ne_eqb}, specs.Facts.{folded}, specs.Lists.{range, member, In, overwrite}}
 use Rattle.lists.{proofs.Tests.{bool_cases, never, and_left, or_right}, proofs.Member.{member_in, in_member}, proofs.Filter.{filter_le, filter_ext}}
@@ -15,7 +16,6 @@ use Rattle.soundness.{specs.Checks.{fits_sound}, proofs.SoundSite.{SoundSite, fi
 use Rattle.rows.{specs.Sets.{in_set, put_in, members, Listed}, proofs.SetLaws.{in_set_zeros, in_set_past, in_put_in, length_put_in}}
 use Rattle.floods.{specs.Floods.{LevelSet, FloodDone}, proofs.FloodCore.{level_radios, member_flood}}
 use Rattle.queries.specs.Parts.{part_greatest, top_put, tops_put, part_put, PartTaken, PartVisited, BackbonePut}
-use Rattle.calls.specs.Chains.{backbone_refusal}
 
 -- ---- the greatest number of listed radios, as a loop
 

@@ -1,5 +1,6 @@
 -- Chains of questions as the code puts them: questions 1 to 3 first, then the later ones. q is the number so far.
-use Rattle.lists.specs.Kit.{◌≡◌, sym, ◌∙◌, Bool, true, false, ◌&&◌, ℕ, ◌≤◌, ◌<◌, arith, leb, get_or, lt-leb}
+use Rattle.std.specs.Prelude.{◌≡◌, ◌&&◌, ◌≤◌, ◌<◌}
+use Rattle.lists.specs.Kit.{sym, ◌∙◌, Bool, true, false, ℕ, arith, leb, get_or, lt-leb}
 use Rattle.mesh.specs.{Graph.{Graph}, Cores.{number}, Tables.{Tables, graph_in}, Sound.{sound}}
 use Rattle.calls.{specs.Questions.{ask, Lengths, lengths_of, answer_length, is_radio, are_radios, has_level, site_refusal, radio_refusal, pair_refusal}}
 use Rattle.calls.{proofs.QuestionLaws.{ask_yes, ask_no, true_is_radio}, proofs.ChainLaws.{site_zero, site_yes}}

@@ -1,12 +1,13 @@
 -- Connected parts, taken in turn. The backbone and the rest of the radios are sets of eight words.
---   part-greatest ns xs   the greatest number of the radios xs
---   top-put, tops-put     the set with a radio, or with each of some radios, that has number k
---   part-put ns xs s      the set with the radios of xs that have their greatest number, where that is not 0
+--   part_greatest ns xs   the greatest number of the radios xs
+--   top_put, tops_put     the set with a radio, or with each of some radios, that has number k
+--   part_put ns xs s      the set with the radios of xs that have their greatest number, where that is not 0
 --   PartTaken            the part of a radio: flooded, and its radios with the greatest number put into the set
 --   PartVisited          a radio: its part is taken where it is among the rest, and else nothing changes
 --   BackbonePut          a set that is the backbone, for sound tables
 -- Definitions only.
-use Rattle.lists.specs.{Kit.{◌≡◌, true, false, cond, List, map, ℕ, eqb, length, get_or, take}, Facts.{folded}}
+use Rattle.std.specs.Prelude.{◌≡◌}
+use Rattle.lists.specs.{Kit.{true, false, cond, List, map, ℕ, eqb, length, get_or, take}, Facts.{folded}}
 use Rattle.mesh.specs.{Tables.{tables, graph_in}, Connected.{greatest, backbone}}
 use Rattle.rows.specs.Sets.{in_set, put_in, members}
 use Rattle.soundness.specs.Checks.{fits_sound}

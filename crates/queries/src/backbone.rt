@@ -1,6 +1,7 @@
 // The backbone: the radios whose number is the greatest in their own connected part, where that is not 0. Parts are flooded in
 // turn, each from its lowest radio.
-ghost use Rattle.lists.specs.Kit.{◌≡◌, ◌≤◌, length, get_or, take, replicate};
+ghost use Rattle.std.specs.Prelude.{◌≡◌, ◌≤◌};
+ghost use Rattle.lists.specs.Kit.{length, get_or, take, replicate};
 ghost use Rattle.mesh.specs.Limits.{max_radios};
 ghost use Rattle.mesh.specs.Lent.{lent};
 ghost use Rattle.calls.specs.CallContracts.{BackboneContract};
@@ -104,7 +105,7 @@ pub fn backbone<'a>(
     order: &'a [u16],
     answer: &mut [u16],
 ) -> Value
-    ensures { BackboneContract n (lent links.entry numbers.entry order.entry) answer.old result answer.new }
+    ensures { BackboneContract n (lent links.now numbers.now order.now) answer.old result answer.new }
 {
     let refusal = soundness::refusal(n, links, numbers, order, n as usize <= answer.len());
     if refusal != 0 {

@@ -1,5 +1,5 @@
 // The connected core of a radio at a level: the radios that links lead to over radios with that number or more.
-ghost use Rattle.lists.specs.Kit.{◌≡◌};
+ghost use Rattle.std.specs.Prelude.{◌≡◌};
 ghost use Rattle.mesh.specs.Tables.{graph_in};
 ghost use Rattle.mesh.specs.Lent.{lent};
 ghost use Rattle.mesh.specs.Sound.{sound};
@@ -21,8 +21,8 @@ fn core_refusal<'a>(
     order: &'a [u16],
     answer: usize,
 ) -> u32
-    ensures { result ≡ core_refusal n v k (lengths_of (lent links.entry numbers.entry order.entry)) answer
-        (sound n (lent links.entry numbers.entry order.entry)) (graph_in n links.now) }
+    ensures { result ≡ core_refusal n v k (lengths_of (lent links.now numbers.now order.now)) answer
+        (sound n (lent links.now numbers.now order.now)) (graph_in n links.now) }
 {
     let number = soundness::refusal(n, links, numbers, order, n as usize <= answer);
     if number != 0 {
@@ -49,7 +49,7 @@ pub fn core<'a>(
     order: &'a [u16],
     answer: &mut [u16],
 ) -> Value
-    ensures { CoreContract n v k (lent links.entry numbers.entry order.entry) answer.old result answer.new }
+    ensures { CoreContract n v k (lent links.now numbers.now order.now) answer.old result answer.new }
 {
     let refusal = core_refusal(n, v, k, links, numbers, order, answer.len());
     if refusal != 0 {

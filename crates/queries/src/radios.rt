@@ -1,6 +1,6 @@
 // A radio's number, its neighbour count, whether two radios are linked, which of two stands first in the order.
 // Each answers with the refusal number of questions 1 to 4 and the value 0, or with number 0 and the value.
-ghost use Rattle.lists.specs.Kit.{◌≡◌};
+ghost use Rattle.std.specs.Prelude.{◌≡◌};
 ghost use Rattle.mesh.specs.Lent.{lent};
 ghost use Rattle.mesh.specs.Sound.{sound};
 ghost use Rattle.calls.specs.Questions.{lengths_of, pair_refusal};
@@ -18,8 +18,8 @@ fn pair_refusal<'a>(
     numbers: &'a [u8],
     order: &'a [u16],
 ) -> u32
-    ensures { result ≡ pair_refusal n a b (lengths_of (lent links.entry numbers.entry order.entry))
-        (sound n (lent links.entry numbers.entry order.entry)) }
+    ensures { result ≡ pair_refusal n a b (lengths_of (lent links.now numbers.now order.now))
+        (sound n (lent links.now numbers.now order.now)) }
 {
     let number = soundness::wake::radio_refusal(n, a, links, numbers, order);
     if number != 0 {
@@ -33,7 +33,7 @@ fn pair_refusal<'a>(
 
 // The number of v.
 pub fn number<'a>(n: u32, v: u32, links: &'a [u8], numbers: &'a [u8], order: &'a [u16]) -> Value
-    ensures { NumberContract n v (lent links.entry numbers.entry order.entry) result }
+    ensures { NumberContract n v (lent links.now numbers.now order.now) result }
 {
     let refusal = soundness::wake::radio_refusal(n, v, links, numbers, order);
     if refusal != 0 {
@@ -51,7 +51,7 @@ pub fn number<'a>(n: u32, v: u32, links: &'a [u8], numbers: &'a [u8], order: &'a
 
 // How many neighbours v has.
 pub fn neighbours<'a>(n: u32, v: u32, links: &'a [u8], numbers: &'a [u8], order: &'a [u16]) -> Value
-    ensures { NeighboursContract n v (lent links.entry numbers.entry order.entry) result }
+    ensures { NeighboursContract n v (lent links.now numbers.now order.now) result }
 {
     let refusal = soundness::wake::radio_refusal(n, v, links, numbers, order);
     if refusal != 0 {
@@ -75,7 +75,7 @@ pub fn linked<'a>(
     numbers: &'a [u8],
     order: &'a [u16],
 ) -> Value
-    ensures { LinkedContract n a b (lent links.entry numbers.entry order.entry) result }
+    ensures { LinkedContract n a b (lent links.now numbers.now order.now) result }
 {
     let refusal = pair_refusal(n, a, b, links, numbers, order);
     if refusal != 0 {
@@ -117,7 +117,7 @@ pub fn first<'a>(
     numbers: &'a [u8],
     order: &'a [u16],
 ) -> Value
-    ensures { FirstContract n a b (lent links.entry numbers.entry order.entry) result }
+    ensures { FirstContract n a b (lent links.now numbers.now order.now) result }
 {
     let refusal = pair_refusal(n, a, b, links, numbers, order);
     if refusal != 0 {

@@ -1,5 +1,6 @@
 -- How long the printed lines are at most: what a caller needs to know that its buffer is long enough.
-use Rattle.lists.specs.{Kit.{refl, inl, inr, List, [], ◌∷◌, map, ℕ, zero, suc, ◌+◌, ◌*◌, ◌^◌, ◌≤◌, ◌<◌, arith, ℤ, pos, negsuc, nat_abs, length, length-append}}
+use Rattle.std.specs.Prelude.{◌∷◌, ◌+◌, ◌*◌, ◌^◌, ◌≤◌, ◌<◌}
+use Rattle.lists.specs.{Kit.{refl, inl, inr, List, [], map, ℕ, zero, suc, arith, ℤ, pos, negsuc, nat_abs, length, length-append}}
 use Rattle.lists.specs.{Lists.{In}}
 use Rattle.text.{specs.Text.{decimal, further_fields, printed_line}, proofs.DecimalLaws.{length_decimal_le}}
 use Rattle.calls.specs.Replay.{step_text, link_line}

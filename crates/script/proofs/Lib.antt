@@ -14,3 +14,5 @@ pub mod PutLaws
 pub mod ScriptLengths
 pub mod ScriptOutcomes
 pub mod Scripts
+-- its functions in a linked program
+pub mod World

@@ -1,5 +1,6 @@
 -- One step of each reading at a place of the text: what the parser's functions cite.
-use Rattle.lists.specs.{Kit.{◌≡◌, sym, ◌∙◌, ap, Bool, true, false, cond, List, [], ◌∷◌, ℕ, suc, ◌≤◌, ◌<◌, ◌-◌, ◌+◌, ◌*◌, arith, add-one, length, drop, get_or}}
+use Rattle.std.specs.Prelude.{◌≡◌, ◌∷◌, ◌≤◌, ◌<◌, ◌-◌, ◌+◌, ◌*◌}
+use Rattle.lists.specs.{Kit.{sym, ◌∙◌, ap, Bool, true, false, cond, List, [], ℕ, suc, arith, add-one, length, drop, get_or}}
 use Rattle.lists.specs.{Kit.{drop_of_length-le, drop-cons, drop-drop, le-leb, lt-leb, eq-eqb, ne_eqb}, Lists.{same}}
 use Rattle.text.specs.Text.{bytes_of, space, line_feed, digit_byte}
 use Rattle.script.specs.{declared.lines.Line.TheVariants.{Up, Down, Bad}, declared.lines.Number.{Number}, Lines.{is_digit, Read, got, none, digits_on}}
@@ -144,7 +145,7 @@ module _ (s : List ℕ) (r : Number) (e : read_of s r ≡ number_of s) where
   unfolding alone_of alone same
   alone_is h l = rw (← e, read_of_got s r h, drop_of_length-le s l)
 
--- ---- link-of
+-- ---- link_of
 
 module _ (s : List ℕ) (q : ℕ) where
   pub space_past : length s ≤ q → starts (space ∷ []) (drop q s) ≡ false

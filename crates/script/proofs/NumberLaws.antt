@@ -1,6 +1,7 @@
 -- A number read from its decimal digits is that number, and what is read as a number is its decimal digits.
-use Rattle.lists.{specs.Kit.{◌≡◌, refl, sym, ap, ◌∙◌, ◌⊎◌, inl, inr, true, false, List, [], ◌∷◌, ◌++◌, append_assoc, ℕ, zero, suc, ◌+◌, ◌*◌, ◌-◌, ◌/◌, ◌%◌}}
-use Rattle.lists.{specs.Kit.{◌≤◌, ◌<◌, arith, ltb, leb, eqb, ltb-true, ltb-false, leb-true, eqb-true, eqb-false, le-leb, ne_eqb}, proofs.Tests.{bool_cases}}
+use Rattle.std.specs.Prelude.{◌≡◌, ◌⊎◌, ◌∷◌, ◌++◌, ◌+◌, ◌*◌, ◌-◌, ◌/◌, ◌%◌, ◌≤◌, ◌<◌}
+use Rattle.lists.{specs.Kit.{refl, sym, ap, ◌∙◌, inl, inr, true, false, List, [], append_assoc, ℕ, zero, suc}}
+use Rattle.lists.{specs.Kit.{arith, ltb, leb, eqb, ltb-true, ltb-false, leb-true, eqb-true, eqb-false, le-leb, ne_eqb}, proofs.Tests.{bool_cases}}
 use Rattle.lists.{proofs.Tests.{and_left, and_right, and_both}, proofs.All.{same_eq}, specs.Lists.{same}}
 use Rattle.text.{specs.Text.{line_feed, digit_byte, decimal}, proofs.DecimalLaws.{decimal_digit, decimal_more, decimal_append}}
 use Rattle.script.specs.Lines.{max_value, Read, got, none, is_digit, digits_on, number_of, ended, last_number_of}

@@ -1,5 +1,6 @@
 -- A link call's line, put field by field.
-use Rattle.lists.specs.Kit.{◌≡◌, ap, List, [], ◌∷◌, map, ℕ, ℤ}
+use Rattle.std.specs.Prelude.{◌≡◌, ◌∷◌}
+use Rattle.lists.specs.Kit.{ap, List, [], map, ℕ, ℤ}
 use Rattle.text.{specs.Text.{space, decimal, further_fields, printed_line}, specs.Print.{Buffer, Puts}, proofs.PrintLaws.{puts_append, puts_as}}
 use Rattle.calls.specs.Replay.{step_text, link_line}
 

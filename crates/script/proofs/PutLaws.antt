@@ -1,13 +1,14 @@
 -- The script put piece by piece: its lines from their parts, and the invariant of each loop.
---   puts-place                     the place after a text that fits
---   one-put, two-put, three-put    a radio from its digits
---   first-put, word-put, up-put    a line from its parts
---   up_word, up-lower, up-higher   the room that its parts have
+--   puts_place                     the place after a text that fits
+--   one_put, two_put, three_put    a radio from its digits
+--   first_put, word_put, up_put    a line from its parts
+--   up_word, up_lower, up_higher   the room that its parts have
 --   Fitting             c is the buffer after the first pieces, and what is left takes it where the whole text takes b, and fits
 --   Ends, Rows          so after i pieces
---   above-radios        the neighbours above a radio are radios
-use Rattle.lists.{specs.Kit.{◌≡◌, refl, sym, ap, ◌∙◌, Bool, true, false, cond, List, [], ◌∷◌, ◌++◌, append_assoc, flat_map, ℕ, ◌+◌, ◌*◌, ◌-◌, ◌/◌, ◌%◌, ◌≤◌}}
-use Rattle.lists.{specs.Kit.{◌<◌, arith, add-one, ltb, leb, length, get_or, take, drop, set, length-append, drop_of_length-le, drop-cons}}
+--   above_radios        the neighbours above a radio are radios
+use Rattle.std.specs.Prelude.{◌≡◌, ◌∷◌, ◌++◌, ◌+◌, ◌*◌, ◌-◌, ◌/◌, ◌%◌, ◌≤◌, ◌<◌}
+use Rattle.lists.{specs.Kit.{refl, sym, ap, ◌∙◌, Bool, true, false, cond, List, [], append_assoc, flat_map, ℕ}}
+use Rattle.lists.{specs.Kit.{arith, add-one, ltb, leb, length, get_or, take, drop, set, length-append, drop_of_length-le, drop-cons}}
 use Rattle.lists.{specs.Lists.{overwrite, In, EntriesBelow}, proofs.Overwrite.{overwrite_take}, proofs.Map.{flat_map_append}, proofs.Filter.{in_filter}}
 use Rattle.lists.{proofs.Member.{in_get_d}}
 use borrow.Rule.Slice.PartMut.{mid_of, put_mid, Post-is, mid_len}

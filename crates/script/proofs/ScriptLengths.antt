@@ -1,8 +1,9 @@
 -- The script's length, counted: the digits of a number, the bytes of a line, and the invariant of each loop.
---   digits-two, ..               how many digits a number has
---   length-radios, length_up_text, length_up, length-script   the bytes of a line, and of all
+--   digits_two, ..               how many digits a number has
+--   length_radios, length_up_text, length_up, length_script   the bytes of a line, and of all
 --   EndsCounted, RowsCounted   after i pieces: what is counted and the bytes of what is left are the bytes of the whole
-use Rattle.lists.{specs.Kit.{◌≡◌, ap, ◌∙◌, List, ◌∷◌, [], ◌++◌, flat_map, ℕ, ◌+◌, ◌*◌, ◌/◌, ◌≤◌, ◌<◌, arith, add-one, length, get_or, drop, length-append}}
+use Rattle.std.specs.Prelude.{◌≡◌, ◌∷◌, ◌++◌, ◌+◌, ◌*◌, ◌/◌, ◌≤◌, ◌<◌}
+use Rattle.lists.{specs.Kit.{ap, ◌∙◌, List, [], flat_map, ℕ, arith, add-one, length, get_or, drop, length-append}}
 use Rattle.lists.{specs.Kit.{drop_of_length-le, drop-cons}, proofs.Map.{flat_map_append}}
 use Rattle.mesh.specs.Graph.{Link, link_of, graph}
 use Rattle.rows.{specs.Rows.{neighbours_above}, specs.Links.{links_to, links_above, links_from}, proofs.LinksFrom.{links_from_row, links_from_end}}

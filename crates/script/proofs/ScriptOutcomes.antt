@@ -1,6 +1,7 @@
 -- The calls for a site's script meet their contracts, on plain values: refused by 1 to 3, the length, refused by 13, the script in front
 -- of the buffer. What is put are the links that the rows mark, which are the graph's.
-use Rattle.lists.specs.{Kit.{◌≡◌, sym, ap, ◌∙◌, true, List, ◌++◌, ℕ, ◌+◌, ◌≤◌, ◌<◌, arith, length, drop}, Lists.{overwrite}}
+use Rattle.std.specs.Prelude.{◌≡◌, ◌++◌, ◌+◌, ◌≤◌, ◌<◌}
+use Rattle.lists.specs.{Kit.{sym, ap, ◌∙◌, true, List, ℕ, arith, length, drop}, Lists.{overwrite}}
 use Rattle.mesh.{specs.Limits.{max_neighbours}, specs.Graph.{Graph, graph}, specs.Tables.{Tables, graph_in}, specs.Sound.{sound}}
 use Rattle.mesh.{proofs.Images.Tables.{valid_graph_in}}
 use Rattle.text.{specs.Print.{Buffer, buffer_at, max_place, put, Puts}, proofs.PrintLaws.{put_fits}}
@@ -11,7 +12,7 @@ use Rattle.calls.{proofs.ScriptLaws.{script_yes, script_no, script_most}}
 use Rattle.soundness.proofs.SoundSite.{SoundSite, site_good_sound}
 use Rattle.rows.{specs.Links.{links_from, RowsListed}, proofs.GraphLinks.{rows_listed_few, links_graph_in}}
 use Rattle.script.specs.Longest.{longest_script}
-use Rattle.calls.specs.{Chains.{script_length_refusal, script_refusal, holds_script}}
+use Rattle.calls.specs.{Chains.{script_refusal, holds_script}}
 
 module _ (n : ℕ) (t : Tables) where
   abbrev questions : ℕ

@@ -1,5 +1,6 @@
 -- Every worked script is right: computed.
-use Rattle.lists.specs.{Kit.{◌≡◌, refl, true, flat_map}, Lists.{same}}
+use Rattle.std.specs.Prelude.{◌≡◌}
+use Rattle.lists.specs.{Kit.{refl, true, flat_map}, Lists.{same}}
 use Rattle.text.specs.Text.{digit_byte, digits_in, decimal, further_fields, printed_line}
 use Rattle.calls.specs.Script.{up_line, script_of, script_length}
 use Rattle.script.specs.Scripts.{case_good, cases_good, cases}

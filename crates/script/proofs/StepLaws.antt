@@ -1,5 +1,6 @@
 -- Laws of a step's size and of its text.
-use Rattle.lists.{specs.Kit.{◌≡◌, refl, sym, ap, ◌∙◌, subst, true, false, ◌∷◌, ℕ, zero, suc, ◌+◌, arith, T, ℤ, pos, negsuc, ◌-ℤ◌, nat_abs, ltb-true}}
+use Rattle.std.specs.Prelude.{◌≡◌, ◌∷◌, ◌+◌, ◌-ℤ◌}
+use Rattle.lists.{specs.Kit.{refl, sym, ap, ◌∙◌, subst, true, false, ℕ, zero, suc, arith, T, ℤ, pos, negsuc, nat_abs, ltb-true}}
 use Rattle.lists.{proofs.Tests.{never}}
 use mir.{Syntax.{w8, w16, w64}, Val.{Fits, SFits, to_z, of_z}, Facts.{to_z-of_z, Fits-nat_abs}}
 use lib.Signed.{lt_z, non_neg}

@@ -1,6 +1,7 @@
 -- The parser takes exactly the texts of the language: a line's text is read back as the line (`parse_text`), and a text that
 -- is read as a line is that line's text, with numbers to 65,535 (`text_parse`).
-use Rattle.lists.{specs.Kit.{◌≡◌, refl, sym, ap, ◌∙◌, subst, ◌⊎◌, inl, inr, Bool, true, false, cond, List, [], ◌∷◌, ◌++◌, ℕ, ◌≤◌, eqb, length, drop, eqb-true}}
+use Rattle.std.specs.Prelude.{◌≡◌, ◌⊎◌, ◌∷◌, ◌++◌, ◌≤◌}
+use Rattle.lists.{specs.Kit.{refl, sym, ap, ◌∙◌, subst, inl, inr, Bool, true, false, cond, List, [], ℕ, eqb, length, drop, eqb-true}}
 use Rattle.lists.{proofs.Tests.{bool_cases, never, and_left, and_right}}
 use Rattle.text.specs.Text.{bytes_of, space, line_feed, digit_byte, decimal, further_fields, printed_line}
 use Rattle.script.specs.{declared.lines.Line.{Line}, declared.lines.Line.TheVariants.{Radios, Up, Down, Bad}, Texts.{text_of, Values}, Lines.{max_value}}

@@ -1,6 +1,7 @@
 -- Worked cases of the parser: texts of the language, and the nearest texts of another form.
 -- That every case holds is proved in proofs/Cases.antt. Definitions only.
-use Rattle.lists.specs.Kit.{List, [], ◌∷◌, ◌++◌, ℕ}
+use Rattle.std.specs.Prelude.{◌∷◌, ◌++◌}
+use Rattle.lists.specs.Kit.{List, [], ℕ}
 use Prim.Native.String.{String}
 use Rattle.text.specs.Text.{bytes_of, line_feed}
 use Rattle.script.specs.declared.lines.{Line.{Line}, Line.TheVariants.{Radios, Up, Down, Bad}}

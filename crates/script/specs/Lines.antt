@@ -1,14 +1,15 @@
 -- The lines of the replay program, as bytes.
---   max-value         the largest number of a line
+--   max_value         the largest number of a line
 --   Read              what reading at the front of a text gives: a value and what follows it, or none
---   digits-on v s     the digits at the front of s, read onto v
+--   digits_on v s     the digits at the front of s, read onto v
 --   number_of s       the number at the front of s
 --   last_number_of s  the number at the front of s, with nothing but the line feed after it
---   link-from up s      what follows `up ` or `down `, read
+--   link_from up s      what follows `up ` or `down `, read
 --   line_of s         what a text says: `Bad` for every text of another form
 -- The texts of the language are in Texts.antt. That line_of takes exactly the texts of the language, and each back to its line, is proved in proofs/Texts.antt.
 -- Definitions only.
-use Rattle.lists.specs.{Kit.{Bool, true, false, ◌&&◌, cond, List, [], ◌∷◌, ℕ, ◌+◌, ◌*◌, ◌-◌, leb, eqb, drop}, Lists.{same}}
+use Rattle.std.specs.Prelude.{◌&&◌, ◌∷◌, ◌+◌, ◌*◌, ◌-◌}
+use Rattle.lists.specs.{Kit.{Bool, true, false, cond, List, [], ℕ, leb, eqb, drop}, Lists.{same}}
 use Rattle.text.specs.Text.{bytes_of, space, line_feed, digit_byte}
 use Rattle.script.specs.declared.lines.{Line.{Line}, Line.TheVariants.{Radios, Up, Down, Bad}}
 

@@ -1,8 +1,9 @@
 -- How long a script can be.
---   max-links        the most links of a site
---   longest-script   the most bytes of a script
+--   max_links        the most links of a site
+--   longest_script   the most bytes of a script
 -- Definitions only.
-use Rattle.lists.specs.Kit.{ℕ, ◌+◌, ◌*◌, ◌/◌}
+use Rattle.std.specs.Prelude.{◌+◌, ◌*◌, ◌/◌}
+use Rattle.lists.specs.Kit.{ℕ}
 use Rattle.mesh.specs.Limits.{max_radios, max_neighbours}
 
 -- each radio has at most 40

@@ -1,9 +1,10 @@
--- Worked scripts of document 02, W203. That every row is right is `cases_right` in proofs/Scripts.antt.
+-- Worked scripts of document 02, W-203. That every row is right is `cases_right` in proofs/Scripts.antt.
 --   Case         a site's radios and links, with the script's lines and its length
---   case-good    is the row right
+--   case_good    is the row right
 --   cases        the table
 -- Definitions only.
-use Rattle.lists.specs.{Kit.{Bool, true, ◌&&◌, List, [], ◌∷◌, flat_map, ℕ, eqb}, Lists.{same}}
+use Rattle.std.specs.Prelude.{◌&&◌, ◌∷◌}
+use Rattle.lists.specs.{Kit.{Bool, true, List, [], flat_map, ℕ, eqb}, Lists.{same}}
 use Prim.Native.String.{String}
 use Rattle.mesh.specs.Graph.{Graph, graph, link_of}
 use Rattle.text.specs.Text.{bytes_of}

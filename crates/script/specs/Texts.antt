@@ -1,11 +1,12 @@
 -- The texts of the replay program's lines, and what the parser keeps of them.
---   down-text a b     the text of a link call that takes a link down
+--   down_text a b     the text of a link call that takes a link down
 --   text_of l         the text of a line, its line feed included
 --   Values l          are the line's numbers at most 65,535
 --   read_of s r       what the parser's record r says about the text s
 --   alone_of s        the number that is the whole of s
 -- Definitions only.
-use Rattle.lists.specs.{Kit.{cond, List, [], ◌∷◌, ℕ, ◌≤◌, drop}, Lists.{same}}
+use Rattle.std.specs.Prelude.{◌∷◌, ◌≤◌}
+use Rattle.lists.specs.{Kit.{cond, List, [], ℕ, drop}, Lists.{same}}
 use Rattle.text.specs.Text.{bytes_of, decimal, printed_line}
 use Rattle.calls.specs.Script.{radios_text, up_text}
 use Rattle.script.specs.{Lines.{max_value, Read, got, none, number_of}, declared.lines.Line.{Line}, declared.lines.Line.TheVariants.{Radios, Up, Down}}

@@ -1,5 +1,6 @@
 // Lines of the replay program: `radios N`, `up A B`, `down A B`.
-ghost use Rattle.lists.specs.Kit.{◌≡◌, false, ◌≤◌, ◌<◌, length, drop};
+ghost use Rattle.std.specs.Prelude.{◌≡◌, ◌≤◌, ◌<◌};
+ghost use Rattle.lists.specs.Kit.{false, length, drop};
 ghost use Rattle.script.specs.Texts.{read_of, alone_of};
 ghost use Rattle.script.specs.Lines.{digits_on, number_of, last_number_of, link_from, starts, line_of};
 
@@ -19,7 +20,7 @@ pub const UP: [u8; 3] = *b"up ";
 pub const DOWN: [u8; 5] = *b"down ";
 
 // What a line says.
-#[derive(Drop)]
+#[derive(Clone, Copy)]
 pub enum Line {
     Radios(u32),
     Up(u32, u32),
@@ -28,7 +29,7 @@ pub enum Line {
 }
 
 // A number found in a text, and the place after it; where ok is false there is none.
-#[derive(Drop)]
+#[derive(Clone, Copy)]
 pub struct Number {
     pub ok: bool,
     pub value: u32,

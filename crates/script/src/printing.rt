@@ -1,5 +1,6 @@
 // The replay program's lines, printed into a lent buffer by crate text: the step, a link call's line, the closing lines, `bad L`.
-ghost use Rattle.lists.specs.Kit.{◌≡◌, nat_abs, take, ◌<◌};
+ghost use Rattle.std.specs.Prelude.{◌≡◌, ◌<◌};
+ghost use Rattle.lists.specs.Kit.{nat_abs, take};
 ghost use Rattle.calls.specs.Replay.{step_text, link_line, numbers_line, order_line, bad_line};
 ghost use Rattle.text.specs.Print.{buffer_at, Puts};
 

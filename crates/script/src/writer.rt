@@ -1,7 +1,8 @@
 // The script that rebuilds a site: the replay program's line 1, then a line for each link, lower radio first, ascending by lower and
 // then higher. Its length is counted by digits beforehand, and is the length written. A buffer that is shorter is refused by 13; in a
 // longer one no byte of a link's line asks whether it fits. The words of the lines are crate script's.
-ghost use Rattle.lists.specs.Kit.{◌≡◌, flat_map, ◌+◌, ◌≤◌, ◌<◌, length};
+ghost use Rattle.std.specs.Prelude.{◌≡◌, ◌+◌, ◌≤◌, ◌<◌};
+ghost use Rattle.lists.specs.Kit.{flat_map, length};
 ghost use Rattle.lists.specs.Lists.{EntriesBelow};
 ghost use Rattle.mesh.specs.Limits.{max_radios, max_neighbours};
 ghost use Rattle.mesh.specs.Graph.{graph};
@@ -200,7 +201,7 @@ fn measure(n: u32, links: &[u8]) -> usize
 
 // Number 0 and the script's length in bytes. Or the refusal number of questions 1 to 3 and the value 0.
 pub fn length(n: u32, links: &[u8], numbers: &[u8], order: &[u16]) -> Value
-    ensures { ScriptLengthContract n (lent links.entry numbers.entry order.entry) result }
+    ensures { ScriptLengthContract n (lent links.now numbers.now order.now) result }
 {
     let number = soundness::refusal(n, links, numbers, order, true);
     if number != 0 {
@@ -215,7 +216,7 @@ pub fn length(n: u32, links: &[u8], numbers: &[u8], order: &[u16]) -> Value
 // Number 0 and the script's length in bytes; the script stands in front of the buffer, and later bytes keep their content. Or the
 // refusal number of questions 1 to 3 and 13 and the value 0; the buffer keeps its content.
 pub fn write(n: u32, links: &[u8], numbers: &[u8], order: &[u16], buffer: &mut [u8]) -> Value
-    ensures { ScriptContract n (lent links.entry numbers.entry order.entry) buffer.old result buffer.new }
+    ensures { ScriptContract n (lent links.now numbers.now order.now) buffer.old result buffer.new }
 {
     let number = soundness::refusal(n, links, numbers, order, true);
     if number != 0 {

@@ -1,9 +1,10 @@
 -- Texts of the site sheet put piece by piece, each at its place: columns, cells, and the invariant of each loop.
---   column-space, column-digit   a column by cases
---   cell-put               a cell from its columns
+--   column_space, column_digit   a column by cases
+--   cell_put               a cell from its columns
 --   Spaces, Cells, Lines   after i pieces: what is left takes the page where the whole text takes it
---   line-put               a line from its cells, its spaces and its line feed
-use Rattle.lists.specs.{Kit.{◌≡◌, sym, ap, List, [], ◌∷◌, ◌++◌, flat_map, ℕ, suc, ◌+◌, ◌*◌, ◌-◌, ◌/◌, ◌%◌, ◌≤◌, ◌<◌, min, arith, length, replicate, set, lt-ltb}}
+--   line_put               a line from its cells, its spaces and its line feed
+use Rattle.std.specs.Prelude.{◌≡◌, ◌∷◌, ◌++◌, ◌+◌, ◌*◌, ◌-◌, ◌/◌, ◌%◌, ◌≤◌, ◌<◌}
+use Rattle.lists.specs.{Kit.{sym, ap, List, [], flat_map, ℕ, suc, min, arith, length, replicate, set, lt-ltb}}
 use Rattle.lists.specs.{Kit.{le-ltb}, Lists.{range}}
 use Rattle.mesh.specs.Sound.{number_in}
 use Rattle.text.{specs.Text.{space, line_feed, digit_byte}, specs.Print.{Buffer, buffer_at, max_place, put, Puts}, proofs.PrintLaws.{puts_byte_in, puts_append}}

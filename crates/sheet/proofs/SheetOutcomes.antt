@@ -1,5 +1,6 @@
 -- The call for the site sheet meets its contract, on plain values: refused by 1 to 3, refused by 12, the sheet in front of the page.
-use Rattle.lists.specs.{Kit.{◌≡◌, sym, ap, ◌∙◌, true, List, ◌++◌, ℕ, ◌+◌, ◌*◌, ◌≤◌, ◌<◌, arith, length, drop, lt-leb}, Lists.{overwrite}}
+use Rattle.std.specs.Prelude.{◌≡◌, ◌++◌, ◌+◌, ◌*◌, ◌≤◌, ◌<◌}
+use Rattle.lists.specs.{Kit.{sym, ap, ◌∙◌, true, List, ℕ, arith, length, drop, lt-leb}, Lists.{overwrite}}
 use Rattle.mesh.specs.{Limits.{max_radios}, Tables.{Tables}, Sound.{sound}}
 use Rattle.text.{specs.Print.{Buffer, buffer_at, max_place, put}, proofs.PrintLaws.{put_fits}}
 use Rattle.calls.{specs.Sheet.{line_bytes, sheet, sheet_lines, sheet_length}, specs.SheetCells.{CellsFit}, specs.Questions.{ask, lengths_of, site_refusal}}

@@ -1,6 +1,9 @@
 // The site sheet on a printed page: all radios with their numbers, ascending along the lines, in cells of 8 columns, 8 cells to a line.
 // A page that is shorter than the sheet is refused by 12; on a longer one each byte has its place, and none asks whether it fits.
-ghost use Rattle.lists.specs.Kit.{◌≡◌, ◌+◌, ◌*◌, ◌%◌, ◌<◌, ◌≤◌, length, replicate};
+#![tactic(auto)]
+
+ghost use Rattle.std.specs.Prelude.{◌≡◌, ◌+◌, ◌*◌, ◌%◌, ◌<◌, ◌≤◌};
+ghost use Rattle.lists.specs.Kit.{length, replicate};
 ghost use Rattle.mesh.specs.Lent.{lent};
 ghost use Rattle.text.specs.Text.{space, digit_byte};
 ghost use Rattle.text.specs.Print.{buffer_at, put, Puts};
@@ -126,7 +129,7 @@ fn put_sheet(page: &mut [u8], numbers: &[u8])
 // Number 0 and the sheet's length in bytes; the sheet stands in front of the page, and later bytes keep their content. Or the refusal
 // number of questions 1 to 3 and 12 and the value 0; the page keeps its content.
 pub fn sheet(n: u32, links: &[u8], numbers: &[u8], order: &[u16], page: &mut [u8]) -> Value
-    ensures { SheetContract n (lent links.entry numbers.entry order.entry) page.old result page.new }
+    ensures { SheetContract n (lent links.now numbers.now order.now) page.old result page.new }
 {
     let number = soundness::refusal(n, links, numbers, order, true);
     if number != 0 {

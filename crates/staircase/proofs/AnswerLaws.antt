@@ -1,5 +1,6 @@
 -- The call's contract, met: refused and answered.
-use Rattle.lists.specs.{Kit.{◌≡◌, sym, ◌∙◌, List, ℕ, ◌*◌, ◌≤◌, arith, leb, length, leb-true}, Lists.{range}}
+use Rattle.std.specs.Prelude.{◌≡◌, ◌*◌, ◌≤◌}
+use Rattle.lists.specs.{Kit.{sym, ◌∙◌, List, ℕ, arith, leb, length, leb-true}, Lists.{range}}
 use Rattle.mesh.{specs.Limits.{max_radios, max_neighbours}, specs.Connected.{greatest}, specs.Tables.{Tables}, specs.Sound.{sound}}
 use Rattle.mesh.{proofs.Tables.Rows.{symmetric_of}, proofs.Trees.Listed.{greatest_le}}
 use Rattle.calls.{specs.Questions.{lengths_of, site_refusal}, specs.CallContracts.{StaircaseContract}}
@@ -10,7 +11,6 @@ use Rattle.soundness.proofs.SoundSite.{SoundSite, site_good_sound}
 use Rattle.forests.specs.Growing.{growing, grown_all, table_weight, levels_falling}
 use Rattle.staircase.specs.Rows.{Mutual}
 use Rattle.staircase.proofs.LevelLaws.{staircase_count, staircase_table}
-use Rattle.calls.specs.{Chains.{staircase_refusal, staircase_length}}
 
 module _ (n : ℕ) (t : Tables) (old : List ℕ) (q : ℕ) (asked : q ≡ site_refusal n (lengths_of t) (leb (2 * n) (length old)) (sound n t) 0) where
   pub staircase_refused : (q ≡ 0 → ⊥) → StaircaseContract n t old (value q 0) old

@@ -1,7 +1,8 @@
 -- On sound tables the links of the rows, by weight falling, are the graph's; so what grows is the staircase tree.
---   levels-graph       the links taken are the graph's links by weight falling
---   staircase-count, staircase-table   what the call answers, and what the lent table holds
-use Rattle.lists.{specs.Kit.{◌≡◌, ap, ap₂, ◌∙◌, List, [], ℕ, ◌*◌, ◌≤◌, ◌<◌, min, arith, length, take_all}, specs.Lists.{range, overwrite}}
+--   levels_graph       the links taken are the graph's links by weight falling
+--   staircase_count, staircase_table   what the call answers, and what the lent table holds
+use Rattle.std.specs.Prelude.{◌≡◌, ◌*◌, ◌≤◌, ◌<◌}
+use Rattle.lists.{specs.Kit.{ap, ap₂, ◌∙◌, List, [], ℕ, min, arith, length, take_all}, specs.Lists.{range, overwrite}}
 use Rattle.lists.{proofs.Overwrite.{sets_front}}
 use Rattle.mesh.{specs.Graph.{Link, Graph, InLinks}, specs.Cores.{number, numbers}, specs.Connected.{greatest}, specs.Tables.{Tables, graph_in}}
 use Rattle.mesh.{specs.Staircase.{weight, falling, staircase, link_entries}, proofs.GraphLaws.{linked_sym}, proofs.Links.Call.{linked_positive}}

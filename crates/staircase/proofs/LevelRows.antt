@@ -1,11 +1,12 @@
 -- The rows of a level have all links of its weight.
 --   above-..          the radios of higher levels as a set
---   level-sets        the radios of a level as sets
+--   level_sets        the radios of a level as sets
 --   radios-putting-.., neighbours-putting-..   listed radios, and their neighbours, put into a set
---   level-rows        the rows listed
---   level-links       the links of the listed rows are the links of the level's weight
-use Rattle.lists.{specs.Kit.{◌≡◌, refl, sym, ap, ap₂, ◌∙◌, ◌⊎◌, inl, inr, Bool, true, false, ◌&&◌, not, cond, List, [], ◌∷◌, ◌++◌, flat_map, append-nil, ℕ, ◌+◌}}
-use Rattle.lists.{specs.Kit.{◌*◌, ◌-◌, ◌≤◌, ◌<◌, min, arith, ltb, leb, eqb, length, get_or, take, replicate, length-take, List·getD-eq-default, take_all}}
+--   level_rows        the rows listed
+--   level_links       the links of the listed rows are the links of the level's weight
+use Rattle.std.specs.Prelude.{◌≡◌, ◌⊎◌, ◌&&◌, ◌∷◌, ◌++◌, ◌+◌, ◌*◌, ◌-◌, ◌≤◌, ◌<◌}
+use Rattle.lists.{specs.Kit.{refl, sym, ap, ap₂, ◌∙◌, inl, inr, Bool, true, false, not, cond, List, [], flat_map, append-nil, ℕ}}
+use Rattle.lists.{specs.Kit.{min, arith, ltb, leb, eqb, length, get_or, take, replicate, length-take, List·getD-eq-default, take_all}}
 use Rattle.lists.{specs.Kit.{ltb-true, lt-ltb, leb-true, leb-false, le-leb, lt-leb, eqb-true, eqb-false, eq-eqb, ne_eqb}, specs.Lists.{range, filter, member}}
 use Rattle.lists.{specs.Lists.{overwrite, In, EntriesBelow}, proofs.Tests.{bool_cases, never, and_left, and_right, and_both, or_left, or_right, iff_eq}}
 use Rattle.lists.{proofs.Range.{range_in, in_range, range_append, length_range}, proofs.Filter.{in_filter, filter_in, filter_none, filter_ext, filter_le}}

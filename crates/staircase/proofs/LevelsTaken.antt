@@ -1,8 +1,9 @@
 -- Levels taken in turn.
---   levels-next       a level and the next one that some radio has
---   levels-takeable   the links of all levels may be taken
---   levels-all        from each radio its own parent, and the greatest number on
-use Rattle.lists.{specs.Kit.{◌≡◌, refl, ap, ◌∙◌, ◌⊎◌, inl, inr, Bool, true, false, cond, List, [], ◌∷◌, ◌++◌, flat_map, ℕ, zero, suc, ◌+◌, ◌*◌, ◌-◌, ◌≤◌, ◌<◌}}
+--   levels_next       a level and the next one that some radio has
+--   levels_takeable   the links of all levels may be taken
+--   levels_all        from each radio its own parent, and the greatest number on
+use Rattle.std.specs.Prelude.{◌≡◌, ◌⊎◌, ◌∷◌, ◌++◌, ◌+◌, ◌*◌, ◌-◌, ◌≤◌, ◌<◌}
+use Rattle.lists.{specs.Kit.{refl, ap, ◌∙◌, inl, inr, Bool, true, false, cond, List, [], flat_map, ℕ, zero, suc}}
 use Rattle.lists.{specs.Kit.{arith, eqb, length, length-append}, specs.Lists.{range}, proofs.Map.{length-map}}
 use Rattle.mesh.{specs.Limits.{max_radios, max_neighbours}, specs.Graph.{Link, InLinks, link_of}, specs.Connected.{greatest}, specs.Staircase.{filter_links}}
 use Rattle.mesh.{specs.Staircase.{of_weight}, proofs.Tables.AscendingLinks.{in_links_cases}}

@@ -8,3 +8,5 @@ pub mod SkipLaws
 pub mod LevelsTaken
 pub mod LevelLaws
 pub mod AnswerLaws
+-- its functions in a linked program
+pub mod World

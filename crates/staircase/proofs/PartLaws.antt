@@ -1,9 +1,10 @@
 -- Parts as parents.
 --   root-..          steps to parents: how far they lead, where they end
 --   label-..         the root of a radio, which is its label
---   roots-shorter    a parent moved up to the parent's parent leaves every root
---   roots-joined     the root of one part set under that of another gives all of them its label
-use Rattle.lists.{specs.Kit.{◌≡◌, refl, sym, ap, ◌∙◌, ◌⊎◌, inl, inr, true, false, List, map, map-map, ℕ, zero, suc, ◌≤◌, ◌<◌, arith, eqb, ltb, length, get_or}}
+--   roots_shorter    a parent moved up to the parent's parent leaves every root
+--   roots_joined     the root of one part set under that of another gives all of them its label
+use Rattle.std.specs.Prelude.{◌≡◌, ◌⊎◌, ◌≤◌, ◌<◌}
+use Rattle.lists.{specs.Kit.{refl, sym, ap, ◌∙◌, inl, inr, true, false, List, map, map-map, ℕ, zero, suc, arith, eqb, ltb, length, get_or}}
 use Rattle.lists.{specs.Kit.{set, length-set, List·getD-eq-default, get_or-set_same, get_or-set_other, ltb-true, ltb-false, eqb-true, eqb-false, eq-eqb, ne_eqb}}
 use Rattle.lists.{specs.Lists.{range}, proofs.Tests.{bool_cases}, proofs.Map.{get_d_map_range, map_range_ext, map_range_id}, proofs.Range.{length_range}}
 use Rattle.lists.{proofs.Range.{get_d_range}}

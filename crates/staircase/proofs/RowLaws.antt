@@ -3,8 +3,9 @@
 --   row_words       the links to radios above the row's own
 --   level-row-..    which set counts for a radio
 --   rows-..         rows in turn
-use Rattle.lists.{specs.Kit.{◌≡◌, refl, sym, ap, ◌∙◌, ◌⊎◌, inl, inr, Bool, true, false, cond, List, [], ◌∷◌, ◌++◌, flat_map, ℕ, zero, suc, ◌+◌, ◌*◌, ◌-◌, ◌/◌}}
-use Rattle.lists.{specs.Kit.{◌%◌, ◌^◌, ◌≤◌, ◌<◌, min, add-one, arith, bit_and, and_step, and_shr, ltb, eqb, length, get_or, take, drop}}
+use Rattle.std.specs.Prelude.{◌≡◌, ◌⊎◌, ◌∷◌, ◌++◌, ◌+◌, ◌*◌, ◌-◌, ◌/◌, ◌%◌, ◌^◌, ◌≤◌, ◌<◌}
+use Rattle.lists.{specs.Kit.{refl, sym, ap, ◌∙◌, inl, inr, Bool, true, false, cond, List, [], flat_map, ℕ, zero, suc}}
+use Rattle.lists.{specs.Kit.{min, add-one, arith, bit_and, and_step, and_shr, ltb, eqb, length, get_or, take, drop}}
 use Rattle.lists.{specs.Kit.{drop_of_length-le, drop-cons, ltb-true, ltb-false, eqb-true, eqb-false, ne_eqb}, specs.Lists.{range, filter, In}}
 use Rattle.lists.{proofs.Tests.{bool_cases, never}, proofs.Filter.{in_filter, filter_append}, proofs.Range.{range_in}, proofs.Map.{map_append}}
 use lib.{Arith.{lt-one}, Pow.{pow_mono, shr-shr, shr_lt}}
@@ -48,6 +49,7 @@ filter_bits (suc d) i x y f h =
 -- ---- the links of a radio
 
 in_links_to : (a x : ℕ) (xs : List ℕ) → In x xs → InLinks (link_of a x) (links_to a xs)
+in_links_to a x [] x'' = elim x'' [ ]
 in_links_to a x (y ∷ ys) (inl e) = inl (ap (link_of a) e)
 in_links_to a x (y ∷ ys) (inr i) = inr (in_links_to a x ys i)
 

@@ -1,7 +1,8 @@
 -- Levels that no radio has are skipped: no link has such a weight.
 --   greatest-below-..   the greatest number below a level
---   levels-skip         from the level below w on, and from that greatest number on, the same links are taken
-use Rattle.lists.{specs.Kit.{◌≡◌, sym, ap, ◌∙◌, ◌⊎◌, inl, inr, true, false, List, [], ◌∷◌, ℕ, zero, suc, ◌+◌, ◌-◌, ◌≤◌, ◌<◌, max, arith, ltb, eqb, add-one}}
+--   levels_skip         from the level below w on, and from that greatest number on, the same links are taken
+use Rattle.std.specs.Prelude.{◌≡◌, ◌⊎◌, ◌∷◌, ◌+◌, ◌-◌, ◌≤◌, ◌<◌}
+use Rattle.lists.{specs.Kit.{sym, ap, ◌∙◌, inl, inr, true, false, List, [], ℕ, zero, suc, max, arith, ltb, eqb, add-one}}
 use Rattle.lists.{specs.Kit.{length, get_or, drop, drop_of_length-le, List·getD-eq-default, drop-cons, ltb-true, ltb-false, lt-ltb, le-ltb, ne_eqb}}
 use Rattle.lists.{proofs.Tests.{bool_cases}}
 use Rattle.mesh.{specs.Graph.{Link}, specs.Connected.{greatest}, proofs.Trees.Listed.{greatest_map_le}}

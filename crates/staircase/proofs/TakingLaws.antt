@@ -2,7 +2,8 @@
 --   grown-..        what taking links does to lengths and to the count
 --   taken-..        one link
 --   Taking          the links `rest` are left of `whole`
-use Rattle.lists.{specs.Kit.{◌≡◌, refl, sym, ap, ◌∙◌, ◌⊎◌, inl, inr, Bool, true, false, cond, List, [], ◌∷◌, ◌++◌, map, ℕ, ◌+◌, ◌*◌, ◌≤◌, ◌<◌, min, max, arith}}
+use Rattle.std.specs.Prelude.{◌≡◌, ◌⊎◌, ◌∷◌, ◌++◌, ◌+◌, ◌*◌, ◌≤◌, ◌<◌}
+use Rattle.lists.{specs.Kit.{refl, sym, ap, ◌∙◌, inl, inr, Bool, true, false, cond, List, [], map, ℕ, min, max, arith}}
 use Rattle.lists.{specs.Kit.{eqb, length, get_or, set, length-append, eq-eqb, ne_eqb}, proofs.Tests.{trichotomy}}
 use Rattle.mesh.{specs.Graph.{Link, link_of}, proofs.Tables.AscendingLinks.{in_links_left, in_links_right}}
 use Rattle.forests.specs.Growing.{Growing, growing, relabelled, joined_up, grown_one, grown_all}

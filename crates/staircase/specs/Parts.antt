@@ -5,7 +5,8 @@
 --   Rooted           the root of v was searched, and ways to roots may be shorter
 --   Taken ls         the links ls were taken in turn
 -- Definitions only.
-use Rattle.lists.specs.{Kit.{◌≡◌, List, map, ℕ, zero, suc, ◌≤◌, length, get_or}, Lists.{range}}
+use Rattle.std.specs.Prelude.{◌≡◌, ◌≤◌}
+use Rattle.lists.specs.{Kit.{List, map, ℕ, zero, suc, length, get_or}, Lists.{range}}
 use Rattle.mesh.specs.Graph.{Link}
 use Rattle.forests.specs.Growing.{growing, grown_all}
 

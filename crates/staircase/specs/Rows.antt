@@ -1,13 +1,14 @@
 -- The rows of a level.
---   row-among ts s a       the links of a to radios above it that the set s has
---   level-row ts o s a     the same of the set s where a is in the set o, else of o
+--   row_among ts s a       the links of a to radios above it that the set s has
+--   level_row ts o s a     the same of the set s where a is in the set o, else of o
 --   RowsWhole             listed rows that are rows of the table
 --   RadiosPut, NeighboursPut   listed radios, and their neighbours, put into a set
 --   LevelSets             the radios of a level, and these and the ones of higher levels, as sets
 --   LevelRows             the rows of a level listed
 --   Mutual n ts            n rows that are whole and mark each other
 -- Definitions only.
-use Rattle.lists.specs.{Kit.{◌≡◌, Bool, true, ◌&&◌, cond, List, ℕ, ◌+◌, ◌*◌, ◌≤◌, ◌<◌, ltb, eqb, length, get_or, take}, Lists.{range, filter, member}}
+use Rattle.std.specs.Prelude.{◌≡◌, ◌&&◌, ◌+◌, ◌*◌, ◌≤◌, ◌<◌}
+use Rattle.lists.specs.{Kit.{Bool, true, cond, List, ℕ, ltb, eqb, length, get_or, take}, Lists.{range, filter, member}}
 use Rattle.mesh.specs.{Limits.{max_radios, row_bytes}, Graph.{Link}, Tables.{marked}}
 use Rattle.rows.specs.{Rows.{row_listed, neighbours_above}, Sets.{in_set}, Links.{links_to}}
 use Rattle.floods.specs.Floods.{of_level}

@@ -1,10 +1,11 @@
 -- What the loops of the staircase tree ask and pass over.
---   greatest-below w ns  the greatest number below w, 0 where there is none
---   most-taken           more than are taken on all levels together, whatever the tables hold
+--   greatest_below w ns  the greatest number below w, 0 where there is none
+--   most_taken           more than are taken on all levels together, whatever the tables hold
 --   Takeable             what taking links wants of them and of the count
 -- What grows is forests/specs/Growing.antt; that on sound tables it is the staircase tree is `staircase_table` in proofs/LevelLaws.antt.
 -- Definitions only.
-use Rattle.lists.specs.Kit.{cond, List, map, ℕ, ◌+◌, ◌*◌, ◌≤◌, ◌<◌, ltb, length}
+use Rattle.std.specs.Prelude.{◌+◌, ◌*◌, ◌≤◌, ◌<◌}
+use Rattle.lists.specs.Kit.{cond, List, map, ℕ, ltb, length}
 use Rattle.mesh.specs.{Limits.{max_radios}, Graph.{Link, InLinks}, Connected.{greatest}}
 
 -- x where it is below w, else 0

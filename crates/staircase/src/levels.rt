@@ -1,5 +1,5 @@
 // Levels: a link's weight is the smaller of its ends' numbers, so only levels that some radio has hold links. Nothing is refused.
-ghost use Rattle.lists.specs.Kit.{◌≡◌};
+ghost use Rattle.std.specs.Prelude.{◌≡◌};
 ghost use Rattle.staircase.specs.Taking.{below, greatest_below};
 
 // The number x where it is below the level; else 0.

@@ -1,7 +1,10 @@
 // The staircase tree: links are taken by weight falling, then lower radio, then higher radio, and one is kept when the kept ones do
 // not yet join its ends. Level by level, by words: only the rows that have a link of the level are gone over, and of these only the
 // links of the level. Parents tell which radios are joined.
-ghost use Rattle.lists.specs.Kit.{◌≡◌, [], ◌∷◌, flat_map, ◌+◌, ◌*◌, ◌≤◌, ◌<◌, length};
+#![tactic(auto)]
+
+ghost use Rattle.std.specs.Prelude.{◌≡◌, ◌∷◌, ◌+◌, ◌*◌, ◌≤◌, ◌<◌};
+ghost use Rattle.lists.specs.Kit.{[], flat_map, length};
 ghost use Rattle.lists.specs.Lists.{range, filter, EntriesBelow};
 ghost use Rattle.mesh.specs.Limits.{max_radios, max_neighbours, row_bytes};
 ghost use Rattle.mesh.specs.Graph.{link_of};
@@ -293,7 +296,7 @@ pub fn staircase<'a>(
     order: &'a [u16],
     table: &mut [u16],
 ) -> Value
-    ensures { StaircaseContract n (lent links.entry numbers.entry order.entry) table.old result table.new }
+    ensures { StaircaseContract n (lent links.now numbers.now order.now) table.old result table.new }
 {
     let refusal = soundness::refusal(n, links, numbers, order, 2 * n as usize <= table.len());
     if refusal != 0 {

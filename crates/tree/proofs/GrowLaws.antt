@@ -1,7 +1,8 @@
 -- The tree grows: one radio keeps the lists and the set right, and so does a level.
 -- In order: lists of nodes and names in front; one radio; the start and the end of a level.
-use Rattle.lists.{specs.Kit.{◌≡◌, refl, sym, ap, ap₂, ◌∙◌, ◌⊎◌, inl, inr, Bool, true, false, ◌&&◌, ◌||◌, not, cond, List, [], ◌∷◌, ◌++◌, map, append-nil, ℕ}}
-use Rattle.lists.{specs.Kit.{suc, ◌+◌, ◌≤◌, ◌<◌, arith, ltb, leb, eqb, length, get_or, take, set, length-append, ltb-true, lt-ltb, le-leb, eqb-true, eq-eqb}}
+use Rattle.std.specs.Prelude.{◌≡◌, ◌⊎◌, ◌&&◌, ◌||◌, ◌∷◌, ◌++◌, ◌+◌, ◌≤◌, ◌<◌}
+use Rattle.lists.{specs.Kit.{refl, sym, ap, ap₂, ◌∙◌, inl, inr, Bool, true, false, not, cond, List, [], map, append-nil, ℕ}}
+use Rattle.lists.{specs.Kit.{suc, arith, ltb, leb, eqb, length, get_or, take, set, length-append, ltb-true, lt-ltb, le-leb, eqb-true, eq-eqb}}
 use Rattle.lists.{specs.Kit.{not-true}, specs.Lists.{range, member, overwrite}, proofs.Tests.{bool_cases, and_left, and_right, and_both, iff_eq}}
 use Rattle.lists.{proofs.Member.{in_member}, proofs.Overwrite.{set_overwrite, get_d_front}, proofs.Map.{length-map, map_append, map_range_ext}}
 use Rattle.mesh.{specs.Graph.{Graph, radios}, specs.Cores.{number}, specs.Tables.{Tables, graph_in}, specs.Connected.{at_least, InCore, core_of}}

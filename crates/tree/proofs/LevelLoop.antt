@@ -1,5 +1,6 @@
 -- One level as a loop over the radios: what its invariant says, and what it says at the end.
-use Rattle.lists.{specs.Kit.{◌≡◌, refl, ap, ◌∙◌, ◌⊎◌, inl, inr, true, false, List, ℕ, zero, suc, ◌+◌, ◌-◌, ◌≤◌, ◌<◌, min, arith, add-one, length}}
+use Rattle.std.specs.Prelude.{◌≡◌, ◌⊎◌, ◌+◌, ◌-◌, ◌≤◌, ◌<◌}
+use Rattle.lists.{specs.Kit.{refl, ap, ◌∙◌, inl, inr, true, false, List, ℕ, zero, suc, min, arith, add-one, length}}
 use Rattle.lists.{proofs.Tests.{bool_cases}, specs.Lists.{head_or}}
 use Rattle.mesh.specs.{Limits.{max_radios}, Tables.{tables, graph_in}}
 use Rattle.soundness.{specs.Checks.{fits_sound}, proofs.SoundSite.{fits_sound_site}}

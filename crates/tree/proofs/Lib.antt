@@ -11,3 +11,5 @@ pub mod LevelLoop
 pub mod TreeLoop
 -- the answer, refused and accepted
 pub mod TreeAnswer
+-- its functions in a linked program
+pub mod World

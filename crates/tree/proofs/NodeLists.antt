@@ -1,7 +1,8 @@
 -- The nodes that come before a radio at a level, and the lists with nodes and names in front.
 -- In order: laws of lists; nodes from one radio and one level to the next; how many they are; one node more in front.
-use Rattle.lists.{specs.Kit.{◌≡◌, refl, sym, ap, ◌∙◌, ◌⊎◌, inl, inr, Bool, true, false, ◌&&◌, ◌||◌, cond, List, [], ◌∷◌, ◌++◌, map, flat_map, append-nil}}
-use Rattle.lists.{specs.Kit.{append_assoc, ℕ, zero, suc, ◌+◌, ◌-◌, ◌≤◌, ◌<◌, arith, zero-add, leb, eqb, length, length-append, leb-true, le-leb, lt-leb}}
+use Rattle.std.specs.Prelude.{◌≡◌, ◌⊎◌, ◌&&◌, ◌||◌, ◌∷◌, ◌++◌, ◌+◌, ◌-◌, ◌≤◌, ◌<◌}
+use Rattle.lists.{specs.Kit.{refl, sym, ap, ◌∙◌, inl, inr, Bool, true, false, cond, List, [], map, flat_map, append-nil}}
+use Rattle.lists.{specs.Kit.{append_assoc, ℕ, zero, suc, arith, zero-add, leb, eqb, length, length-append, leb-true, le-leb, lt-leb}}
 use Rattle.lists.{specs.Kit.{eqb-true, ne_eqb}, specs.Facts.{folded}, specs.Lists.{range, count, filter, member, overwrite, In}, proofs.Tests.{bool_cases}}
 use Rattle.lists.{proofs.Tests.{bit_one, bit_le}, proofs.Range.{range_in, length_range, range_append, range_suc, count_front}, proofs.Filter.{filter_append}}
 use Rattle.lists.{proofs.Filter.{filter_none, length_filter}, proofs.Count.{count_le_length, count_add}, proofs.Map.{length-map, map_append, flat_map_append}}

@@ -1,6 +1,7 @@
 -- Names and nodes of the shell tree, level by level and radio by radio.
 -- In order: the lowest radio of a shell, whom a level has named so far, names from one radio and one level to the next.
-use Rattle.lists.{specs.Kit.{◌≡◌, refl, sym, ap, ◌∙◌, ◌⊎◌, inl, inr, Bool, true, false, ◌&&◌, ◌||◌, cond, List, [], ◌∷◌, ℕ, zero, suc, ◌≤◌, ◌<◌, min, arith}}
+use Rattle.std.specs.Prelude.{◌≡◌, ◌⊎◌, ◌&&◌, ◌||◌, ◌∷◌, ◌≤◌, ◌<◌}
+use Rattle.lists.{specs.Kit.{refl, sym, ap, ◌∙◌, inl, inr, Bool, true, false, cond, List, [], ℕ, zero, suc, min, arith}}
 use Rattle.lists.{specs.Kit.{ltb, leb, eqb, ltb-true, ltb-false, lt-ltb, le-ltb, leb-true, leb-false, le-leb, eqb-true, eq-eqb, ne_eqb}, specs.Lists.{member}}
 use Rattle.lists.{specs.Lists.{head_or}, proofs.Tests.{bool_cases, never, and_left, and_right, and_both, or_cases, or_left, or_right, iff_eq}}
 use Rattle.lists.{proofs.Member.{head_or_in, head_or_any}}

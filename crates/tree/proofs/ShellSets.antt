@@ -1,6 +1,7 @@
 -- The radios of each level as sets.
 -- In order: the set of one number, the level after it, the lowest radio of a level that the set still has.
-use Rattle.lists.{specs.Kit.{◌≡◌, refl, sym, ap, ap₂, ◌∙◌, ◌⊎◌, inl, inr, Bool, true, false, ◌&&◌, not, cond, List, [], ◌∷◌, ℕ, zero, suc, ◌+◌, ◌≤◌, ◌<◌}}
+use Rattle.std.specs.Prelude.{◌≡◌, ◌⊎◌, ◌&&◌, ◌∷◌, ◌+◌, ◌≤◌, ◌<◌}
+use Rattle.lists.{specs.Kit.{refl, sym, ap, ap₂, ◌∙◌, inl, inr, Bool, true, false, not, cond, List, [], ℕ, zero, suc}}
 use Rattle.lists.{specs.Kit.{arith, ltb, leb, eqb, length, get_or, take, replicate, length-replicate, ltb-true, ltb-false, lt-ltb, leb-true, le-leb, lt-leb}}
 use Rattle.lists.{specs.Kit.{eqb-true, eqb-false, eq-eqb}, specs.Facts.{EachOnce, Rising}, specs.Lists.{range, filter, head_or, member}}
 use Rattle.lists.{proofs.Tests.{bool_cases, never, and_left, and_right, and_both, iff_eq}, proofs.Member.{head_or_below, in_get_d, get_d_of_in}}

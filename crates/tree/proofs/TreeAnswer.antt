@@ -1,5 +1,6 @@
 -- The shell tree's answer: refused, and accepted.
-use Rattle.lists.{specs.Kit.{◌≡◌, sym, ap, ◌∙◌, Bool, true, ◌&&◌, List, ℕ, ◌+◌, ◌≤◌, min, ltb, leb, ltb-true, lt-ltb, leb-true, le-leb, arith, length}}
+use Rattle.std.specs.Prelude.{◌≡◌, ◌&&◌, ◌+◌, ◌≤◌}
+use Rattle.lists.{specs.Kit.{sym, ap, ◌∙◌, Bool, true, List, ℕ, min, ltb, leb, ltb-true, lt-ltb, leb-true, le-leb, arith, length}}
 use Rattle.lists.{proofs.Tests.{and_left, and_right, and_both, iff_eq}}
 use Rattle.mesh.specs.{Tables.{tables, graph_in}, Sound.{sound}}
 use Rattle.calls.{specs.Questions.{lengths_of, site_refusal, answer_length}, specs.declared.Value.{Value}}

@@ -1,5 +1,6 @@
 -- All levels as a loop: the root first, then level by level to the greatest number, and what the lists hold at the end.
-use Rattle.lists.{specs.Kit.{◌≡◌, refl, sym, ap, ap₂, ◌∙◌, true, ◌&&◌, List, [], ◌∷◌, ◌++◌, map, ℕ, suc, ◌+◌, ◌*◌, ◌≤◌, ◌<◌, min, arith, add-one, length, take}}
+use Rattle.std.specs.Prelude.{◌≡◌, ◌&&◌, ◌∷◌, ◌++◌, ◌+◌, ◌*◌, ◌≤◌, ◌<◌}
+use Rattle.lists.{specs.Kit.{refl, sym, ap, ap₂, ◌∙◌, true, List, [], map, ℕ, suc, min, arith, add-one, length, take}}
 use Rattle.lists.{specs.Kit.{drop, set, replicate, length-replicate, length-take-le}, specs.Lists.{overwrite}, proofs.Tests.{and_right}}
 use Rattle.lists.{proofs.Map.{map_range_constant, map_range_ext}, proofs.Overwrite.{set_overwrite}}
 use Rattle.mesh.{specs.Limits.{max_radios, max_neighbours}, specs.Graph.{Graph, radios}, specs.Cores.{number}, specs.Tables.{Tables, tables, graph_in}}

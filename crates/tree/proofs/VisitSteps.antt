@@ -1,7 +1,8 @@
 -- One radio of a level: it brings a node, or nothing.
---   takes-node   radio v has number k and is in the set
+--   takes_node   radio v has number k and is in the set
 --   Visited      radio v at level k: a node where it takes one, else nothing
-use Rattle.lists.{specs.Kit.{◌≡◌, refl, Bool, true, false, ◌&&◌, List, ℕ, eqb, get_or}, proofs.Tests.{never}}
+use Rattle.std.specs.Prelude.{◌≡◌, ◌&&◌}
+use Rattle.lists.{specs.Kit.{refl, Bool, true, false, List, ℕ, eqb, get_or}, proofs.Tests.{never}}
 use Rattle.rows.specs.Sets.{in_set}
 use Rattle.tree.specs.Trees.{Stand, NodeTaken}
 

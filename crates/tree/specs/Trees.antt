@@ -1,7 +1,7 @@
 -- The shell tree over three tables of nodes and the answer table.
 --   Lists                   names, levels and parents of nodes, and the answer table
---   with-front xs ys s      the lists s with the nodes xs and the radios' names ys in front
---   entries-set x ws t      the table t with x at each place that ws lists
+--   with_front xs ys s      the lists s with the nodes xs and the radios' names ys in front
+--   entries_set x ws t      the table t with x at each place that ws lists
 --   Stand                   a level on its way: the radios left, the lists, how many nodes stand in them
 --   CoreNamed              a flood from v, and v written for each radio that came in
 --   NodeTaken              a node behind the others: radio v at level k
@@ -10,16 +10,17 @@
 --   LevelReady, LevelsReady  what one level, and all of them, want of tables, sets and lengths
 --   own g k v               v has number k and names its own node
 --   covered g k v w         the connected core of w at level k has a radio of number k below v
---   name-before g k w       the name that w has before level k: of its nearest node below k
+--   name_before g k w       the name that w has before level k: of its nearest node below k
 --   present g k v w         the name that w has at level k before v
---   nodes-before g k v      the root and the nodes that come before v at level k
+--   nodes_before g k v      the root and the nodes that come before v at level k
 --   Growing                 the lists hold these nodes and names in front
 --   Levelled, Treed         what one level, and all of them, leave for sound tables
 --   TreeWritten            the whole tree in front
---   Filled, tables-outcome  what the call over the tables comes to
+--   Filled, tables_outcome  what the call over the tables comes to
 --   TablesContract         document 01: the shell tree, its nodes as three tables: result and lists are that outcome
 -- Definitions only.
-use Rattle.lists.specs.{Kit.{◌≡◌, Bool, true, ◌&&◌, not, cond, List, [], ◌∷◌, ◌++◌, map, flat_map, ℕ, zero, suc, ◌+◌, ◌*◌, ◌≤◌, ◌<◌, min, ltb, leb, eqb, length}}
+use Rattle.std.specs.Prelude.{◌≡◌, ◌&&◌, ◌∷◌, ◌++◌, ◌+◌, ◌*◌, ◌≤◌, ◌<◌}
+use Rattle.lists.specs.{Kit.{Bool, true, not, cond, List, [], map, flat_map, ℕ, zero, suc, min, ltb, leb, eqb, length}}
 use Rattle.lists.specs.{Kit.{get_or, take, set}, Facts.{folded}, Lists.{range, filter, head_or, overwrite, In, EntriesBelow}}
 use Rattle.mesh.specs.{Limits.{max_radios, max_neighbours}, Graph.{Graph, radios}, Cores.{number}, Tables.{Tables, tables, graph_in}, Sound.{sound}}
 use Rattle.mesh.specs.{Tree.{root_name, root, node, shell, node_name, parent_name, nodes_at, tree, node_names}, declared.Node.{Node}}

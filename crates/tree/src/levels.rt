@@ -1,5 +1,6 @@
 // The shell tree in document 01's order: level by level, and in a level radio by radio.
-ghost use Rattle.lists.specs.Kit.{◌≡◌, true, ◌+◌, ◌*◌, ◌≤◌, ◌<◌, length, replicate};
+ghost use Rattle.std.specs.Prelude.{◌≡◌, ◌+◌, ◌*◌, ◌≤◌, ◌<◌};
+ghost use Rattle.lists.specs.Kit.{true, length, replicate};
 ghost use Rattle.mesh.specs.Limits.{max_radios};
 ghost use Rattle.mesh.specs.Lent.{lent};
 ghost use Rattle.mesh.specs.Tables.{tables, graph_in};
@@ -187,7 +188,7 @@ pub fn shell_tree<'a>(
     parents: &mut [u16],
     answer: &mut [u16],
 ) -> Value
-    ensures { TablesContract n room (lent links.entry numbers.entry order.entry)
+    ensures { TablesContract n room (lent links.now numbers.now order.now)
         (lists names.old levels.old parents.old answer.old) result
         (lists names.new levels.new parents.new answer.new) }
 {

@@ -1,5 +1,6 @@
 // Single writes of the shell tree: a node in three tables, a name for each radio of a core.
-ghost use Rattle.lists.specs.Kit.{◌≡◌, ◌≤◌, length, take, set};
+ghost use Rattle.std.specs.Prelude.{◌≡◌, ◌≤◌};
+ghost use Rattle.lists.specs.Kit.{length, take, set};
 ghost use Rattle.floods.specs.Floods.{Floodable};
 ghost use Rattle.tree.specs.Trees.{entries_set, CoreNamed};
 

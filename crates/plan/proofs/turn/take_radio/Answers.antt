@@ -1,0 +1,36 @@
+-- `turn::take_radio` meets its contract: the row of an end is released with one bit put, any other row as it is.
+use Rattle.std.specs.Prelude.{◌+◌, ◌*◌, ◌-◌}
+use Rattle.lists.specs.Kit.{◌∙◌, true, arith, rules}
+use Rattle.mesh.specs.Limits.{row_bytes}
+use Rattle.plan.proofs.NearLaws.{releasable_same, released_same, length_part, neighbours_of_end, neighbours_of_lent}
+use Rattle.plan.proofs.turn.take_radio.Goals as goal
+
+pub end_row-row-requires : goal.end_row-row-requires
+end_row-row-requires c = (c.requires.0.row, (neighbours_of_end true _ _ _ _ _ c.other_end-w.ensures c.if-w-v.true c.requires.0).0)
+
+pub release_row-requires : goal.release_row-requires
+release_row-requires c =
+    let same = neighbours_of_end _ _ _ _ _ _ c.other_end-w.ensures c.if-w-v.true c.requires.0 in
+    (search rules, releasable_same _ _ _ _ (c.end_row-row.ensures ∙ same.1) c.requires.1)
+
+pub returns-then-w-v : goal.returns-then-w-v
+returns-then-w-v c =
+    let same = neighbours_of_end _ _ _ _ _ _ c.other_end-w.ensures c.if-w-v.true c.requires.0 in
+    let both = released_same _ _ _ _ _ _ _ _ _ (c.end_row-row.ensures ∙ same.1) c.take_out.ensures c.release_row.ensures.counted c.release_row.ensures.marked in record { counted = both.0; marked = both.1 }
+
+pub slice_bounds-release_row-end-2 : goal.slice_bounds-release_row-end-2
+slice_bounds-release_row-end-2 c = omega (arith, c.requires.0.row)
+
+pub release_row-requires-2 : goal.release_row-requires-2
+release_row-requires-2 c =
+    let long = row_bytes * c.args.v + row_bytes - row_bytes * c.args.v in (
+      length_part _ c.args.v long (omega arith) c.requires.0.row,
+      releasable_same _ _ _ _ (neighbours_of_lent _ _ _ _ _ _ c.other_end-w.ensures long (omega arith) c.if-w-v.false c.requires.0)
+          c.requires.1,
+    )
+
+pub returns : goal.returns
+returns c =
+    let long = row_bytes * c.args.v + row_bytes - row_bytes * c.args.v in
+    let both = released_same _ _ _ _ _ _ _ _ _ (neighbours_of_lent _ _ _ _ _ _ c.other_end-w.ensures long (omega arith) c.if-w-v.false c.requires.0)
+    c.take_out.ensures c.release_row-2.ensures.counted c.release_row-2.ensures.marked in record { counted = both.0; marked = both.1 }

@@ -1,0 +1,10 @@
+-- `words::lower_word` meets its contract: each turn takes the lowest set bit off the word, and what the rest leaves, the whole leaves
+-- (`WordLowering`). The measure is the word that is left.
+use Rattle.plan.proofs.WordLaws.{WordLowering}
+use Rattle.plan.proofs.wide_steps.lower_word.Given as goal
+
+abbrev pub invariant-loop-rest : goal.invariant-loop-rest
+invariant-loop-rest l = WordLowering l.most l.places l.first l.word l.initial.counters l.initial.due l.rest l.counters l.due
+
+abbrev pub decreases-loop-rest : goal.decreases-loop-rest
+decreases-loop-rest l = l.rest

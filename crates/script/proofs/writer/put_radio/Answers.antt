@@ -1,0 +1,24 @@
+-- `put_radio` meets its contract: what is listed are the neighbours above the radio, all of them, since the row fits the list.
+use Rattle.lists.specs.Kit.{sym, ap, List, flat_map, ℕ, arith, length, replicate, length-take-le}
+use Rattle.mesh.specs.Limits.{max_neighbours}
+use Rattle.text.proofs.PrintLaws.{puts_as}
+use Rattle.calls.specs.Script.{up_line}
+use Rattle.rows.{specs.Links.{links_to, links_above}, proofs.AboveLaws.{above_front}}
+use Rattle.script.proofs.{PutLaws.{above_radios}}
+use Rattle.script.proofs.writer.put_radio.Goals as goal
+
+pub slice_bounds-put_row-end : goal.slice_bounds-put_row-end
+slice_bounds-put_row-end c = sym (length-take-le _ _ (omega (arith, c.row_above-count.ensures.counted, c.row_above-count.auto.list)))
+
+pub put_row-requires : goal.put_row-requires
+unfolding links_above
+put_row-requires c =
+    let is = above_front c.args.links.now c.args.a (replicate max_neighbours 0) _ _ c.row_above-count.ensures.counted c.row_above-count.ensures.listed
+    (omega (arith, c.requires.listed.1)) in record { radios = (c.requires.listed.0, rw is (above_radios c.args.links.now c.args.a)); room = omega (arith, c.requires.room, ap (λ (bs : List ℕ). length (flat_map up_line (links_to c.args.a bs))) is) }
+
+pub returns : goal.returns
+unfolding links_above
+returns c =
+    let is = above_front c.args.links.now c.args.a (replicate max_neighbours 0) _ _ c.row_above-count.ensures.counted c.row_above-count.ensures.listed
+    (omega (arith, c.requires.listed.1)) in
+    puts_as (ap (λ (bs : List ℕ). flat_map up_line (links_to c.args.a bs)) is) c.put_row.ensures
