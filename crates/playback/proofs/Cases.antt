@@ -1,5 +1,6 @@
 -- M1's script, played back, leaves another order than M1: computed.
-use Rattle.lists.specs.Kit.{◌≡◌, refl, sym, ap, subst, ◌∙◌, true, List, [], ◌∷◌, flat_map, ℕ, arith}
+use Rattle.std.specs.Prelude.{◌≡◌, ◌∷◌}
+use Rattle.lists.specs.Kit.{refl, sym, ap, subst, ◌∙◌, true, List, [], flat_map, ℕ, arith}
 use Rattle.mesh.{specs.Limits.{max_neighbours}, specs.Graph.{Link, Graph, graph, link_of, neighbours_in}, specs.Tables.{Tables, put_digit, put_bit, put_link}}
 use Rattle.mesh.{specs.Tables.{row_links, graph_in, tables_of, TablesOfSize}, specs.Sound.{sound}, specs.Valid.{Valid}}
 use Rattle.mesh.{proofs.Tables.Laws.{bytes_links_table}, proofs.Images.Tables.{valid_graph_in}}

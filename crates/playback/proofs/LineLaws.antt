@@ -1,9 +1,10 @@
 -- Lines of a text whose line feeds are known.
 --   Ended l          l is a line: bytes that are no line feed, and a line feed
---   lines-first, front-ended, rest_ended   the first line of a text that starts with a line
---   ended-radios, ended-up   lines of a script
+--   lines_first, front_ended, rest_ended   the first line of a text that starts with a line
+--   ended_radios, ended_up   lines of a script
 --   lines_of_ups     the lines after the first of a script
-use Rattle.lists.{specs.Kit.{◌≡◌, refl, sym, ap, ◌∙◌, Bool, true, not, List, [], ◌∷◌, ◌++◌, map, flat_map, append_assoc, ℕ, zero, suc, ◌/◌, ◌%◌, arith, eqb}}
+use Rattle.std.specs.Prelude.{◌≡◌, ◌∷◌, ◌++◌, ◌/◌, ◌%◌}
+use Rattle.lists.{specs.Kit.{refl, sym, ap, ◌∙◌, Bool, true, not, List, [], map, flat_map, append_assoc, ℕ, zero, suc, arith, eqb}}
 use Rattle.lists.{specs.Kit.{ne_eqb, not-true, eqb-false}, specs.Lists.{all}, proofs.Tests.{and_left, and_right}}
 use Rattle.mesh.specs.Graph.{Link}
 use Rattle.text.specs.Text.{bytes_of, space, line_feed, digit_byte, digits_in, decimal, further_fields, printed_line}

@@ -1,9 +1,10 @@
 -- The script of sound tables, played: every line is a link call, none is refused, and links and numbers are the tables'.
---   script-plays    so it is of the script
---   written-plays   and of the bytes that the call writes
+--   script_plays    so it is of the script
+--   written_plays   and of the bytes that the call writes
 -- The links of the site come up in their order from a cleared one (calls' `rebuilt`), and the tables hold the pairs after them.
-use Rattle.lists.{specs.Kit.{◌≡◌, refl, sym, ap, subst, ◌∙◌, ◌⊎◌, inl, inr, true, List, [], ◌∷◌, ◌++◌, map, flat_map, append_assoc, ListMemᴰ}}
-use Rattle.lists.{specs.Kit.{List·Memᴰ·cases-cons, List·Memᴰ·not-nil, ℕ, zero, suc, ◌≤◌, ◌<◌, ◌+◌, arith, length, drop, take, replicate, length-append}}
+use Rattle.std.specs.Prelude.{◌≡◌, ◌⊎◌, ◌∷◌, ◌++◌, ◌≤◌, ◌<◌, ◌+◌}
+use Rattle.lists.{specs.Kit.{refl, sym, ap, subst, ◌∙◌, inl, inr, true, List, [], map, flat_map, append_assoc, ListAsMemᴰ}}
+use Rattle.lists.{specs.Kit.{List·Memᴰ·cases-cons, List·Memᴰ·not-nil, ℕ, zero, suc, arith, length, drop, take, replicate, length-append}}
 use Rattle.lists.{specs.Kit.{length-drop, length-replicate}, specs.Lists.{range, overwrite, EntriesBelow}, proofs.Overwrite.{take_overwrite}}
 use Rattle.lists.{proofs.Map.{length-map}}
 use Rattle.mesh.{specs.Limits.{max_radios, max_neighbours}, specs.Graph.{Link, graph, InLinks, Allowed}, specs.Levels.{changed, step_of}}
@@ -21,7 +22,7 @@ use Rattle.player.{specs.Play.{site_of, radios_of, lines_of, front, rest, cleare
 use Rattle.player.{proofs.PlayLaws.{site_of_radios}}
 use Rattle.playback.specs.{Plays.{calls_of, calls_in}, Back.{Rebuilds, PlaysBack}}
 use Rattle.playback.proofs.LineLaws.{ended_radios, front_ended, rest_ended, lines_of_ups}
-use Rattle.calls.specs.{Chains.{script_refusal, link_refusal}, Questions.{by_number}}
+use Rattle.calls.specs.{Chains.{script_refusal}, Questions.{by_number}}
 
 -- ---- lines
 
@@ -97,12 +98,12 @@ calls_of_ups n (l ∷ ls) r =
     let ends = r l (inl refl) in rw (line_of_up l ends.0 ends.1, calls_of_ups n ls (λ m i. r m (inr i)))
 
 abbrev NoneRefused : List Answer → Type 0
-NoneRefused hs = (h : Answer) → ListMemᴰ h hs → h.number ≡ 0
+NoneRefused hs = (h : Answer) → ListAsMemᴰ h hs → h.number ≡ 0
 
 none_refused_more : (h : Answer) (hs : List Answer) → h.number ≡ 0 → NoneRefused hs → NoneRefused (h ∷ hs)
 none_refused_more h hs e f x m = go (List·Memᴰ·cases-cons m)
   where
-    go : (x ≡ h) ⊎ ListMemᴰ x hs → x.number ≡ 0
+    go : (x ≡ h) ⊎ ListAsMemᴰ x hs → x.number ≡ 0
     go (inl same) = ap (λ (y : Answer). y.number) same ∙ e
     go (inr i) = f x i
 

@@ -1,8 +1,9 @@
--- Document 02, W203: played back, no line is refused, and links and numbers are the tables'; the order may differ.
+-- Document 02, W-203: played back, no line is refused, and links and numbers are the tables'; the order may differ.
 --   Rebuilds               what its calls answer and leave, and what the replay program prints of it
 --   PlaysBack n t input   the input is played to its end, and that rebuilds t
 -- That the script of sound tables does is `script_plays` in proofs/ScriptPlays.antt. Definitions only.
-use Rattle.lists.specs.Kit.{◌≡◌, List, ListAsMemᴰ, ℕ, length}
+use Rattle.std.specs.Prelude.{◌≡◌}
+use Rattle.lists.specs.Kit.{List, ListAsMemᴰ, ℕ, length}
 use Rattle.mesh.specs.Tables.{Tables, graph_in}
 use Rattle.calls.specs.{Book.{Answer, Call}, Runs.{events, after, answers}, Replay.{lines}}
 use Rattle.player.specs.{Play.{lines_of, front, rest, radios_of, cleared}, RunText.{run_text}}

@@ -1,9 +1,10 @@
 -- M1's site and its script: played back, the order is another one. That this holds is `order_differs` in proofs/Cases.antt.
---   m1-left       the tables that M1's calls leave
---   m1-script     their script
+--   m1_left       the tables that M1's calls leave
+--   m1_script     their script
 --   OrderDiffers what holds of them
 -- Definitions only.
-use Rattle.lists.specs.Kit.{◌≡◌, true, List, [], ◌∷◌, flat_map}
+use Rattle.std.specs.Prelude.{◌≡◌, ◌∷◌}
+use Rattle.lists.specs.Kit.{true, List, [], flat_map}
 use Prim.Native.String.{String}
 use Rattle.mesh.specs.{Graph.{graph, link_of}, Tables.{Tables, graph_in, tables_of, TablesOfSize}, Sound.{sound}}
 use Rattle.text.specs.Text.{bytes_of}

@@ -1,1 +1,2 @@
-// A site's script played back (document 02, W203), over the replay language itself: specs/ and proofs/ alone.
+// A site's script played back (document 02, W-203), over the replay language itself: specs/ and proofs/ alone.
+#![tactic(auto)]

@@ -1,6 +1,7 @@
 -- What the code does with a byte is what the machine does: a law for each way through `machine::take_byte`. In all of them s and
 -- r are the progress before and after, t and w the tables and the answer table before, and line what the line's room holds.
-use Rattle.lists.specs.Kit.{◌≡◌, refl, sym, ap, subst, ◌∙◌, Bool, true, false, true≢false, List, [], ◌∷◌, ◌++◌, ℕ, ◌+◌, ◌≤◌, ◌<◌, arith, add-one, length, take}
+use Rattle.std.specs.Prelude.{◌≡◌, ◌∷◌, ◌++◌, ◌+◌, ◌≤◌, ◌<◌}
+use Rattle.lists.specs.Kit.{refl, sym, ap, subst, ◌∙◌, Bool, true, false, true≢false, List, [], ℕ, arith, add-one, length, take}
 use Rattle.lists.specs.Kit.{set, length-take, take-suc-set}
 use Rattle.mesh.specs.Tables.{Tables}
 use Rattle.text.specs.{Text.{line_feed}, Print.{Buffer, buffer_at, put, Puts}}

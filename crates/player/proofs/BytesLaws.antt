@@ -1,5 +1,6 @@
 -- Bytes taken in turn: one more at the end, chunk after chunk, and after the end of the run.
-use Rattle.lists.specs.Kit.{◌≡◌, refl, sym, ap, subst, ◌∙◌, false, List, [], ◌∷◌, ◌++◌, append_assoc, append-nil, ℕ}
+use Rattle.std.specs.Prelude.{◌≡◌, ◌∷◌, ◌++◌}
+use Rattle.lists.specs.Kit.{refl, sym, ap, subst, ◌∙◌, false, List, [], append_assoc, append-nil, ℕ}
 use Rattle.player.specs.Machine.{Spot, Ignored, Takes, TakesAll}
 use Rattle.player.proofs.MachineLaws.{takes_none}
 

@@ -1,5 +1,6 @@
 -- What a run prints is decided by its input: two texts that meet `RunPrints` are equal.
-use Rattle.lists.specs.Kit.{◌≡◌, sym, ap, subst, ◌∙◌, Bool, true, false, List, [], ◌∷◌, ◌++◌, ℕ, zero, suc, ◌+◌, take}
+use Rattle.std.specs.Prelude.{◌≡◌, ◌∷◌, ◌++◌, ◌+◌}
+use Rattle.lists.specs.Kit.{sym, ap, subst, ◌∙◌, Bool, true, false, List, [], ℕ, zero, suc, take}
 use Rattle.mesh.specs.Tables.{Tables}
 use Rattle.calls.specs.{Replay.{link_line}, Outcomes.{Linked}, CallContracts.{LinkContract}}
 use Rattle.script.specs.{Lines.{line_of}, declared.lines.Line.{Line}, declared.lines.Line.TheVariants.{Radios, Up, Down, Bad}}

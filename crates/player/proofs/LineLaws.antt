@@ -1,5 +1,6 @@
 -- Laws of what a line does and prints.
-use Rattle.lists.specs.Kit.{◌≡◌, refl, sym, ap, subst, ◌∙◌, Bool, true, false, true≢false, List, [], ℕ, ℤ, take}
+use Rattle.std.specs.Prelude.{◌≡◌}
+use Rattle.lists.specs.Kit.{refl, sym, ap, subst, ◌∙◌, Bool, true, false, true≢false, List, [], ℕ, ℤ, take}
 use Rattle.mesh.specs.Tables.{Tables}
 use Rattle.calls.specs.{Replay.{link_line}, CallContracts.{LinkContract}, declared.Reply.{Reply}}
 use Rattle.script.specs.{Lines.{line_of}, declared.lines.Line.{Line}, declared.lines.Line.TheVariants.{Radios, Up, Down, Bad}}

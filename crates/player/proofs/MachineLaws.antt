@@ -1,5 +1,6 @@
 -- Laws of the machine that takes bytes: each thing that a byte can do, from what the code has tested; bytes in turn; the end.
-use Rattle.lists.specs.Kit.{◌≡◌, refl, ◌∙◌, Bool, true, false, List, [], ◌∷◌, ◌++◌, ℕ, zero, suc, ◌≤◌, ◌<◌, min, arith, leb, eqb, length, take, length-take}
+use Rattle.std.specs.Prelude.{◌≡◌, ◌∷◌, ◌++◌, ◌≤◌, ◌<◌}
+use Rattle.lists.specs.Kit.{refl, ◌∙◌, Bool, true, false, List, [], ℕ, zero, suc, min, arith, leb, eqb, length, take, length-take}
 use Rattle.lists.specs.Kit.{le-leb, lt-leb, eq-eqb, ne_eqb}
 use Rattle.text.{specs.Text.{line_feed}, specs.Print.{Buffer, Puts}, proofs.PrintLaws.{puts_as, puts_append}}
 use Rattle.calls.specs.Replay.{bad_line, numbers_line, order_line, closing_lines}

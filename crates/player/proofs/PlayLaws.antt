@@ -1,5 +1,6 @@
 -- Laws of `radios_of`: what a first line comes to, and its bound.
-use Rattle.lists.{specs.Kit.{◌≡◌, sym, ap, ◌∙◌, ◌⊎◌, inl, inr, true, false, cond, List, ℕ, ◌≤◌, ◌<◌, arith, leb, le-leb, lt-leb, leb-true}}
+use Rattle.std.specs.Prelude.{◌≡◌, ◌⊎◌, ◌≤◌, ◌<◌}
+use Rattle.lists.{specs.Kit.{sym, ap, ◌∙◌, inl, inr, true, false, cond, List, ℕ, arith, leb, le-leb, lt-leb, leb-true}}
 use Rattle.lists.{proofs.Tests.{bool_cases}}
 use Rattle.mesh.specs.Limits.{max_radios}
 use Rattle.script.specs.{Lines.{line_of}, declared.lines.Line.{Line}, declared.lines.Line.TheVariants.{Radios, Up, Down, Bad}}

@@ -1,11 +1,18 @@
 -- What a read found, and reads one after another.
-use Rattle.lists.specs.Kit.{◌≡◌, refl, sym, ap, ◌∙◌, Bool, true, false, cond, List, [], ◌∷◌, ◌++◌, ℕ, zero, suc, ◌≤◌, ◌<◌, ◌+◌, min, arith, ℤ, pos, negsuc}
-use Rattle.lists.specs.Kit.{length, take, drop, length-take, take_at, eq-eqb, ne_eqb}
-use mir.{Syntax.{w32, w64}, Val.{SFits, to_z, of_z}, Facts.{to_z-of_z}}
-use Rattle.io.{specs.Counts.{Counts, clamped}, proofs.Counting.{counts}}
+use Rattle.std.specs.Prelude.{◌≡◌, ◌∷◌, ◌++◌, ◌≤◌, ◌<◌, ◌+◌}
+use Rattle.lists.specs.Kit.{refl, sym, ap, ◌∙◌, Bool, true, false, cond, List, [], ℕ, zero, suc, min, arith, ℤ, pos, negsuc}
+use Rattle.lists.specs.Kit.{length, take, drop, length-take, length-take-le, take_at, eq-eqb, ne_eqb}
+use Rattle.std.proofs.Common.{w32, w64, to_z, of_z, SFits}
+use Rattle.std.proofs.Math.Facts.{to_z-of_z}
+use Rattle.player.specs.Counts.{IsPrefixLen, clamp_len}
 use Rattle.text.{specs.Print.{Buffer, buffer_at, put, Puts, max_place}, proofs.PrintLaws.{puts_append, at_put, length_put, puts_whole}}
 use Rattle.player.specs.{Reads.{goes_on, at_end, unread, is_error, failure, is_failed, by_count, found, Found, Read, input_of, Going, ToEnd, FillsOn}}
 use Rattle.player.specs.{Reads.{Fills}, declared.input.Brought.{Brought}}
+
+-- ---- fronts
+
+pub prefix_len : (k : ℕ) (xs : List ℕ) → k ≤ length xs → IsPrefixLen k xs
+prefix_len k xs h = (h, sym (length-take-le k xs h))
 
 -- ---- errors, from the bits that the code compares
 
@@ -48,18 +55,18 @@ unfolding found
 found_failed z e zero s some g h f = absurd (some refl)
 found_failed z e (suc room) s some g h f = rw (failed_is z g h, f)
 
-pub found_end : (z e : ℤ) (room k : ℕ) → (room ≡ 0 → ⊥) → (of_z w64 z ≡ minus_one → ⊥) → SFits w64 z → k ≡ clamped (to_z w64 (of_z w64 z)) room → k ≡ 0 → record
+pub found_end : (z e : ℤ) (room k : ℕ) → (room ≡ 0 → ⊥) → (of_z w64 z ≡ minus_one → ⊥) → SFits w64 z → k ≡ clamp_len (to_z w64 (of_z w64 z)) room → k ≡ 0 → record
     { count = 0; state = at_end } ≡ found z e room
 unfolding found by_count
 found_end z e zero k some h f c d = absurd (some refl)
-found_end z e (suc room) k some h f c d = rw (failed_other z h, sym (ap (λ (y : ℤ). clamped y (suc room)) (to_z-of_z f)) ∙ sym c ∙ d)
+found_end z e (suc room) k some h f c d = rw (failed_other z h, sym (ap (λ (y : ℤ). clamp_len y (suc room)) (to_z-of_z f)) ∙ sym c ∙ d)
 
-pub found_bytes : (z e : ℤ) (room k : ℕ) → (room ≡ 0 → ⊥) → (of_z w64 z ≡ minus_one → ⊥) → SFits w64 z → k ≡ clamped (to_z w64 (of_z w64 z)) room → (k ≡ 0 → ⊥) →
+pub found_bytes : (z e : ℤ) (room k : ℕ) → (room ≡ 0 → ⊥) → (of_z w64 z ≡ minus_one → ⊥) → SFits w64 z → k ≡ clamp_len (to_z w64 (of_z w64 z)) room → (k ≡ 0 → ⊥) →
     record { count = k; state = goes_on } ≡ found z e room
 unfolding found by_count
 found_bytes z e zero k some h f c d = absurd (some refl)
 found_bytes z e (suc room) zero some h f c d = absurd (d refl)
-found_bytes z e (suc room) (suc k) some h f c d = rw (failed_other z h, sym (ap (λ (y : ℤ). clamped y (suc room)) (to_z-of_z f)) ∙ sym c)
+found_bytes z e (suc room) (suc k) some h f c d = rw (failed_other z h, sym (ap (λ (y : ℤ). clamp_len y (suc room)) (to_z-of_z f)) ∙ sym c)
 
 by_none : (k : ℕ) → ((by_count k).state ≡ goes_on → ⊥) → (by_count k).count ≡ 0
 unfolding by_count
@@ -70,7 +77,7 @@ by_none (suc k) h = absurd (h refl)
 found_none : (z e : ℤ) (room : ℕ) → ((found z e room).state ≡ goes_on → ⊥) → (found z e room).count ≡ 0
 unfolding found
 found_none z e zero h = refl
-found_none z e (suc room) h = by (is_failed z) (clamped z (suc room)) h
+found_none z e (suc room) h = by (is_failed z) (clamp_len z (suc room)) h
   where
     by : (t : Bool) (k : ℕ) → ((cond t (record { count = 0; state = failure e }) (by_count k)).state ≡ goes_on → ⊥)
         → (cond t (record { count = 0; state = failure e }) (by_count k)).count ≡ 0
@@ -93,8 +100,8 @@ pub take_none : (k : ℕ) (xs : List ℕ) → k ≡ 0 → take k xs ≡ []
 take_none k xs h = ap (λ (j : ℕ). take j xs) h
 
 -- what counts bytes of a part counts bytes of the whole
-pub take_counts : (size k : ℕ) (xs : List ℕ) → k ≤ length (take size xs) → Counts k xs
-take_counts size k xs h = counts k xs (omega (arith, h, length-take size xs))
+pub take_counts : (size k : ℕ) (xs : List ℕ) → k ≤ length (take size xs) → IsPrefixLen k xs
+take_counts size k xs h = prefix_len k xs (omega (arith, h, length-take size xs))
 
 -- ---- a front
 

@@ -2,14 +2,15 @@
 --   writes-..      what is written and what waits
 --   chunk-..       the loop of `reading::take_chunk`
 --   read-..        the loop of `reading::read_turns`
-use Rattle.lists.{specs.Kit.{◌≡◌, refl, sym, ap, subst, ◌∙◌, ◌⊎◌, inl, inr, Bool, true, false, cond, true≢false, List, [], ◌∷◌, ◌++◌, append_assoc, append-nil}}
-use Rattle.lists.{specs.Kit.{ℕ, zero, suc, ◌+◌, ◌-◌, ◌*◌, ◌≤◌, ◌<◌, arith, add-one, ltb, eqb, length, take, drop, get_or, replicate, length-append}}
+use Rattle.std.specs.Prelude.{◌≡◌, ◌⊎◌, ◌∷◌, ◌++◌, ◌+◌, ◌-◌, ◌*◌, ◌≤◌, ◌<◌}
+use Rattle.lists.{specs.Kit.{refl, sym, ap, subst, ◌∙◌, inl, inr, Bool, true, false, cond, true≢false, List, [], append_assoc, append-nil}}
+use Rattle.lists.{specs.Kit.{ℕ, zero, suc, arith, add-one, ltb, eqb, length, take, drop, get_or, replicate, length-append}}
 use Rattle.lists.{specs.Kit.{length-replicate, length-take, take-suc, take_at, take_all, length-take-le, ltb-true, lt-ltb, le-ltb, ne_eqb}}
 use Rattle.lists.{proofs.Tests.{bool_cases, cond_false}, specs.Lists.{In}, proofs.Range.{length_range}}
 use Rattle.mesh.specs.{Limits.{max_radios, row_bytes}, Tables.{Tables, tables}}
 use Rattle.calls.{specs.Questions.{lengths_of, lent_refusal, tables_refusal}, specs.Outcomes.{Tabled, clear_outcome}, specs.CallContracts.{ClearContract}}
 use Rattle.calls.{proofs.ChainLaws.{lent_yes}, proofs.ContractLaws.{by_zero}}
-use Rattle.text.{specs.Print.{Buffer, buffer_at, put, Puts, max_place}, proofs.PrintLaws.{put_fits}}
+use Rattle.text.{specs.Print.{Buffer, buffer_at, Puts, max_place}, proofs.PrintLaws.{put_fits}}
 use Rattle.player.specs.{Reads.{goes_on, at_end, Found, Read, input_of, Going, Unbroken, ToEnd}, Lines.{Prints}, Machine.{Spot, spot, Marked, Takes}}
 use Rattle.player.specs.{Machine.{TakesAll, full, line_room, closing, ending}, Reading.{chunk_room, waiting, Writes, room_made, kept_fault, RoomMade}}
 use Rattle.player.specs.{Reading.{broken_off}}

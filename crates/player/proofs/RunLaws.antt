@@ -1,7 +1,8 @@
 -- The executable text is the one that `RunPrints` says.
---   run-met      `run_text` meets `RunPrints`
+--   run_met      `run_text` meets `RunPrints`
 --   run_only     and no other text does
-use Rattle.lists.specs.Kit.{◌≡◌, refl, sym, subst, Bool, true, false, List, [], ◌∷◌, ℕ, zero, suc, ◌+◌, replicate}
+use Rattle.std.specs.Prelude.{◌≡◌, ◌∷◌, ◌+◌}
+use Rattle.lists.specs.Kit.{refl, sym, subst, Bool, true, false, List, [], ℕ, zero, suc, replicate}
 use Rattle.mesh.specs.Tables.{Tables}
 use Rattle.calls.specs.{Outcomes.{link_outcome}, CallContracts.{LinkContract}, Runs.{answer_of}, Replay.{answer_line}}
 use Rattle.script.specs.{Lines.{line_of}, declared.lines.Line.{Line}, declared.lines.Line.TheVariants.{Radios, Up, Down, Bad}}

@@ -1,5 +1,6 @@
 -- How much a byte of the input and its end print at most, and how far the line's number goes.
-use Rattle.lists.{specs.Kit.{◌≡◌, refl, sym, ap, subst, inl, inr, Bool, true, false, List, [], ◌∷◌, map, ℕ, zero, suc, ◌+◌, ◌^◌, ◌≤◌, ◌<◌, arith, pos, nat_abs}}
+use Rattle.std.specs.Prelude.{◌≡◌, ◌∷◌, ◌+◌, ◌^◌, ◌≤◌, ◌<◌}
+use Rattle.lists.{specs.Kit.{refl, sym, ap, subst, inl, inr, Bool, true, false, List, [], map, ℕ, zero, suc, arith, pos, nat_abs}}
 use Rattle.lists.{specs.Kit.{length, take, length-append}, specs.Lists.{range, In}, proofs.Filter.{in_filter, filter_le}, proofs.Range.{length_range, range_in}}
 use Rattle.lists.{proofs.Overwrite.{take_overwrite}}
 use Rattle.mesh.specs.{Limits.{max_radios}, Graph.{Graph, radios}, Levels.{changed, step_of}, Sound.{sound}, Tables.{Tables, graph_in}}

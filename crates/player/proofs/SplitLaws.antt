@@ -1,5 +1,6 @@
 -- Lines of the input, and which of them can be link calls.
-use Rattle.lists.{specs.Kit.{◌≡◌, refl, sym, ap, subst, ◌∙◌, ◌⊎◌, inl, inr, true, false, true≢false, List, [], ◌∷◌, ◌++◌, ℕ, ◌^◌, ◌≤◌, ◌<◌, arith, eqb, length}}
+use Rattle.std.specs.Prelude.{◌≡◌, ◌⊎◌, ◌∷◌, ◌++◌, ◌^◌, ◌≤◌, ◌<◌}
+use Rattle.lists.{specs.Kit.{refl, sym, ap, subst, ◌∙◌, inl, inr, true, false, true≢false, List, [], ℕ, arith, eqb, length}}
 use Rattle.lists.{specs.Kit.{eq-eqb, ne_eqb, eqb-true, eqb-false}, proofs.Tests.{bool_cases}, specs.Lists.{In}, proofs.Member.{in_right}}
 use Rattle.text.specs.Text.{bytes_of, line_feed, decimal, further_fields, printed_line}
 use Rattle.script.{specs.Lines.{line_of, max_value}, specs.Texts.{text_of, Values}, specs.declared.lines.Line.{Line}}

@@ -1,5 +1,6 @@
 -- The status of a run: 0 only where all is read to its end and played.
-use Rattle.lists.specs.Kit.{◌≡◌, refl, sym, subst, ◌∙◌, true, false, true≢false, List, [], ◌∷◌, ℕ, zero, suc, ◌≤◌, ◌<◌, arith, ℤ, pos, negsuc, take, ltb-true}
+use Rattle.std.specs.Prelude.{◌≡◌, ◌∷◌, ◌≤◌, ◌<◌}
+use Rattle.lists.specs.Kit.{refl, sym, subst, ◌∙◌, true, false, true≢false, List, [], ℕ, zero, suc, arith, ℤ, pos, negsuc, take, ltb-true}
 use Rattle.lists.specs.Kit.{leb-false, lt-ltb}
 use lib.Signed.{lt_z, le_z, non_neg}
 use Rattle.text.specs.Print.{Buffer}
@@ -68,7 +69,7 @@ run_status r f first low some lines =
 
 -- ---- the keep
 
--- a descriptor, as `keeping::new` tests it
+-- a descriptor that is none, or above the program's own
 pub keep_none : (z : ℤ) → lt_z z (pos 0) ≡ true → is_keep z ≡ true
 keep_none (pos k) h = absurd (omega (arith, ltb-true k 0 h))
 keep_none (negsuc k) h = refl

@@ -1,5 +1,6 @@
 -- Whole inputs print exactly what is said of them: M1's, computed from its bytes to its text.
-use Rattle.lists.specs.{Kit.{◌≡◌, refl, subst, ◌∙◌, flat_map}, Lists.{overwrite}}
+use Rattle.std.specs.Prelude.{◌≡◌}
+use Rattle.lists.specs.{Kit.{refl, subst, ◌∙◌, flat_map}, Lists.{overwrite}}
 use Rattle.mesh.specs.{Graph.{neighbours_in}, Tables.{put_digit, put_bit, put_link, row_links, graph_in}}
 use Rattle.calls.{specs.Questions.{lengths_of, answer_length, site_refusal}, specs.Switches.{switched}, specs.Outcomes.{link_outcome}}
 use Rattle.calls.{specs.Runs.{answer_of}, specs.Replay.{bad_line, answer_line}, proofs.WorkedState.{compute}}
@@ -8,7 +9,6 @@ use Rattle.script.specs.Lines.{is_digit, digits_on, number_of, ended, last_numbe
 use Rattle.player.specs.{Play.{site_of, radios_of, glue, lines_of, front, rest, cleared}, Whole.{RunPrints}, RunText.{call_text, line_text, lines_text}}
 use Rattle.player.specs.{RunText.{text_from, run_text}, Texts.{Text, TextRight, m1, bad_third, no_first, texts, AllRight}}
 use Rattle.player.proofs.RunLaws.{run_met, run_only}
-use Rattle.calls.specs.Chains.{link_refusal}
 
 -- everything that link calls, lines and texts compute with
 unfoldable compute_calls : Unit {0}

@@ -1,8 +1,9 @@
 -- Bytes taken one by one print what the lines of the input say.
---   bytes-print    from any spot of a run that goes on
---   run-prints     a whole run: what `RunPrints` says of the input
---   run-bad        the run of an input whose first line names no site
-use Rattle.lists.{specs.Kit.{◌≡◌, refl, sym, ap, subst, ◌∙◌, Bool, true, false, List, [], ◌∷◌, ◌++◌, append_assoc, append-nil, ℕ, zero, suc, ◌+◌, ◌≤◌, ◌<◌}}
+--   bytes_print    from any spot of a run that goes on
+--   run_prints     a whole run: what `RunPrints` says of the input
+--   run_bad        the run of an input whose first line names no site
+use Rattle.std.specs.Prelude.{◌≡◌, ◌∷◌, ◌++◌, ◌+◌, ◌≤◌, ◌<◌}
+use Rattle.lists.{specs.Kit.{refl, sym, ap, subst, ◌∙◌, Bool, true, false, List, [], append_assoc, append-nil, ℕ, zero, suc}}
 use Rattle.lists.{specs.Kit.{arith, leb, eqb, length, length-append, leb-true, eqb-true, eqb-false}, proofs.Tests.{cond_false, cond_true}}
 use Rattle.mesh.specs.Tables.{Tables}
 use Rattle.text.specs.Text.{line_feed}

@@ -1,5 +1,6 @@
 -- How a program is started: each way through `words::descriptor` and `words::start_of`.
-use Rattle.lists.specs.{Kit.{◌≡◌, refl, ap, true, false, List, [], ◌∷◌, ℕ, ◌-◌, ◌≤◌, ◌<◌, arith, ℤ, pos, negsuc, length, get_or, lt-ltb, le-ltb}, Lists.{same}}
+use Rattle.std.specs.Prelude.{◌≡◌, ◌∷◌, ◌-◌, ◌≤◌, ◌<◌}
+use Rattle.lists.specs.{Kit.{refl, ap, true, false, List, [], ℕ, arith, ℤ, pos, negsuc, length, get_or, lt-ltb, le-ltb}, Lists.{same}}
 use Rattle.text.specs.Text.{bytes_of}
 use Rattle.player.specs.Words.{digit_of, descriptor_of, start_of}
 

@@ -10,5 +10,6 @@ pub mod Reading
 pub mod RunText
 pub mod Texts
 pub mod Words
--- The reads of a run.
+-- The reads of a run; lengths of fronts.
 pub mod Reads
+pub mod Counts

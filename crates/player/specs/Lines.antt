@@ -5,7 +5,8 @@
 --   Played n l         what the line l does: tables and answer table before, the text, both after
 --   Prints P b c       a text of which P holds is put into the printing buffer b, which is c after
 -- Definitions only.
-use Rattle.lists.specs.Kit.{◌≡◌, Bool, true, false, List, [], ℕ, take}
+use Rattle.std.specs.Prelude.{◌≡◌}
+use Rattle.lists.specs.Kit.{Bool, true, false, List, [], ℕ, take}
 use Rattle.mesh.specs.Tables.{Tables}
 use Rattle.calls.specs.{Replay.{link_line}, CallContracts.{LinkContract}, declared.Reply.{Reply}}
 use Rattle.text.specs.Print.{Buffer, Puts}

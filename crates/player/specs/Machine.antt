@@ -5,14 +5,14 @@
 --   Marked s           a run that is over has a fault
 --   Stopped, HeldOn, LineTaken, Ignored   the four things that a byte can do
 --   Takes m n byte p text q      a byte takes the spot p to q and prints the text; a line has room for m bytes
---   line-room          the bytes that a line has room for
+--   line_room          the bytes that a line has room for
 --   full               how many bytes wait when the printing buffer is to be written
---   longest, closing-longest   the longest text that a byte can print, and that the end of the input can
+--   longest, closing_longest   the longest text that a byte can print, and that the end of the input can
 --   TakesAll m n bytes p text q the same for bytes in turn
 --   ending p           what is printed at the end of the input
 -- What bytes and ending together print is said by lines in `Whole`. Definitions only.
-use Rattle.std.specs.Prelude.{◌≢◌}
-use Rattle.lists.specs.Kit.{◌≡◌, Bool, true, false, cond, List, [], ◌∷◌, ◌++◌, ℕ, ◌+◌, leb, eqb, length, take}
+use Rattle.std.specs.Prelude.{◌≢◌, ◌≡◌, ◌∷◌, ◌++◌, ◌+◌}
+use Rattle.lists.specs.Kit.{Bool, true, false, cond, List, [], ℕ, leb, eqb, length, take}
 use Rattle.mesh.specs.Tables.{Tables}
 use Rattle.text.specs.{Text.{line_feed}, Print.{buffer_at, Puts}}
 use Rattle.calls.specs.Replay.{bad_line, closing_lines}

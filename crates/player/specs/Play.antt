@@ -1,10 +1,11 @@
 -- Document 01, an input of the replay program: its lines, and the site that it starts with.
 --   lines_of input            the lines, each with its line feed; the last may have none
 --   front input, rest input   the first line, and what follows it
---   radios-of s               the radios of the site that a first line names, 0 where it is no first line
+--   radios_of s               the radios of the site that a first line names, 0 where it is no first line
 --   cleared n                 a cleared site
 -- Definitions only.
-use Rattle.lists.specs.{Kit.{cond, List, [], ◌∷◌, ℕ, ◌*◌, eqb, leb, replicate}, Lists.{range}}
+use Rattle.std.specs.Prelude.{◌∷◌, ◌*◌}
+use Rattle.lists.specs.{Kit.{cond, List, [], ℕ, eqb, leb, replicate}, Lists.{range}}
 use Rattle.mesh.specs.{Limits.{max_radios, row_bytes}, Tables.{Tables, tables}}
 use Rattle.text.specs.Text.{line_feed}
 use Rattle.script.specs.{Lines.{line_of}, declared.lines.Line.{Line}, declared.lines.Line.TheVariants.{Radios, Up, Down, Bad}}

@@ -1,11 +1,11 @@
 -- The bytes after the first line: read by chunks, taken, and written through the printing buffer.
---   chunk-room               the bytes that one read can bring
---   out-room                 the bytes of the printing buffer
+--   chunk_room               the bytes that one read can bring
+--   out_room                 the bytes of the printing buffer
 --   waiting b                what waits in the printing buffer
 --   Writes b text c          what waited in b and then the text: written, but for what waits in c
 --   lost                     the fault of answers that cannot be kept
---   room-made f s, kept-fault, RoomMade   the progress after a full buffer was written
---   broken-off f s           the progress after a read that failed
+--   room_made f s, kept_fault, RoomMade   the progress after a full buffer was written
+--   broken_off f s           the progress after a read that failed
 --   Ready k s out            the run has room for k bytes more
 --   SiteLent, SiteCleared  the tables before and after clearing
 --   SiteSized               the closing lines have at most as many fields as a site radios
@@ -17,11 +17,12 @@
 --   ReadsFirst              the first line
 --   PlayedToEnd, RunToEnd   the lines after the first, and a whole input, are read to their end and played
 --   Concluded, LinesStatus, RunStatus   the status: 0 only there
---   is-keep d                no keep, or one that is none of the program's own descriptors
+--   is_keep d                no keep, or one that is none of the program's own descriptors
 --   CopiesOnce, Copied      one read of the keep; all reads, to its end
 -- No contract can say what a read brings or a write takes: of both there are some bytes, `Read` and `written` below.
 -- Definitions only.
-use Rattle.lists.specs.Kit.{◌≡◌, Bool, true, false, cond, ℤ, pos, negsuc, List, ◌++◌, ℕ, zero, suc, ◌+◌, ◌*◌, ◌≤◌, ◌<◌, ltb, length, take, replicate, eqb}
+use Rattle.std.specs.Prelude.{◌≡◌, ◌++◌, ◌+◌, ◌*◌, ◌≤◌, ◌<◌}
+use Rattle.lists.specs.Kit.{Bool, true, false, cond, ℤ, pos, negsuc, List, ℕ, zero, suc, ltb, length, take, replicate, eqb}
 use Rattle.mesh.specs.{Limits.{max_radios, row_bytes}, Tables.{Tables}}
 use Rattle.text.specs.Print.{Buffer, buffer_at, max_place}
 use Rattle.player.specs.{Reads.{goes_on, at_end, Read, input_of, Going, Unbroken, ToEnd}, Play.{radios_of, cleared}, declared.first.First.{First}}

@@ -1,7 +1,7 @@
 -- The input of a run, read by read.
---   most-reads           the reads that a run has
+--   most_reads           the reads that a run has
 --   goes_on .. unread    what a read finds
---   unread-words s       why an input cannot be read, in words
+--   unread_words s       why an input cannot be read, in words
 --   failure e            what a read that failed found, by its error number
 --   found got e room     what a read brought that answered `got`, in a buffer of so many bytes
 --   Read                 a read of a run: the bytes that it brought, and what it found
@@ -11,9 +11,9 @@
 --   ToEnd rs            the input is read to its end: the last read is at the end, and none before it failed
 --   FillsOn, Fills      a buffer that a read goes on to fill; a front that reads filled
 -- No contract can say which bytes a read brings: of them `Read` has some. Definitions only.
-use Rattle.std.specs.Prelude.{◌≢◌}
-use Rattle.lists.specs.Kit.{◌≡◌, Bool, true, false, cond, List, [], ◌∷◌, ◌++◌, ℕ, zero, suc, ◌≤◌, eqb, ℤ, pos, negsuc}
-use Rattle.io.specs.Counts.{clamp_len}
+use Rattle.std.specs.Prelude.{◌≢◌, ◌≡◌, ◌∷◌, ◌++◌, ◌≤◌}
+use Rattle.lists.specs.Kit.{Bool, true, false, cond, List, [], ℕ, zero, suc, eqb, ℤ, pos, negsuc}
+use Rattle.player.specs.Counts.{clamp_len}
 use Rattle.text.specs.{Text.{bytes_of}, Print.{buffer_at, Puts}}
 use Rattle.player.specs.declared.input.Brought.{Brought}
 

@@ -1,9 +1,10 @@
 -- Document 01: what a run of the replay program prints, executable. The outcome of each link call is calls' `link_outcome`.
---   line-text l n k t w later    what a line prints, and then what later lines print on the tables that it leaves
---   lines-text n ls k t w        the lines from number k on, with the closing lines or `bad L`
---   run-text input               a whole run
+--   line_text l n k t w later    what a line prints, and then what later lines print on the tables that it leaves
+--   lines_text n ls k t w        the lines from number k on, with the closing lines or `bad L`
+--   run_text input               a whole run
 -- That it is what `RunPrints` says of the input, and all that it says, is proved in proofs/RunLaws.antt. Definitions only.
-use Rattle.lists.specs.Kit.{true, false, List, [], ◌∷◌, ◌++◌, ℕ, zero, suc, ◌+◌, replicate}
+use Rattle.std.specs.Prelude.{◌∷◌, ◌++◌, ◌+◌}
+use Rattle.lists.specs.Kit.{true, false, List, [], ℕ, zero, suc, replicate}
 use Rattle.mesh.specs.Tables.{Tables}
 use Rattle.calls.specs.{Outcomes.{Linked, link_outcome}, Runs.{answer_of}, Replay.{closing_lines, bad_line, answer_line}, declared.Reply.{Reply}}
 use Rattle.script.specs.{Lines.{line_of}, declared.lines.Line.{Line}, declared.lines.Line.TheVariants.{Radios, Up, Down, Bad}}

@@ -1,6 +1,7 @@
 -- Whole inputs of the replay program with what they print. That each prints exactly this is `texts_right` in proofs/Texts.antt.
 -- Definitions only.
-use Rattle.lists.specs.Kit.{◌≡◌, List, [], ◌∷◌, flat_map, ℕ}
+use Rattle.std.specs.Prelude.{◌≡◌, ◌∷◌}
+use Rattle.lists.specs.Kit.{List, [], flat_map, ℕ}
 use Prim.Native.String.{String}
 use Rattle.text.specs.Text.{bytes_of}
 use Rattle.player.specs.Whole.{RunPrints}

@@ -3,7 +3,8 @@
 --   start n            where the run stands after the first line
 --   RunPrints input   what a whole run prints
 -- That the bytes taken one by one print exactly this is proved in proofs/WholeLaws.antt. Definitions only.
-use Rattle.lists.specs.Kit.{◌≡◌, Bool, true, false, List, [], ◌∷◌, ◌++◌, ℕ, zero, suc, ◌+◌, replicate}
+use Rattle.std.specs.Prelude.{◌≡◌, ◌∷◌, ◌++◌, ◌+◌}
+use Rattle.lists.specs.Kit.{Bool, true, false, List, [], ℕ, zero, suc, replicate}
 use Rattle.mesh.specs.Tables.{Tables}
 use Rattle.calls.specs.Replay.{bad_line, closing_lines}
 use Rattle.script.specs.Lines.{line_of}

@@ -1,17 +1,19 @@
 -- How a program is started: with `--status D` before its words it writes its status to descriptor D.
---   standard-ends           a program's own input, output and errors
---   longest-word            the bytes of the longest words that mean something to a program
---   digit-of b              the number of a digit; -1 where the byte is none
---   descriptor-of word      the descriptor of a word of one digit; -1 for any other
+--   standard_ends           a program's own input, output and errors
+--   longest_word            the bytes of the longest words that mean something to a program
+--   digit_of b              the number of a digit; -1 where the byte is none
+--   descriptor_of word      the descriptor of a word of one digit; -1 for any other
 --   start_of first second   where the program's own words begin, and where its status goes
 -- Definitions only.
-use Rattle.lists.specs.{Kit.{cond, List, [], ◌∷◌, ℕ, ◌-◌, ltb, ℤ, pos, negsuc}, Lists.{same}}
+use Rattle.std.specs.Prelude.{◌∷◌, ◌-◌}
+use Rattle.lists.specs.{Kit.{cond, List, [], ℕ, ltb, ℤ, pos, negsuc}, Lists.{same}}
 use Rattle.text.specs.Text.{bytes_of}
 use Rattle.player.specs.{declared.words.Start.{Start}, declared.input.Ends.{Ends}}
+use Rattle.std.specs.declared.rt.{Stdin.{Stdin}, Stdout.{Stdout}, Stderr.{Stderr}}
 
--- POSIX: 0, 1 and 2
-abbrev pub standard_ends : Ends
-standard_ends = record { input = pos 0; output = pos 1; errors = pos 2 }
+-- the system's own three
+abbrev pub standard_ends : Ends Stdin Stdout Stderr
+standard_ends = record { input = record { seal = tt }; output = record { seal = tt }; errors = record { seal = tt } }
 
 -- `staircase` and `--version`
 abbrev pub longest_word : ℕ

@@ -1,11 +1,12 @@
-// What goes wrong in a run, as one line on the error descriptor: the program's name, and what in words.
-ghost use Rattle.lists.specs.Kit.{◌++◌, ◌≤◌};
+// What goes wrong in a run, as one line on the error output: the program's name, and what in words.
+ghost use Rattle.std.specs.Prelude.{◌++◌, ◌≤◌};
 ghost use Rattle.text.specs.Text.{bytes_of};
 ghost use Rattle.text.specs.Print.{buffer_at, Puts};
 ghost use Rattle.player.specs.Reads.{unread_words};
 
 use super::input;
 use super::input::Ends;
+use std::io::Write;
 
 // Longer than any line.
 const LINE_BYTES: usize = 256;
@@ -41,26 +42,26 @@ fn put_line(out: &mut [u8], program: &[u8], words: &[u8]) -> usize
 }
 
 // Says what goes wrong.
-pub fn say(errors: i32, program: &[u8], words: &[u8]) {
+pub fn say<E: Write>(errors: &mut E, program: &[u8], words: &[u8]) {
     let mut out = [0u8; LINE_BYTES];
     let end = put_line(&mut out, program, words);
     let count = input::within(end, &out);
-    io::write_all(errors, &out[..count]);
+    let _ = errors.write_all(&out[..count]);
 }
 
 // Prints a text: the status, which is 1 where the text cannot be written, and that is said.
-pub fn print(ends: Ends, program: &[u8], text: &[u8]) -> u32
+pub fn print<I, O: Write, E: Write>(ends: &mut Ends<I, O, E>, program: &[u8], text: &[u8]) -> u32
     ensures { result ≤ 1 }
 {
-    if io::write_all(ends.output, text) {
+    if ends.output.write_all(text).is_ok() {
         return 0;
     }
-    say(ends.errors, program, b"the output cannot be written");
+    say(&mut ends.errors, program, b"the output cannot be written");
     1
 }
 
 // Says why the input cannot be read.
-pub fn say_unread(errors: i32, program: &[u8], state: u32) {
+pub fn say_unread<E: Write>(errors: &mut E, program: &[u8], state: u32) {
     let mut words = [0u8; LINE_BYTES];
     let end = put_unread(&mut words, 0, state);
     let count = input::within(end, &words);

@@ -1,56 +1,126 @@
 // The keep: a file without a name, in which answers wait until the input is read to its end. A short run needs none.
-ghost use Rattle.lists.specs.Kit.{◌≡◌, true};
-ghost use Rattle.std.specs.Int.Signed.{non_neg};
+ghost use Rattle.std.specs.Prelude.{IfSome, IsSome, ◌≡◌};
+ghost use Rattle.std.specs.Fd.{file_raw_fd};
+ghost use Rattle.lists.specs.Kit.{true};
 ghost use Rattle.player.specs.Reading.{is_keep, CopiesOnce, Copied};
 
 use super::input;
+use std::fs::{File, OpenOptions};
+use std::io::{ErrorKind, Read, Seek, SeekFrom, Write};
+use std::os::fd::{AsRawFd, RawFd};
+use std::os::unix::fs::OpenOptionsExt;
+use std::random::RandomSource;
+use std::rt::Files;
+use std::{fs, io};
 
 // The largest descriptor of a program's own input, output and errors.
 const OWN: i32 = 2;
 
-// A new keep, whose file has this name, with other letters for XXXXXX, until it is open; negative where there is none.
-pub fn new(name: &mut [u8]) -> i32
-    ensures { is_keep result ≡ true }
+// What stands for the letters of a name.
+const LETTERS: usize = 6;
+
+// How many names are tried.
+const NAMES: u32 = 1000;
+
+// A letter or a digit, by the low bits of a byte.
+fn letter(byte: u8) -> u8 {
+    let low = byte & 31;
+    if low < 26 {
+        b'a' + low
+    } else {
+        b'2' + (low - 26)
+    }
+}
+
+// Puts letters by random bytes.
+fn put_letters<R: RandomSource>(source: &R, letters: &mut [u8]) -> io::Result<()> {
+    source.fill_bytes(letters)?;
+    for byte in letters.iter_mut() {
+        *byte = letter(*byte);
+    }
+    Ok(())
+}
+
+// A new file of this name, for its owner alone, which has the name no longer once it is open.
+fn open<R: Files<File = File>>(files: &R, path: &str) -> io::Result<File> {
+    let file = OpenOptions::new()
+        .read(true)
+        .write(true)
+        .create_new(true)
+        .mode(0o600)
+        .open(files, path)?;
+    let _ = fs::remove_file(files, path);
+    Ok(file)
+}
+
+// Whether a descriptor is none of the program's own.
+pub fn is_keep(descriptor: RawFd) -> bool
+    ensures { result ≡ is_keep descriptor }
 {
-    let fd = os::create_temp(name);
-    if fd < 0 {
-        return fd;
+    if descriptor < 0 {
+        return true;
     }
-    os::unlink(name);
-    if fd <= OWN {
-        libc::close(fd);
-        return -1;
+    OWN < descriptor
+}
+
+// The file, where it is none of the program's own descriptors.
+pub fn kept<F: AsRawFd + Drop>(file: F) -> Option<F>
+    ensures { IfSome result (λ f. IfSome (F.raw_fd f) (λ d. is_keep d ≡ true)) }
+{
+    if is_keep(file.as_raw_fd()) {
+        return Some(file);
     }
-    fd
+    None
+}
+
+// A new keep, whose file has this name, with other letters for XXXXXX, until it is open; none where there is none.
+pub fn new<R: Files<File = File> + RandomSource>(rt: &R, name: &mut [u8]) -> Option<File>
+    ensures { IfSome result (λ f. is_keep (file_raw_fd f) ≡ true) }
+{
+    if !name.ends_with(b"XXXXXX") {
+        return None;
+    }
+    let from = name.len() - LETTERS;
+    for _ in 0..NAMES {
+        put_letters(rt, &mut name[from..]).ok()?;
+        match open(rt, std::str::from_utf8(name).ok()?) {
+            Ok(file) => return kept(file),
+            Err(e) if e.kind() == ErrorKind::AlreadyExists => {}
+            Err(_) => return None,
+        }
+    }
+    None
 }
 
 // One read of the keep, written: what it found.
-fn copy_on(keep: i32, output: i32) -> u32
+fn copy_on<O: Write>(keep: &File, output: &mut O) -> u32
     ensures { CopiesOnce result }
 {
-    let mut chunk = io::large_buffer();
-    let got = input::read(keep, usize::MAX, &mut chunk);
+    let mut chunk = [0u8; 65536];
+    let mut from = keep;
+    let got = input::read(&mut from, usize::MAX, &mut chunk);
     let count = got.count;
-    if !io::write_all(output, &chunk[..count]) {
+    if output.write_all(&chunk[..count]).is_err() {
         return input::UNREAD;
     }
     got.state
 }
 
 // Writes all that the keep has: whether it was read and taken to its end. Where there is no keep, nothing was put into it.
-pub fn copy(keep: i32, output: i32) -> bool
-    ensures { result ≡ true → non_neg keep ≡ true → Copied }
+pub fn copy<O: Write>(keep: Option<&File>, output: &mut O) -> bool
+    ensures { result ≡ true → IsSome keep.entry → Copied }
 {
-    if keep < 0 {
+    let Some(file) = keep else {
         return true;
-    }
-    if libc::lseek(keep, 0, libc::SEEK_SET) != 0 {
+    };
+    let mut start = file;
+    if start.seek(SeekFrom::Start(0)).is_err() {
         return false;
     }
     let mut left = input::most();
     while left > 0 {
         left -= 1;
-        let state = copy_on(keep, output);
+        let state = copy_on(file, output);
         if state != input::GOES_ON {
             return state == input::END;
         }

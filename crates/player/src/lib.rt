@@ -1,7 +1,9 @@
-// The replay program as a library: reads a descriptor to its end, plays its lines on a site of its own, and then prints what each
-// line says. A line of another form ends the run with `bad L`. What cannot be read, kept or written is one line on the error descriptor. The
+// The replay program as a library: reads its input to its end, plays its lines on a site of its own, and then prints what each
+// line says. A line of another form ends the run with `bad L`. What cannot be read, kept or written is one line on the error output. The
 // status is 0 where all was read, played and written, and else 1.
-ghost use Rattle.lists.specs.Kit.{◌≤◌, ◌<◌};
+#![tactic(auto)]
+
+ghost use Rattle.std.specs.Prelude.{◌≤◌, ◌<◌};
 ghost use Rattle.mesh.specs.Limits.{max_radios};
 ghost use Rattle.mesh.specs.Tables.{tables};
 ghost use Rattle.player.specs.Reading.{SiteLent, LinesStatus, RunStatus};
@@ -18,14 +20,18 @@ pub mod words;
 pub use first::radios_of;
 use input::Ends;
 use mesh::Site;
+use std::env::Env;
+use std::fs::{File, Files};
+use std::io::{Read, Write};
+use std::random::RandomSource;
 
 // The bytes of a site's largest links table.
 const LINKS_BYTES: usize = Site::ROW_BYTES * Site::RADIOS as usize;
 
 // Clears the site and plays the lines after the first on it.
-fn play_site(
-    ends: Ends,
-    keep: i32,
+fn play_site<I: Read, O: Write, E: Write>(
+    ends: &mut Ends<I, O, E>,
+    keep: Option<&File>,
     most: usize,
     n: u32,
     links: &mut [u8],
@@ -41,7 +47,12 @@ fn play_site(
 }
 
 // Plays the lines after the first on a site of n radios, whose tables are parts of the largest ones.
-fn run_site(ends: Ends, keep: i32, most: usize, n: u32) -> u32
+fn run_site<I: Read, O: Write, E: Write>(
+    ends: &mut Ends<I, O, E>,
+    keep: Option<&File>,
+    most: usize,
+    n: u32,
+) -> u32
     requires some { 0 < n }
     requires few { n ≤ max_radios }
     ensures { LinesStatus n result }
@@ -66,10 +77,14 @@ fn run_site(ends: Ends, keep: i32, most: usize, n: u32) -> u32
 
 // Plays what the input holds, to its end: the status. After the first line each read asks for at most `most` bytes; long answers wait in
 // the keep.
-pub fn run_kept(ends: Ends, keep: i32, most: usize) -> u32
+pub fn run_kept<I: Read, O: Write, E: Write>(
+    ends: &mut Ends<I, O, E>,
+    keep: Option<&File>,
+    most: usize,
+) -> u32
     ensures { RunStatus result }
 {
-    let first = first::read_first(ends.input);
+    let first = first::read_first(&mut ends.input);
     if input::END < first.state {
         return reading::unread(ends, first.state);
     }
@@ -80,22 +95,32 @@ pub fn run_kept(ends: Ends, keep: i32, most: usize) -> u32
 }
 
 // The same with a keep of its own.
-pub fn run(ends: Ends, most: usize) -> u32
+pub fn run<R: Files<File = File> + RandomSource, I: Read, O: Write, E: Write>(
+    rt: &R,
+    ends: &mut Ends<I, O, E>,
+    most: usize,
+) -> u32
     ensures { RunStatus result }
 {
     let mut name = *b"/tmp/replay-XXXXXX";
-    let keep = keeping::new(&mut name);
-    let status = run_kept(ends, keep, most);
-    libc::close(keep);
-    status
+    let keep = keeping::new(rt, &mut name);
+    run_kept(ends, keep.as_ref(), most)
 }
 
-// Runs the program with the words and descriptors that it is started with, and tells its status.
-pub fn start() {
-    let started = words::started();
+// Runs the program with the words that it is started with on these ends, and tells its status.
+pub fn start_on<R: Env + Files<File = File> + RandomSource, I: Read, O: Write, E: Write>(
+    rt: &R,
+    ends: &mut Ends<I, O, E>,
+) {
+    let started = words::started(rt);
     let mut word = [0u8; words::WORD_BYTES];
-    let bytes = words::word_at(started.at, &mut word);
-    let count = std::num::wrapping_sub_usize(os::arg_count(), started.at);
-    let status = words::run_words(input::standard(), count, &word[..bytes]);
-    words::tell(started.told, status);
+    let bytes = words::word_at(rt, started.at, &mut word);
+    let count = words::count(rt).wrapping_sub(started.at);
+    let status = words::run_words(rt, ends, count, &word[..bytes]);
+    words::tell(rt, ends, started.told, status);
+}
+
+// The same on the program's own input, output and errors.
+pub fn start(rt: &HostRuntime) {
+    start_on(rt, &mut input::standard(rt));
 }

@@ -1,6 +1,7 @@
 // The lines after the first, taken byte by byte from what was read: held to their line feeds, played, and printed into a buffer.
 // Nothing is read or written here.
-ghost use Rattle.lists.specs.Kit.{◌≡◌, false, cond, ◌<◌, min, eqb, length, take};
+ghost use Rattle.std.specs.Prelude.{◌≡◌, ◌<◌};
+ghost use Rattle.lists.specs.Kit.{false, cond, min, eqb, length, take};
 ghost use Rattle.mesh.specs.Lent.{lent};
 ghost use Rattle.text.specs.Print.{buffer_at, Puts, max_place};
 ghost use Rattle.player.specs.Lines.{Prints};
@@ -15,7 +16,7 @@ pub const FULL: usize = 4096;
 
 // Where the run stands: the number of the line being read, how many of its bytes are held, how many bytes of the printing buffer
 // wait to be written, whether the run goes on, and what is wrong with it: nothing, what a failed read found, or one of the faults below.
-#[derive(Drop)]
+#[derive(Clone, Copy)]
 pub struct Progress {
     pub number: u64,
     pub held: usize,
@@ -69,8 +70,8 @@ pub(crate) fn take_byte(
     requires { s.number < max_place }
     ensures marked { Marked s → Marked result }
     ensures taken { Prints (λ text. Takes (length line.old) n byte
-        (spot (lent links.entry numbers.entry order.entry) answer.old line.old s) text
-        (spot (lent links.exit numbers.exit order.exit) answer.new line.new result))
+        (spot (lent links.old numbers.old order.old) answer.old line.old s) text
+        (spot (lent links.new numbers.new order.new) answer.new line.new result))
         (buffer_at out.old s.at) (buffer_at out.new result.at) }
 {
     if !s.live {

@@ -1,5 +1,5 @@
 // One line after the first, played on the site's tables.
-ghost use Rattle.lists.specs.Kit.{◌≡◌};
+ghost use Rattle.std.specs.Prelude.{◌≡◌};
 ghost use Rattle.script.specs.Lines.{line_of};
 ghost use Rattle.mesh.specs.Lent.{lent};
 ghost use Rattle.text.specs.Print.{buffer_at};
@@ -9,7 +9,7 @@ use script::lines::Line;
 use script::printing;
 
 // Whether the line was a link call, and the place after what it printed.
-#[derive(Drop)]
+#[derive(Clone, Copy)]
 pub struct Done {
     pub ok: bool,
     pub at: usize,
@@ -29,8 +29,8 @@ fn play_call(
     at: usize,
 ) -> usize
     ensures { Prints (λ text. Called up n a b
-        (lent links.entry numbers.entry order.entry) answer.old text
-        (lent links.exit numbers.exit order.exit) answer.new)
+        (lent links.old numbers.old order.old) answer.old text
+        (lent links.new numbers.new order.new) answer.new)
         (buffer_at out.old at) (buffer_at out.new result) }
 {
     let reply = links::link::link(up, n, a, b, links, numbers, order, answer);
@@ -50,8 +50,8 @@ pub fn play_line(
 ) -> Done
     ensures call { result.ok ≡ is_call (line_of line.now) }
     ensures played { Prints (λ text. Played n (line_of line.now)
-        (lent links.entry numbers.entry order.entry) answer.old text
-        (lent links.exit numbers.exit order.exit) answer.new)
+        (lent links.old numbers.old order.old) answer.old text
+        (lent links.new numbers.new order.new) answer.new)
         (buffer_at out.old at) (buffer_at out.new result.at) }
 {
     match script::lines::parse(line) {

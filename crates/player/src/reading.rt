@@ -1,7 +1,8 @@
 // The lines after the first: read by chunks, taken, and kept until the end of the input through a buffer. A contract that cites `Reading`
 // says what is taken from the bytes that a read brought, and what of it was handed to a write; that reads and writes hand them on is
 // executed.
-ghost use Rattle.lists.specs.Kit.{◌≡◌, true, ◌≤◌, ◌<◌, length};
+ghost use Rattle.std.specs.Prelude.{◌≡◌, ◌≤◌, ◌<◌};
+ghost use Rattle.lists.specs.Kit.{true, length};
 ghost use Rattle.mesh.specs.Tables.{tables};
 ghost use Rattle.mesh.specs.Lent.{lent};
 ghost use Rattle.text.specs.Print.{buffer_at};
@@ -13,6 +14,8 @@ use super::input::Ends;
 use super::machine::Progress;
 use super::{faults, input, keeping, machine};
 use script::printing;
+use std::fs::File;
+use std::io::{Read, Write};
 
 // The program, as its error lines name it.
 const PROGRAM: [u8; 6] = *b"replay";
@@ -24,9 +27,18 @@ const LINE_BYTES: usize = 17;
 const OUT_BYTES: usize = 16384;
 
 // Writes what waits in the printing buffer: whether all of it was taken.
-fn flush(fd: i32, out: &[u8], at: usize) -> bool {
+fn flush<W: Write>(to: &mut W, out: &[u8], at: usize) -> bool {
     let count = input::within(at, out);
-    io::write_all(fd, &out[..count])
+    to.write_all(&out[..count]).is_ok()
+}
+
+// The same into the keep, where there is one.
+fn flush_kept(keep: Option<&File>, out: &[u8], at: usize) -> bool {
+    let Some(file) = keep else {
+        return false;
+    };
+    let mut to = file;
+    flush(&mut to, out, at)
 }
 
 // What is wrong after a full buffer was kept, or was not.
@@ -40,13 +52,13 @@ fn kept_fault(kept: bool, fault: u32) -> u32
 }
 
 // Puts what waits into the keep, where the buffer is full.
-fn make_room(keep: i32, s: Progress, out: &[u8]) -> Progress
+fn make_room(keep: Option<&File>, s: Progress, out: &[u8]) -> Progress
     ensures { RoomMade s result }
 {
     if s.at < machine::FULL {
         return s;
     }
-    let kept = flush(keep, out, s.at);
+    let kept = flush_kept(keep, out, s.at);
     Progress {
         number: s.number,
         held: s.held,
@@ -58,7 +70,7 @@ fn make_room(keep: i32, s: Progress, out: &[u8]) -> Progress
 
 // All bytes of a chunk.
 fn take_chunk(
-    keep: i32,
+    keep: Option<&File>,
     s: Progress,
     chunk: &[u8],
     n: u32,
@@ -73,9 +85,9 @@ fn take_chunk(
     ensures room { result.at < full }
     ensures marked { Marked s → Marked result }
     ensures taken { TakesChunk (length line.old) n chunk.now
-        (spot (lent links.entry numbers.entry order.entry) answer.old line.old s)
+        (spot (lent links.old numbers.old order.old) answer.old line.old s)
         (buffer_at out.old s.at)
-        (spot (lent links.exit numbers.exit order.exit) answer.new line.new result)
+        (spot (lent links.new numbers.new order.new) answer.new line.new result)
         (buffer_at out.new result.at) }
 {
     let mut s = s;
@@ -105,7 +117,7 @@ fn broken(s: Progress, state: u32) -> Progress
 
 // What a read brought, by what it found.
 fn take_read(
-    keep: i32,
+    keep: Option<&File>,
     s: Progress,
     state: u32,
     chunk: &[u8],
@@ -123,9 +135,9 @@ fn take_read(
     ensures room { result.live ≡ true → result.at < full }
     ensures found { FoundBy state result }
     ensures taken { TakesRead (length line.old) n chunk.now state
-        (spot (lent links.entry numbers.entry order.entry) answer.old line.old s)
+        (spot (lent links.old numbers.old order.old) answer.old line.old s)
         (buffer_at out.old s.at)
-        (spot (lent links.exit numbers.exit order.exit) answer.new line.new result)
+        (spot (lent links.new numbers.new order.new) answer.new line.new result)
         (buffer_at out.new result.at) }
 {
     if state == input::END {
@@ -138,9 +150,9 @@ fn take_read(
 }
 
 // One read, and what it brings.
-fn turn(
-    fd: i32,
-    keep: i32,
+fn turn<I: Read>(
+    input: &mut I,
+    keep: Option<&File>,
     most: usize,
     s: Progress,
     n: u32,
@@ -156,13 +168,13 @@ fn turn(
     requires sized { SiteSized numbers.old order.old }
     ensures room { result.live ≡ true → result.at < full }
     ensures read { ReadsOnce (length line.old) n result
-        (spot (lent links.entry numbers.entry order.entry) answer.old line.old s)
+        (spot (lent links.old numbers.old order.old) answer.old line.old s)
         (buffer_at out.old s.at)
-        (spot (lent links.exit numbers.exit order.exit) answer.new line.new result)
+        (spot (lent links.new numbers.new order.new) answer.new line.new result)
         (buffer_at out.new result.at) }
 {
-    let mut chunk = io::buffer();
-    let got = input::read(fd, most, &mut chunk);
+    let mut chunk = [0u8; input::CHUNK_BYTES];
+    let got = input::read(input, most, &mut chunk);
     let count = got.count;
     take_read(
         keep,
@@ -181,9 +193,9 @@ fn turn(
 
 // Reads to the end of the input. A line has its room, and a full printing buffer has room for the longest text. The loop counts its
 // reads down, from a number that no run uses up; a run that still goes on then is not read to its end.
-fn read_turns(
-    fd: i32,
-    keep: i32,
+fn read_turns<I: Read>(
+    input: &mut I,
+    keep: Option<&File>,
     most: usize,
     n: u32,
     line: &mut [u8],
@@ -215,21 +227,26 @@ fn read_turns(
         }
         left -= 1;
         s = turn(
-            fd, keep, most, s, n, line, links, numbers, order, answer, out,
+            input, keep, most, s, n, line, links, numbers, order, answer, out,
         );
     }
     s
 }
 
 // Writes what was kept, and what waits behind it: the status.
-fn print(ends: Ends, keep: i32, out: &[u8], s: Progress) -> u32
+fn print<I, O: Write, E: Write>(
+    ends: &mut Ends<I, O, E>,
+    keep: Option<&File>,
+    out: &[u8],
+    s: Progress,
+) -> u32
     ensures few { result ≤ 1 }
     ensures right { result ≡ 0 → s.fault ≡ 0 }
 {
-    if !keeping::copy(keep, ends.output) {
+    if !keeping::copy(keep, &mut ends.output) {
         return wrong(ends, b"the output cannot be written");
     }
-    if !flush(ends.output, out, s.at) {
+    if !flush(&mut ends.output, out, s.at) {
         return wrong(ends, b"the output cannot be written");
     }
     if s.fault != 0 {
@@ -239,23 +256,28 @@ fn print(ends: Ends, keep: i32, out: &[u8], s: Progress) -> u32
 }
 
 // Says what goes wrong: the status.
-fn wrong(ends: Ends, words: &[u8]) -> u32
+fn wrong<I, O, E: Write>(ends: &mut Ends<I, O, E>, words: &[u8]) -> u32
     ensures { result ≡ 1 }
 {
-    faults::say(ends.errors, &PROGRAM, words);
+    faults::say(&mut ends.errors, &PROGRAM, words);
     1
 }
 
 // Says that the input was not read to its end: the status.
-pub(crate) fn unread(ends: Ends, state: u32) -> u32
+pub(crate) fn unread<I, O, E: Write>(ends: &mut Ends<I, O, E>, state: u32) -> u32
     ensures { result ≡ 1 }
 {
-    faults::say_unread(ends.errors, &PROGRAM, state);
+    faults::say_unread(&mut ends.errors, &PROGRAM, state);
     1
 }
 
 // The end of a run: nothing is printed where a read failed, or where an answer was not kept.
-fn conclude(ends: Ends, keep: i32, out: &[u8], s: Progress) -> u32
+fn conclude<I, O: Write, E: Write>(
+    ends: &mut Ends<I, O, E>,
+    keep: Option<&File>,
+    out: &[u8],
+    s: Progress,
+) -> u32
     ensures { Concluded s result }
 {
     if s.fault == machine::LOST {
@@ -271,9 +293,9 @@ fn conclude(ends: Ends, keep: i32, out: &[u8], s: Progress) -> u32
 }
 
 // Plays all lines from the second on, and prints: the status.
-pub(crate) fn read_all(
-    ends: Ends,
-    keep: i32,
+pub(crate) fn read_all<I: Read, O: Write, E: Write>(
+    ends: &mut Ends<I, O, E>,
+    keep: Option<&File>,
     most: usize,
     n: u32,
     links: &mut [u8],
@@ -287,13 +309,22 @@ pub(crate) fn read_all(
     let mut line = [0u8; LINE_BYTES];
     let mut out = [0u8; OUT_BYTES];
     let s = read_turns(
-        ends.input, keep, most, n, &mut line, links, numbers, order, answer, &mut out,
+        &mut ends.input,
+        keep,
+        most,
+        n,
+        &mut line,
+        links,
+        numbers,
+        order,
+        answer,
+        &mut out,
     );
     conclude(ends, keep, &out, s)
 }
 
 // Prints that line 1 is missing or of another form: the status.
-pub(crate) fn print_bad(ends: Ends) -> u32
+pub(crate) fn print_bad<I, O: Write, E: Write>(ends: &mut Ends<I, O, E>) -> u32
     ensures { result ≡ 1 }
 {
     let mut out = [0u8; 32];

@@ -1,4 +1,6 @@
 // The replay program: plays standard input.
-fn main() {
-    player::start();
+#![tactic(auto)]
+
+fn main(rt: HostRuntime) {
+    player::start(&rt);
 }

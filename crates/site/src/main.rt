@@ -1,4 +1,6 @@
 // The program `site`: prints what a verb says of the site on standard input.
-fn main() {
-    site_program::start();
+#![tactic(auto)]
+
+fn main(rt: HostRuntime) {
+    site_program::start(&rt);
 }

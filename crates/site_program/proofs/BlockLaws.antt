@@ -1,5 +1,6 @@
 -- The first bad block: all before it are good.
-use Rattle.lists.{specs.Kit.{◌≡◌, sym, subst, ◌⊎◌, inl, inr, true, false, List, ℕ, ◌+◌, ◌/◌, ◌<◌, arith, length}, proofs.Tests.{trichotomy}}
+use Rattle.std.specs.Prelude.{◌≡◌, ◌⊎◌, ◌+◌, ◌/◌, ◌<◌}
+use Rattle.lists.{specs.Kit.{sym, subst, inl, inr, true, false, List, ℕ, arith, length}, proofs.Tests.{trichotomy}}
 use Rattle.mesh.specs.Image.{block_bytes, block_check}
 use Rattle.site_program.specs.Blocks.{FirstBad}
 

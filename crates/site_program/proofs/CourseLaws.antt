@@ -1,5 +1,6 @@
 -- Each way through the code is one thing that a byte, a line or a read does.
-use Rattle.lists.specs.Kit.{◌≡◌, refl, sym, ap, subst, ◌∙◌, Bool, true, false, cond, inl, inr, List, [], ◌∷◌, ◌++◌, ℕ, suc, ◌+◌, ◌-◌, ◌≤◌, ◌<◌, arith, add-one}
+use Rattle.std.specs.Prelude.{◌≡◌, ◌∷◌, ◌++◌, ◌+◌, ◌-◌, ◌≤◌, ◌<◌}
+use Rattle.lists.specs.Kit.{refl, sym, ap, subst, ◌∙◌, Bool, true, false, cond, inl, inr, List, [], ℕ, suc, arith, add-one}
 use Rattle.lists.specs.Kit.{eqb, length, take, drop, set, get_or, replicate, length-take, length-drop, drop_of_length-le, take-suc-set, drop-cons, take_all}
 use Rattle.lists.specs.Kit.{eq-eqb, ne_eqb, le-leb, lt-leb, lt-ltb, le-ltb}
 use Rattle.mesh.specs.{Limits.{max_radios}, Tables.{Tables}}

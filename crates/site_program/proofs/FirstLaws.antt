@@ -1,5 +1,6 @@
 -- The first line: where its end is found, byte by byte.
-use Rattle.lists.specs.Kit.{◌≡◌, refl, sym, ap, ◌∙◌, cond, List, [], ◌∷◌, ℕ, zero, suc, ◌+◌, ◌-◌, ◌≤◌, ◌<◌, arith, add-one, eqb, length, take, drop, get_or}
+use Rattle.std.specs.Prelude.{◌≡◌, ◌∷◌, ◌+◌, ◌-◌, ◌≤◌, ◌<◌}
+use Rattle.lists.specs.Kit.{refl, sym, ap, ◌∙◌, cond, List, [], ℕ, zero, suc, arith, add-one, eqb, length, take, drop, get_or}
 use Rattle.lists.specs.Kit.{drop_of_length-le, drop-cons, eq-eqb, ne_eqb, lt-ltb, le-ltb}
 use Rattle.text.specs.Text.{line_feed}
 use Rattle.site_program.specs.{Errors.{form, no_feed}, Course.{further, first_end, first_room, named_radios, line_room, form_of, first_fault}}

@@ -1,5 +1,6 @@
 -- The numbers after a verb: a law for each way through `arguments::given`.
-use Rattle.lists.specs.Kit.{◌≡◌, refl, true, false, cond, List, [], ◌∷◌, ℕ, ◌≤◌, ◌<◌, arith, ltb, length, drop, get_or, eq-eqb, ne_eqb, lt-ltb, le-ltb}
+use Rattle.std.specs.Prelude.{◌≡◌, ◌∷◌, ◌≤◌, ◌<◌}
+use Rattle.lists.specs.Kit.{refl, true, false, cond, List, [], ℕ, arith, ltb, length, drop, get_or, eq-eqb, ne_eqb, lt-ltb, le-ltb}
 use Rattle.script.specs.{Lines.{got, none}, Texts.{read_of, alone_of}, declared.lines.Number.{Number}}
 use Rattle.site_program.specs.Given.{is_name, numbers, second, first, given_of}
 

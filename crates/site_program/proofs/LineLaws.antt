@@ -1,10 +1,11 @@
 -- Lines of links and of nodes, one after another from the front of their tables.
-use Rattle.lists.specs.Kit.{◌≡◌, refl, List, [], ◌∷◌, ◌++◌, ℕ, suc, ◌+◌, ◌*◌, ◌<◌, ◌≤◌, arith, add-one, length, drop, get_or, length-drop, drop_of_length-le}
+use Rattle.std.specs.Prelude.{◌≡◌, ◌∷◌, ◌++◌, ◌+◌, ◌*◌, ◌<◌, ◌≤◌}
+use Rattle.lists.specs.Kit.{refl, List, [], ℕ, suc, arith, add-one, length, drop, get_or, length-drop, drop_of_length-le}
 use Rattle.lists.specs.Kit.{drop-cons}
 use Rattle.text.specs.Text.{bytes_of, decimal, printed_line}
 use Rattle.site_program.specs.Texts.{link_line, pair_lines, node_lines}
 
--- ---- pair-lines
+-- ---- pair_lines
 
 pub pair_next : (xs : List ℕ) (i a b : ℕ) → 2 * i + 1 < length xs → a ≡ get_or xs (2 * i) 0 → b ≡ get_or xs (2 * i + 1) 0
     → pair_lines (drop (2 * i) xs) ≡ link_line a b ++ pair_lines (drop (2 * (i + 1)) xs)

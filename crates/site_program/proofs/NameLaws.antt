@@ -1,5 +1,6 @@
 -- A name told, or the next one; and how long a name is at most.
-use Rattle.lists.{specs.Kit.{◌≡◌, refl, ap, ◌∙◌, Bool, true, false, cond, List, ℕ, ◌≤◌, ◌<◌, arith, length}, specs.Lists.{same}, proofs.All.{same_lengths}}
+use Rattle.std.specs.Prelude.{◌≡◌, ◌≤◌, ◌<◌}
+use Rattle.lists.{specs.Kit.{refl, ap, ◌∙◌, Bool, true, false, cond, List, ℕ, arith, length}, specs.Lists.{same}, proofs.All.{same_lengths}}
 use Rattle.text.specs.Text.{bytes_of}
 use Rattle.player.specs.Words.{longest_word}
 use Rattle.site_program.specs.{Names.{plain_verb_of, verb_of}, declared.names.Verb.{Verb}, declared.names.Verb.TheVariants.{Unknown}}

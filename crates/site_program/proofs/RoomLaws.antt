@@ -1,5 +1,6 @@
 -- A buffer with room for the longest text holds the text of every verb: none is refused by 9, 12 or 13.
-use Rattle.lists.specs.Kit.{◌≡◌, sym, ap, ◌∙◌, Bool, true, false, List, ℕ, zero, suc, ◌≤◌, arith, length, le-leb}
+use Rattle.std.specs.Prelude.{◌≡◌, ◌≤◌}
+use Rattle.lists.specs.Kit.{sym, ap, ◌∙◌, Bool, true, false, List, ℕ, zero, suc, arith, length, le-leb}
 use Rattle.mesh.{specs.Limits.{max_radios, max_neighbours}, specs.Tables.{Tables, graph_in}, specs.Sound.{sound}, proofs.Tables.DegreeSum.{block_count_most}}
 use Rattle.mesh.{proofs.Images.Tables.{valid_graph_in}}
 use Rattle.calls.{specs.Outcomes.{Listing, listing, listing_outcome, write_outcome, sheet_outcome, script_outcome}, specs.CallContracts.{SheetContract}}

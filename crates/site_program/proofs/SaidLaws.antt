@@ -1,5 +1,6 @@
 -- The contract of a verb, told which verb it is; contracts of calls that write a text themselves.
-use Rattle.lists.specs.Kit.{◌≡◌, sym, subst, List, ℕ}
+use Rattle.std.specs.Prelude.{◌≡◌}
+use Rattle.lists.specs.Kit.{sym, subst, List, ℕ}
 use Rattle.mesh.specs.Tables.{Tables}
 use Rattle.calls.specs.{CallContracts.{SheetContract, ScriptContract, WriteContract}, declared.Value.{Value}}
 use Rattle.site_program.specs.{declared.verbs.Text.{Text}, declared.names.Verb.{Verb}, Said.{value_of, Said}}

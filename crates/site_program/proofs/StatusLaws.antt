@@ -1,5 +1,6 @@
 -- The status of a run: what goes wrong has status 1, and a run without a fault that of its printing.
-use Rattle.lists.specs.{Kit.{◌≡◌, sym, ap, subst, ◌∙◌, Bool, true, false, true≢false, inl, inr, List, ℕ, ◌≤◌, arith, take}, Lists.{same}}
+use Rattle.std.specs.Prelude.{◌≡◌, ◌≤◌}
+use Rattle.lists.specs.{Kit.{sym, ap, subst, ◌∙◌, Bool, true, false, true≢false, inl, inr, List, ℕ, arith, take}, Lists.{same}}
 use Rattle.mesh.specs.Tables.{Tables}
 use Rattle.calls.specs.CallContracts.{ReadContract}
 use Rattle.text.specs.Text.{bytes_of}

@@ -1,5 +1,6 @@
 -- Texts put in front of a buffer: refused, accepted, of a list that a call put in front of a table, and of a pair.
-use Rattle.lists.{specs.Kit.{◌≡◌, refl, sym, ◌∙◌, ap, subst, List, ℕ, zero, suc, ◌<◌, min, arith, length, take}, specs.Lists.{overwrite}}
+use Rattle.std.specs.Prelude.{◌≡◌, ◌<◌}
+use Rattle.lists.{specs.Kit.{refl, sym, ◌∙◌, ap, subst, List, ℕ, zero, suc, min, arith, length, take}, specs.Lists.{overwrite}}
 use Rattle.lists.{proofs.Overwrite.{take_overwrite}, proofs.Parts.{take_min}}
 use Rattle.text.specs.Print.{buffer_at, Puts}
 use Rattle.calls.specs.{Outcomes.{Listing, listing, listing_outcome}, LiftOutcome.{pair}, declared.Pair.{Pair}, declared.Value.{Value}}

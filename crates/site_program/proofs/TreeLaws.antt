@@ -1,5 +1,6 @@
 -- The shell tree's text, from the tables that its call fills.
-use Rattle.lists.{specs.Kit.{◌≡◌, refl, sym, ◌∙◌, ap, subst, ◌&&◌, List, ◌++◌, map, ℕ, zero, suc, ◌≤◌, min, arith, length, take}, specs.Lists.{overwrite}}
+use Rattle.std.specs.Prelude.{◌≡◌, ◌&&◌, ◌++◌, ◌≤◌}
+use Rattle.lists.{specs.Kit.{refl, sym, ◌∙◌, ap, subst, List, map, ℕ, zero, suc, min, arith, length, take}, specs.Lists.{overwrite}}
 use Rattle.lists.{specs.Lists.{range}, proofs.Overwrite.{take_overwrite}, proofs.Map.{length-map}, proofs.Range.{length_range}}
 use Rattle.text.specs.Text.{bytes_of}
 use Rattle.mesh.specs.{Graph.{Graph, radios}, Tables.{Tables, graph_in}, Sound.{sound}, Tree.{tree, node_name, node_names}, declared.Node.{Node}}

@@ -1,7 +1,8 @@
 -- The block that an error line names.
 --   FirstBad image i   block i is the first that does not pass its check; i is their count where all pass
 -- Definitions only.
-use Rattle.lists.specs.Kit.{◌≡◌, true, false, List, ℕ, ◌/◌, ◌≤◌, ◌<◌, length}
+use Rattle.std.specs.Prelude.{◌≡◌, ◌/◌, ◌≤◌, ◌<◌}
+use Rattle.lists.specs.Kit.{true, false, List, ℕ, length}
 use Rattle.mesh.specs.Image.{block_bytes, block_check}
 
 pub record FirstBad (image : List ℕ) (i : ℕ) : Type 0 where

@@ -1,18 +1,19 @@
 -- A script played by the program `site`: every call must be accepted, and the first line that is refused or of another form ends the run.
---   first-end m s          the place after the first line, 0 where it is longer than m bytes or has no line feed
+--   first_end m s          the place after the first line, 0 where it is longer than m bytes or has no line feed
 --   form_of s              what is wrong with the form of a line
---   named-radios s         the radios that the first line names, 0 where it is of another form or names no size
---   first-fault s          what is wrong with a first line of another form
+--   named_radios s         the radios that the first line names, 0 where it is of another form or names no size
+--   first_fault s          what is wrong with a first line of another form
 --   Lined, called, lined   what a line does to the tables, and the number that it is refused by, or 0
 --   Spot, spot             where a run stands: tables, the line's number, its bytes so far, the number that ended the run, or 0
---   byte-taken m n b p     a byte more; a line has room for m bytes
---   bytes-taken m n bs p   bytes in turn
+--   byte_taken m n b p     a byte more; a line has room for m bytes
+--   bytes_taken m n bs p   bytes in turn
 --   ReadsOnce, ReadsOn   one read; all reads, to the end of the input or of the run
 --   ReadsRest             the reads after a front, none where it has the end
 --   ended s                the end of the input: a last line without a line feed
 --   begin, Plays           the whole of a script, of which the front is read before
 -- No contract can say what a read brings: of it `Read` has some bytes. Definitions only.
-use Rattle.lists.specs.Kit.{◌≡◌, Bool, true, false, cond, ◌⊎◌, List, [], ◌∷◌, ◌++◌, ℕ, zero, suc, ◌+◌, ◌-◌, leb, ltb, eqb, length, take, drop, get_or, replicate}
+use Rattle.std.specs.Prelude.{◌≡◌, ◌⊎◌, ◌∷◌, ◌++◌, ◌+◌, ◌-◌}
+use Rattle.lists.specs.Kit.{Bool, true, false, cond, List, [], ℕ, zero, suc, leb, ltb, eqb, length, take, drop, get_or, replicate}
 use Rattle.mesh.specs.{Limits.{max_radios}, Tables.{Tables}}
 use Rattle.calls.specs.Outcomes.{clear_outcome, link_outcome}
 use Rattle.text.specs.{Text.{line_feed}, Print.{next_place}}

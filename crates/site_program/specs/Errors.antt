@@ -1,12 +1,13 @@
 -- What the program `site` says where something goes wrong, after its name.
---   form, no-feed, carriage   in place of a refusal number: what is wrong with the form of a line
---   line-words q              what is wrong with a line of a script
---   script-text l q           which line, and what is wrong with it
---   image-text q place x      where an image is refused, and why
---   usage-words k             what a verb takes
---   file-words verb           that a verb takes no file name
+--   form, no_feed, carriage   in place of a refusal number: what is wrong with the form of a line
+--   line_words q              what is wrong with a line of a script
+--   script_text l q           which line, and what is wrong with it
+--   image_text q place x      where an image is refused, and why
+--   usage_words k             what a verb takes
+--   file_words verb           that a verb takes no file name
 -- Definitions only.
-use Rattle.lists.specs.Kit.{cond, List, ◌∷◌, ◌++◌, ℕ, eqb}
+use Rattle.std.specs.Prelude.{◌∷◌, ◌++◌}
+use Rattle.lists.specs.Kit.{cond, List, ℕ, eqb}
 use Rattle.text.specs.Text.{bytes_of, space, decimal}
 use Rattle.site_program.specs.Words.{refused_text}
 

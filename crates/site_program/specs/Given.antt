@@ -1,9 +1,10 @@
 -- The numbers after a verb.
 --   numbers ok v k        are they of the right form, and the numbers
 --   is_name word          may the word be a file's name
---   given-of takes count v k   the numbers of a verb that takes so many, of so many words, of which v and k are the first
+--   given_of takes count v k   the numbers of a verb that takes so many, of so many words, of which v and k are the first
 -- Definitions only.
-use Rattle.lists.specs.Kit.{Bool, true, false, cond, List, [], ◌∷◌, ℕ, eqb, ltb}
+use Rattle.std.specs.Prelude.{◌∷◌}
+use Rattle.lists.specs.Kit.{Bool, true, false, cond, List, [], ℕ, eqb, ltb}
 use Rattle.script.specs.{Lines.{Read, got, none}, Texts.{alone_of}}
 use Rattle.site_program.specs.declared.arguments.Numbers.{Numbers}
 

@@ -1,6 +1,6 @@
 -- The inputs of the program `site`, and the statuses of its runs.
---   script-word      what a script begins with
---   is-script bytes  is the input a script; any other is an image
+--   script_word      what a script begins with
+--   is_script bytes  is the input a script; any other is an image
 --   wrong            the status of a run in which something goes wrong: 0 is that of the others
 -- Definitions only.
 use Rattle.lists.specs.{Kit.{Bool, List, ℕ, take}, Lists.{same}}

@@ -1,6 +1,6 @@
 -- The words of the program `site`.
 --   plain_verb_of word   the verb of a word, of the ones that print what one call writes, or no call's
---   verb-of word         the verb of a word; `Unknown` where it is none
+--   verb_of word         the verb of a word; `Unknown` where it is none
 --   numbers_of verb      how many numbers follow the verb
 -- Laws are in proofs/NameLaws.antt. Definitions only.
 use Rattle.lists.specs.{Kit.{cond, List, ℕ}, Lists.{same}}

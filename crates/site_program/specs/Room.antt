@@ -1,8 +1,9 @@
 -- The buffer for a verb's text.
---   text-room   its bytes: the longest script
+--   text_room   its bytes: the longest script
 --   Held q      the number q does not say that the buffer is too short: for an image, a sheet or a script
 -- Definitions only.
-use Rattle.lists.specs.Kit.{◌≡◌, ℕ}
+use Rattle.std.specs.Prelude.{◌≡◌}
+use Rattle.lists.specs.Kit.{ℕ}
 use Rattle.script.specs.Longest.{longest_script}
 
 abbrev pub text_room : ℕ

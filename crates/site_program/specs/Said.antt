@@ -3,7 +3,8 @@
 --   BackboneSaid .. TreeSaid   texts of lists, which have room for every site; LiftSaid a link's line
 --   Said verb       the contract of a verb
 -- Definitions only.
-use Rattle.lists.specs.Kit.{List, [], ℕ, ◌+◌, ◌*◌}
+use Rattle.std.specs.Prelude.{◌+◌, ◌*◌}
+use Rattle.lists.specs.Kit.{List, [], ℕ}
 use Rattle.text.specs.Text.{bytes_of}
 use Rattle.mesh.specs.{Limits.{max_radios}, Tables.{Tables, graph_in}, Sound.{sound}, Connected.{core_of, backbone}, Staircase.{staircase, link_entries}}
 use Rattle.calls.specs.{Questions.{lengths_of}, Lift.{lifting, first_pair}}

@@ -7,7 +7,8 @@
 --   InputAnswered, InputAnswers   the same, with the reads of the front
 --   Asked, VerbAnswered, SiteStatus   the status of a run with these words
 -- No contract can say what a read brings or a write takes. Definitions only.
-use Rattle.lists.specs.{Kit.{◌≡◌, Bool, true, false, ◌⊎◌, List, ℕ, ◌≤◌, take}, Lists.{same}}
+use Rattle.std.specs.Prelude.{◌≡◌, ◌⊎◌, ◌≤◌}
+use Rattle.lists.specs.{Kit.{Bool, true, false, List, ℕ, take}, Lists.{same}}
 use Rattle.mesh.specs.Tables.{Tables}
 use Rattle.calls.specs.CallContracts.{ReadContract}
 use Rattle.text.specs.Text.{bytes_of}

@@ -1,13 +1,14 @@
 -- The texts that the program `site` prints, as bytes.
---   radios-line word rs    a word, and a list of radios
---   link-line a b          the line of a link
---   pair-lines xs          a line for each link of a table of links
+--   radios_line word rs    a word, and a list of radios
+--   link_line a b          the line of a link
+--   pair_lines xs          a line for each link of a table of links
 --   node_lines xs ls ps    a line for each node of the shell tree: name, level, parent
---   tree-text g            the shell tree: its nodes, then each radio's node
---   accepted-line n        what is said of a site that nothing is wrong with
+--   tree_text g            the shell tree: its nodes, then each radio's node
+--   accepted_line n        what is said of a site that nothing is wrong with
 --   TextBy                a text in front of a buffer, or the refusal
 -- Numbers, sheet, script and image are the replay program's line and what their calls write. Definitions only.
-use Rattle.lists.specs.Kit.{◌≡◌, List, [], ◌∷◌, ◌++◌, map, ℕ, zero, suc}
+use Rattle.std.specs.Prelude.{◌≡◌, ◌∷◌, ◌++◌}
+use Rattle.lists.specs.Kit.{List, [], map, ℕ, zero, suc}
 use Rattle.text.specs.{Text.{bytes_of, decimal, printed_line}, Print.{buffer_at, Puts}}
 use Rattle.mesh.specs.{Graph.{Graph}, Cores.{number}, Tree.{tree, node_names}, declared.Node.{Node}}
 use Rattle.site_program.specs.declared.verbs.Text.{Text}

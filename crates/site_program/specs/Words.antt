@@ -1,7 +1,8 @@
 -- What the refusal numbers mean, in words. Definitions only.
 --   words_of q        what the number means
---   refused-text q    "refused by", the number, a colon, and the words
-use Rattle.lists.specs.Kit.{cond, List, ◌∷◌, ◌++◌, ℕ, eqb}
+--   refused_text q    "refused by", the number, a colon, and the words
+use Rattle.std.specs.Prelude.{◌∷◌, ◌++◌}
+use Rattle.lists.specs.Kit.{cond, List, ℕ, eqb}
 use Rattle.text.specs.Text.{bytes_of, space, decimal}
 
 -- proposals, marks and lifts

@@ -1,5 +1,5 @@
 // The text of each verb.
-ghost use Rattle.lists.specs.Kit.{◌≡◌};
+ghost use Rattle.std.specs.Prelude.{◌≡◌};
 ghost use Rattle.mesh.specs.Lent.{lent};
 ghost use Rattle.calls.specs.Replay.{numbers_line};
 ghost use Rattle.site_program.specs.Texts.{accepted_line, TextAccepted};
@@ -49,7 +49,7 @@ pub fn answer<'a>(
     order: &'a [u16],
     out: &mut [u8],
 ) -> Text
-    ensures { Said verb v k n (lent links.entry numbers.entry order.entry) out.old result out.new }
+    ensures { Said verb v k n (lent links.now numbers.now order.now) out.old result out.new }
 {
     match verb {
         Verb::Help => Text {

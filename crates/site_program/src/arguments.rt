@@ -1,11 +1,11 @@
 // The numbers after a verb, in the form that a script's numbers have: 0 to 65,535, no leading zeros.
-ghost use Rattle.lists.specs.Kit.{◌≡◌};
+ghost use Rattle.std.specs.Prelude.{◌≡◌};
 ghost use Rattle.site_program.specs.Given.{numbers, given_of};
 
 use script::lines;
 
 // Whether they are as many as the verb takes and of this form, and the numbers.
-#[derive(Drop)]
+#[derive(Clone, Copy)]
 pub struct Numbers {
     pub ok: bool,
     pub v: u32,

@@ -1,6 +1,7 @@
 // A script, played on a site's tables, line by line, as its bytes come. A line of another form or a refused one ends the run.
-ghost use Rattle.lists.specs.Kit.{◌≡◌, length};
-ghost use Rattle.io.specs.Counts.{IsPrefixLen};
+ghost use Rattle.std.specs.Prelude.{◌≡◌};
+ghost use Rattle.lists.specs.Kit.{length};
+ghost use Rattle.player.specs.Counts.{IsPrefixLen};
 ghost use Rattle.script.specs.Lines.{line_of};
 ghost use Rattle.mesh.specs.Lent.{lent};
 ghost use Rattle.text.specs.Print.{next_place};
@@ -12,6 +13,7 @@ use mesh::Site;
 use player::input;
 use player::input::Ends;
 use script::lines::Line;
+use std::io::{Read, Write};
 
 // The longest first line: `radios 512` and its line feed.
 const FIRST_BYTES: usize = 11;
@@ -19,8 +21,11 @@ const FIRST_BYTES: usize = 11;
 // The longest line of the language: `down 65535 65535` and its line feed.
 const LINE_BYTES: usize = 17;
 
+// The bytes that one read brings at most.
+const CHUNK_BYTES: usize = 65536;
+
 // Where the run stands: the number of the line, how many of its bytes are held, and the number that ended the run, or 0.
-#[derive(Drop)]
+#[derive(Clone, Copy)]
 pub struct Course {
     pub line: u64,
     pub held: usize,
@@ -28,7 +33,7 @@ pub struct Course {
 }
 
 // The same, and what the last read found.
-#[derive(Drop)]
+#[derive(Clone, Copy)]
 pub struct Turned {
     pub course: Course,
     pub state: u32,
@@ -107,7 +112,7 @@ fn call(
     numbers: &mut [u8],
     order: &mut [u16],
 ) -> u32
-    ensures { lined_with result (lent links.exit numbers.exit order.exit) ≡ called up n a b (lent links.entry numbers.entry order.entry) }
+    ensures { lined_with result (lent links.new numbers.new order.new) ≡ called up n a b (lent links.old numbers.old order.old) }
 {
     let mut answer = [0u16; Site::RADIOS as usize];
     links::link::link(up, n, a, b, links, numbers, order, &mut answer).number
@@ -115,8 +120,8 @@ fn call(
 
 // Plays a line: the number that it is refused by, or 0.
 fn play_line(n: u32, line: &[u8], links: &mut [u8], numbers: &mut [u8], order: &mut [u16]) -> u32
-    ensures { lined_with result (lent links.exit numbers.exit order.exit)
-        ≡ lined n line.now (line_of line.now) (lent links.entry numbers.entry order.entry) }
+    ensures { lined_with result (lent links.new numbers.new order.new)
+        ≡ lined n line.now (line_of line.now) (lent links.old numbers.old order.old) }
 {
     match script::lines::parse(line) {
         Line::Up(a, b) => call(true, n, a, b, links, numbers, order),
@@ -136,8 +141,8 @@ fn take_byte(
     numbers: &mut [u8],
     order: &mut [u16],
 ) -> Course
-    ensures { spot (lent links.exit numbers.exit order.exit) line.new result
-        ≡ byte_taken (length line.old) n byte (spot (lent links.entry numbers.entry order.entry) line.old s) }
+    ensures { spot (lent links.new numbers.new order.new) line.new result
+        ≡ byte_taken (length line.old) n byte (spot (lent links.old numbers.old order.old) line.old s) }
 {
     if s.number != 0 {
         return s;
@@ -184,9 +189,9 @@ fn take_chunk(
     numbers: &mut [u8],
     order: &mut [u16],
 ) -> Course
-    ensures { spot (lent links.exit numbers.exit order.exit) line.new result
+    ensures { spot (lent links.new numbers.new order.new) line.new result
         ≡ bytes_taken (length line.old) n chunk.now
-        (spot (lent links.entry numbers.entry order.entry) line.old s) }
+        (spot (lent links.old numbers.old order.old) line.old s) }
 {
     let mut s = s;
     let mut i: usize = 0;
@@ -198,26 +203,26 @@ fn take_chunk(
 }
 
 // How far a run is, where that is shown.
-fn show(errors: i32, shown: bool, line: u64) {
+fn show<E: Write>(errors: &mut E, shown: bool, line: u64) {
     if shown {
         let mut out = [0u8; 32];
         let word = text::put_text(&mut out, 0, b"\rline");
         let end = text::put_field(&mut out, word, line);
         let length = input::within(end, &out);
-        io::write_all(errors, &out[..length]);
+        let _ = errors.write_all(&out[..length]);
     }
 }
 
 // Wipes what `show` put.
-fn wipe(errors: i32, shown: bool) {
+fn wipe<E: Write>(errors: &mut E, shown: bool) {
     if shown {
-        io::write_all(errors, b"\r                          \r");
+        let _ = errors.write_all(b"\r                          \r");
     }
 }
 
 // One read, of at most `most` bytes, and what it brings.
-fn turn(
-    ends: Ends,
+fn turn<I: Read, O, E: Write>(
+    ends: &mut Ends<I, O, E>,
     most: usize,
     shown: bool,
     s: Course,
@@ -227,12 +232,12 @@ fn turn(
     numbers: &mut [u8],
     order: &mut [u16],
 ) -> Turned
-    ensures { ReadsOnce (length line.old) n (spot (lent links.entry numbers.entry order.entry) line.old s)
-        result (spot (lent links.exit numbers.exit order.exit) line.new result.course) }
+    ensures { ReadsOnce (length line.old) n (spot (lent links.old numbers.old order.old) line.old s)
+        result (spot (lent links.new numbers.new order.new) line.new result.course) }
 {
-    let mut chunk = io::large_buffer();
-    let got = input::read(ends.input, most, &mut chunk);
-    show(ends.errors, shown, s.line);
+    let mut chunk = [0u8; CHUNK_BYTES];
+    let got = input::read(&mut ends.input, most, &mut chunk);
+    show(&mut ends.errors, shown, s.line);
     let count = got.count;
     Turned {
         course: take_chunk(s, &chunk[..count], n, line, links, numbers, order),
@@ -242,8 +247,8 @@ fn turn(
 
 // Reads to the end of the input or of the run. The loop counts its reads down, from a number that no run uses up; a run that still goes on
 // then is not read to its end.
-fn read_on(
-    ends: Ends,
+fn read_on<I: Read, O, E: Write>(
+    ends: &mut Ends<I, O, E>,
     most: usize,
     shown: bool,
     s: Course,
@@ -253,8 +258,8 @@ fn read_on(
     numbers: &mut [u8],
     order: &mut [u16],
 ) -> Turned
-    ensures { ReadsOn (length line.old) n (spot (lent links.entry numbers.entry order.entry) line.old s)
-        result (spot (lent links.exit numbers.exit order.exit) line.new result.course) }
+    ensures { ReadsOn (length line.old) n (spot (lent links.old numbers.old order.old) line.old s)
+        result (spot (lent links.new numbers.new order.new) line.new result.course) }
 {
     let mut s = s;
     let mut left = input::most();
@@ -276,8 +281,8 @@ fn read_on(
 }
 
 // What is left of the input after its front: nothing where the front has its end, or the run is over.
-fn read_rest(
-    ends: Ends,
+fn read_rest<I: Read, O, E: Write>(
+    ends: &mut Ends<I, O, E>,
     most: usize,
     shown: bool,
     front: Turned,
@@ -288,8 +293,8 @@ fn read_rest(
     order: &mut [u16],
 ) -> Turned
     ensures { ReadsRest (length line.old) n front
-        (spot (lent links.entry numbers.entry order.entry) line.old front.course)
-        result (spot (lent links.exit numbers.exit order.exit) line.new result.course) }
+        (spot (lent links.old numbers.old order.old) line.old front.course)
+        result (spot (lent links.new numbers.new order.new) line.new result.course) }
 {
     if front.state != input::GOES_ON {
         return front;
@@ -334,9 +339,9 @@ fn ended(s: Turned) -> Turned
 }
 
 // Plays the script, of which the front is read, from its second line on. `state` is what the last read of the front found; where `shown` is
-// set, each later read shows its line on the error descriptor, and the end wipes it.
-pub fn play(
-    ends: Ends,
+// set, each later read shows its line on the error output, and the end wipes it.
+pub fn play<I: Read, O, E: Write>(
+    ends: &mut Ends<I, O, E>,
     most: usize,
     shown: bool,
     n: u32,
@@ -346,8 +351,8 @@ pub fn play(
     numbers: &mut [u8],
     order: &mut [u16],
 ) -> Turned
-    ensures { Plays n front.now state (lent links.entry numbers.entry order.entry)
-        result (lent links.exit numbers.exit order.exit) }
+    ensures { Plays n front.now state (lent links.old numbers.old order.old)
+        result (lent links.new numbers.new order.new) }
 {
     let mut line = [0u8; LINE_BYTES];
     let start = Course {
@@ -361,6 +366,6 @@ pub fn play(
     let last = read_rest(
         ends, most, shown, first, n, &mut line, links, numbers, order,
     );
-    wipe(ends.errors, shown);
+    wipe(&mut ends.errors, shown);
     ended(last)
 }

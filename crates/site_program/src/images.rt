@@ -1,5 +1,5 @@
 // An image, read into a site's tables.
-ghost use Rattle.lists.specs.Kit.{◌≡◌, ◌≤◌};
+ghost use Rattle.std.specs.Prelude.{◌≡◌, ◌≤◌};
 ghost use Rattle.mesh.specs.Limits.{max_radios};
 ghost use Rattle.mesh.specs.Lent.{lent};
 ghost use Rattle.site_program.specs.Inputs.{wrong};
@@ -11,6 +11,7 @@ use crate::sizes;
 use calls::Refusal;
 use image::{form, header, layout};
 use mesh::Site;
+use std::io::Write;
 
 // How many radios the image says; 1 where that is no size, and then no question but 1 gets another answer.
 pub(crate) fn radios(image: &[u8]) -> u32
@@ -57,7 +58,7 @@ fn is_formed(image: &[u8], n: u32) -> bool {
 }
 
 // Where the image got "no": its length, a block, its form or its content.
-fn say_where(errors: i32, n: u32, image: &[u8], number: u32) -> u32
+fn say_where<E: Write>(errors: &mut E, n: u32, image: &[u8], number: u32) -> u32
     ensures { result ≡ wrong }
 {
     if number == Refusal::IMAGE_SIZE {
@@ -73,16 +74,16 @@ fn say_where(errors: i32, n: u32, image: &[u8], number: u32) -> u32
 }
 
 // Reads the image: the status.
-pub(crate) fn read(
-    errors: i32,
+pub(crate) fn read<E: Write>(
+    errors: &mut E,
     n: u32,
     image: &[u8],
     links: &mut [u8],
     numbers: &mut [u8],
     order: &mut [u16],
 ) -> u32
-    ensures { ImageRead n image.now (lent links.entry numbers.entry order.entry) result
-        (lent links.exit numbers.exit order.exit) }
+    ensures { ImageRead n image.now (lent links.old numbers.old order.old) result
+        (lent links.new numbers.new order.new) }
 {
     if sizes::IMAGE_BYTES < image.len() {
         return refusals::say(

@@ -1,5 +1,5 @@
 // What an input is, by its first bytes: a script or an image.
-ghost use Rattle.lists.specs.Kit.{◌≡◌};
+ghost use Rattle.std.specs.Prelude.{◌≡◌};
 ghost use Rattle.site_program.specs.Inputs.{is_script};
 
 use player::input;

@@ -1,6 +1,9 @@
-// The program `site` as a library: reads an image or a script from a descriptor, and prints what a verb says of its site. The input is
-// read to its end and checked before anything is printed. What goes wrong is one line on the error descriptor, and status 1.
-ghost use Rattle.lists.specs.Kit.{◌≡◌, ◌≤◌, length};
+// The program `site` as a library: reads an image or a script from its input, and prints what a verb says of its site. The input is
+// read to its end and checked before anything is printed. What goes wrong is one line on the error output, and status 1.
+#![tactic(auto)]
+
+ghost use Rattle.std.specs.Prelude.{◌≡◌, ◌≤◌};
+ghost use Rattle.lists.specs.Kit.{length};
 ghost use Rattle.mesh.specs.Limits.{max_radios};
 ghost use Rattle.mesh.specs.Lent.{lent};
 ghost use Rattle.player.specs.Reads.{at_end};
@@ -30,6 +33,9 @@ use mesh::Site;
 use player::input::Ends;
 use player::words::WORD_BYTES;
 use player::{faults, input};
+use std::env::Env;
+use std::fs::Files;
+use std::io::{IsTerminal, Read, Write};
 use verbs::{Text, Verb};
 
 // The text of a verb, in a buffer that holds every text: whatever the tables are, no verb is refused by 9, 12 or 13.
@@ -44,15 +50,15 @@ fn text_of<'a>(
 ) -> Text
     requires { text_room ≤ length out.old }
     ensures held { Held result.number }
-    ensures said { Said verb given.v given.k n (lent links.entry numbers.entry order.entry)
+    ensures said { Said verb given.v given.k n (lent links.now numbers.now order.now)
         out.old result out.new }
 {
     verbs::answer(verb, given.v, given.k, n, links, numbers, order, out)
 }
 
 // Prints what the verb says of the site: the status.
-fn print<'a>(
-    ends: Ends,
+fn print<'a, I, O: Write, E: Write>(
+    ends: &mut Ends<I, O, E>,
     verb: Verb,
     given: Numbers,
     n: u32,
@@ -60,20 +66,20 @@ fn print<'a>(
     numbers: &'a [u8],
     order: &'a [u16],
 ) -> u32
-    ensures { Prints verb given n (lent links.entry numbers.entry order.entry) result }
+    ensures { Prints verb given n (lent links.now numbers.now order.now) result }
 {
     let mut out = [0u8; sizes::TEXT_BYTES];
     let text = text_of(verb, given, n, links, numbers, order, &mut out);
     if text.number != 0 {
-        return refusals::say_call(ends.errors, text.number);
+        return refusals::say_call(&mut ends.errors, text.number);
     }
     let length = input::within(text.length, &out);
     faults::print(ends, b"site", &out[..length])
 }
 
 // Reads the site into the tables and prints: the status. `state` is what the last read of the front found.
-fn run_on(
-    ends: Ends,
+fn run_on<I: Read, O: Write, E: Write>(
+    ends: &mut Ends<I, O, E>,
     most: usize,
     shown: bool,
     verb: Verb,
@@ -96,8 +102,8 @@ fn run_on(
 }
 
 // The same on a site of n radios, whose tables are parts of the largest ones.
-fn run_site(
-    ends: Ends,
+fn run_site<I: Read, O: Write, E: Write>(
+    ends: &mut Ends<I, O, E>,
     most: usize,
     shown: bool,
     verb: Verb,
@@ -131,8 +137,8 @@ fn run_site(
 }
 
 // Goes on by the kind of the input, of which the front is read: the status.
-fn run_front(
-    ends: Ends,
+fn run_front<I: Read, O: Write, E: Write>(
+    ends: &mut Ends<I, O, E>,
     most: usize,
     shown: bool,
     verb: Verb,
@@ -143,24 +149,30 @@ fn run_front(
     ensures { Answers front.now state verb given result }
 {
     if input::END < state {
-        return refusals::say_unread(ends.errors, state);
+        return refusals::say_unread(&mut ends.errors, state);
     }
     if front.len() == 0 {
-        return refusals::say(ends.errors, b"the input is empty");
+        return refusals::say(&mut ends.errors, b"the input is empty");
     }
     let n = source::radios(front);
     if n == 0 {
-        return refusals::say_line(ends.errors, 1, course::first_fault(front));
+        return refusals::say_line(&mut ends.errors, 1, course::first_fault(front));
     }
     run_site(ends, most, shown, verb, given, n, front, state)
 }
 
 // Reads the front of the input, which holds any image whole, and goes on: the status.
-fn run_input(ends: Ends, most: usize, shown: bool, verb: Verb, given: Numbers) -> u32
+fn run_input<I: Read, O: Write, E: Write>(
+    ends: &mut Ends<I, O, E>,
+    most: usize,
+    shown: bool,
+    verb: Verb,
+    given: Numbers,
+) -> u32
     ensures { InputAnswers verb given result }
 {
     let mut front = [0u8; sizes::FRONT_BYTES];
-    let got = input::fill(ends.input, most, false, &mut front);
+    let got = input::fill(&mut ends.input, most, false, &mut front);
     let count = got.count;
     run_front(ends, most, shown, verb, given, &front[..count], got.state)
 }
@@ -180,7 +192,7 @@ fn is_name(word: &[u8]) -> bool
 }
 
 // A verb with words that it does not take.
-fn say_words(errors: i32, verb: Verb, word: &[u8], v: &[u8]) -> u32
+fn say_words<E: Write>(errors: &mut E, verb: Verb, word: &[u8], v: &[u8]) -> u32
     ensures { result ≡ wrong }
 {
     let takes = verbs::takes(verb);
@@ -193,9 +205,9 @@ fn say_words(errors: i32, verb: Verb, word: &[u8], v: &[u8]) -> u32
 }
 
 // Runs a verb with the words after it, of which there are `count`: the status, 0 or 1. A read asks for at most `most` bytes;
-// where `shown` is set, a long script shows its line on the error descriptor.
-fn run_verb(
-    ends: Ends,
+// where `shown` is set, a long script shows its line on the error output.
+fn run_verb<I: Read, O: Write, E: Write>(
+    ends: &mut Ends<I, O, E>,
     most: usize,
     shown: bool,
     word: &[u8],
@@ -207,7 +219,10 @@ fn run_verb(
 {
     let verb = verbs::verb_of(word);
     match verb {
-        Verb::Unknown => return refusals::say(ends.errors, b"unknown verb; site help lists them"),
+        Verb::Unknown => return refusals::say(
+            &mut ends.errors,
+            b"unknown verb; site help lists them",
+        ),
         Verb::Help => return faults::print(ends, b"site", &help::PAGE),
         _ => {}
     }
@@ -215,12 +230,12 @@ fn run_verb(
     if given.ok {
         return run_input(ends, most, shown, verb, given);
     }
-    say_words(ends.errors, verb, word, v)
+    say_words(&mut ends.errors, verb, word, v)
 }
 
 // The same, and the words that ask what the program is.
-pub fn run(
-    ends: Ends,
+pub fn run<I: Read, O: Write, E: Write>(
+    ends: &mut Ends<I, O, E>,
     most: usize,
     shown: bool,
     word: &[u8],
@@ -240,21 +255,26 @@ pub fn run(
 }
 
 // Runs the verb that is word `at` of the command, with the words after it: the status.
-fn run_at(ends: Ends, at: usize) -> u32
+fn run_at<R: Env, I: Read, O: Write, E: Write + IsTerminal>(
+    env: &R,
+    ends: &mut Ends<I, O, E>,
+    at: usize,
+) -> u32
     ensures { result ≤ 1 }
 {
     let mut verb = [0u8; WORD_BYTES];
     let mut v = [0u8; WORD_BYTES];
     let mut k = [0u8; WORD_BYTES];
-    let after = std::num::wrapping_add_usize(at, 1);
-    let verb_bytes = player::words::word_at(at, &mut verb);
-    let v_bytes = player::words::word_at(after, &mut v);
-    let k_bytes = player::words::word_at(std::num::wrapping_add_usize(at, 2), &mut k);
-    let count = std::num::wrapping_sub_usize(os::arg_count(), after);
+    let after = at.wrapping_add(1);
+    let verb_bytes = player::words::word_at(env, at, &mut verb);
+    let v_bytes = player::words::word_at(env, after, &mut v);
+    let k_bytes = player::words::word_at(env, at.wrapping_add(2), &mut k);
+    let count = player::words::count(env).wrapping_sub(after);
+    let shown = input::is_terminal(&ends.errors);
     run(
         ends,
         usize::MAX,
-        input::is_terminal(ends.errors),
+        shown,
         &verb[..verb_bytes],
         count,
         &v[..v_bytes],
@@ -262,9 +282,17 @@ fn run_at(ends: Ends, at: usize) -> u32
     )
 }
 
-// Runs the program with the words and descriptors that it is started with, and tells its status.
-pub fn start() {
-    let started = player::words::started();
-    let status = run_at(input::standard(), started.at);
-    player::words::tell(started.told, status);
+// Runs the program with the words that it is started with on these ends, and tells its status.
+pub fn start_on<R: Env + Files, I: Read, O: Write, E: Write + IsTerminal>(
+    rt: &R,
+    ends: &mut Ends<I, O, E>,
+) {
+    let started = player::words::started(rt);
+    let status = run_at(rt, ends, started.at);
+    player::words::tell(rt, ends, started.told, status);
+}
+
+// The same on the program's own input, output and errors.
+pub fn start(rt: &HostRuntime) {
+    start_on(rt, &mut input::standard(rt));
 }

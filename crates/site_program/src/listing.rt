@@ -1,5 +1,6 @@
 // Texts of lists: radios in a line, links a line each.
-ghost use Rattle.lists.specs.Kit.{◌≡◌, ◌*◌, take};
+ghost use Rattle.std.specs.Prelude.{◌≡◌, ◌*◌};
+ghost use Rattle.lists.specs.Kit.{take};
 ghost use Rattle.mesh.specs.Lent.{lent};
 ghost use Rattle.text.specs.Print.{buffer_at, Puts};
 ghost use Rattle.site_program.specs.Texts.{radios_line, link_line, pair_lines, TextBy};
@@ -36,7 +37,7 @@ pub(crate) fn backbone<'a>(
     order: &'a [u16],
     out: &mut [u8],
 ) -> Text
-    ensures { BackboneSaid n (lent links.entry numbers.entry order.entry) out.old result out.new }
+    ensures { BackboneSaid n (lent links.now numbers.now order.now) out.old result out.new }
 {
     let mut answer = [0u16; Site::RADIOS as usize];
     let reply = backbone::backbone(n, links, numbers, order, &mut answer);
@@ -53,7 +54,7 @@ pub(crate) fn core<'a>(
     order: &'a [u16],
     out: &mut [u8],
 ) -> Text
-    ensures { CoreSaid n v k (lent links.entry numbers.entry order.entry) out.old result out.new }
+    ensures { CoreSaid n v k (lent links.now numbers.now order.now) out.old result out.new }
 {
     let mut answer = [0u16; Site::RADIOS as usize];
     let reply = queries::cores::core(n, v, k, links, numbers, order, &mut answer);
@@ -117,7 +118,7 @@ pub(crate) fn staircase<'a>(
     order: &'a [u16],
     out: &mut [u8],
 ) -> Text
-    ensures { StaircaseSaid n (lent links.entry numbers.entry order.entry) out.old result out.new }
+    ensures { StaircaseSaid n (lent links.now numbers.now order.now) out.old result out.new }
 {
     let mut table = [0u16; ENTRIES];
     let reply = staircase::staircase(n, links, numbers, order, &mut table);
@@ -147,7 +148,7 @@ pub(crate) fn lift<'a>(
     order: &'a [u16],
     out: &mut [u8],
 ) -> Text
-    ensures { LiftSaid n v (lent links.entry numbers.entry order.entry) out.old result out.new }
+    ensures { LiftSaid n v (lent links.now numbers.now order.now) out.old result out.new }
 {
     let pair = lift::lift(n, v, links, numbers, order);
     put_pair(pair, out)

@@ -1,11 +1,12 @@
 // The table of verbs. A new verb has a line in the functions here, and one in `answers::answer`.
-ghost use Rattle.lists.specs.Kit.{◌≡◌, cond};
+ghost use Rattle.std.specs.Prelude.{◌≡◌};
+ghost use Rattle.lists.specs.Kit.{cond};
 ghost use Rattle.lists.specs.Lists.{same};
 ghost use Rattle.site_program.specs.Names.{plain_verb_of, verb_of, numbers_of};
 
 use tables::fill::same8;
 
-#[derive(Drop)]
+#[derive(Clone, Copy)]
 pub enum Verb {
     Help,
     Check,

@@ -1,11 +1,12 @@
-// What goes wrong, as one line on the error descriptor: where, the refusal number, and what it means in words. Each answers status 1.
-ghost use Rattle.lists.specs.Kit.{◌≡◌, ◌++◌};
+// What goes wrong, as one line on the error output: where, the refusal number, and what it means in words. Each answers status 1.
+ghost use Rattle.std.specs.Prelude.{◌≡◌, ◌++◌};
 ghost use Rattle.text.specs.Print.{buffer_at, Puts};
 ghost use Rattle.site_program.specs.Inputs.{wrong};
 ghost use Rattle.site_program.specs.Errors.{line_words, script_text, image_text, usage_words, file_words};
 
 use super::words::put_refused;
 use player::{faults, input};
+use std::io::Write;
 
 // The status of a run that went wrong.
 pub const WRONG: u32 = 1;
@@ -21,7 +22,7 @@ pub const CARRIAGE: u32 = 1002;
 const LINE_BYTES: usize = 256;
 
 // A line in words.
-pub fn say(errors: i32, words: &[u8]) -> u32
+pub fn say<E: Write>(errors: &mut E, words: &[u8]) -> u32
     ensures { result ≡ wrong }
 {
     faults::say(errors, b"site", words);
@@ -29,7 +30,7 @@ pub fn say(errors: i32, words: &[u8]) -> u32
 }
 
 // An input that cannot be read, by what a read found.
-pub fn say_unread(errors: i32, state: u32) -> u32
+pub fn say_unread<E: Write>(errors: &mut E, state: u32) -> u32
     ensures { result ≡ wrong }
 {
     faults::say_unread(errors, b"site", state);
@@ -37,7 +38,7 @@ pub fn say_unread(errors: i32, state: u32) -> u32
 }
 
 // The words that stand in front of a buffer, and have this length.
-fn say_front(errors: i32, words: &[u8], length: usize) -> u32
+fn say_front<E: Write>(errors: &mut E, words: &[u8], length: usize) -> u32
     ensures { result ≡ wrong }
 {
     let count = input::within(length, words);
@@ -45,7 +46,7 @@ fn say_front(errors: i32, words: &[u8], length: usize) -> u32
 }
 
 // A verb's call that is refused.
-pub fn say_call(errors: i32, number: u32) -> u32
+pub fn say_call<E: Write>(errors: &mut E, number: u32) -> u32
     ensures { result ≡ wrong }
 {
     let mut words = [0u8; LINE_BYTES];
@@ -80,7 +81,7 @@ fn put_script(out: &mut [u8], line: u64, number: u32) -> usize
 }
 
 // A line of a script that is refused, or of another form.
-pub fn say_line(errors: i32, line: u64, number: u32) -> u32
+pub fn say_line<E: Write>(errors: &mut E, line: u64, number: u32) -> u32
     ensures { result ≡ wrong }
 {
     let mut words = [0u8; LINE_BYTES];
@@ -100,7 +101,7 @@ fn put_image(out: &mut [u8], number: u32, place: &[u8], x: u64) -> usize
 }
 
 // An image that is refused, and where.
-pub fn say_image(errors: i32, number: u32, place: &[u8], x: u64) -> u32
+pub fn say_image<E: Write>(errors: &mut E, number: u32, place: &[u8], x: u64) -> u32
     ensures { result ≡ wrong }
 {
     let mut words = [0u8; LINE_BYTES];
@@ -122,7 +123,7 @@ fn put_usage(out: &mut [u8], at: usize, takes: usize) -> usize
 }
 
 // A verb with numbers of another form, or with more or fewer of them.
-pub fn say_usage(errors: i32, verb: &[u8], takes: usize) -> u32
+pub fn say_usage<E: Write>(errors: &mut E, verb: &[u8], takes: usize) -> u32
     ensures { result ≡ wrong }
 {
     let mut words = [0u8; LINE_BYTES];
@@ -142,7 +143,7 @@ fn put_file(out: &mut [u8], verb: &[u8]) -> usize
 }
 
 // A verb with a word behind it that may be a file's name.
-pub fn say_file(errors: i32, verb: &[u8]) -> u32
+pub fn say_file<E: Write>(errors: &mut E, verb: &[u8]) -> u32
     ensures { result ≡ wrong }
 {
     let mut words = [0u8; LINE_BYTES];

@@ -1,5 +1,5 @@
 // The input: an image or a script, told apart by its first bytes.
-ghost use Rattle.lists.specs.Kit.{◌≤◌};
+ghost use Rattle.std.specs.Prelude.{◌≤◌};
 ghost use Rattle.mesh.specs.Limits.{max_radios};
 ghost use Rattle.mesh.specs.Lent.{lent};
 ghost use Rattle.site_program.specs.Status.{Whole, SourceRead};
@@ -10,6 +10,7 @@ use super::{course, refusals};
 use crate::images;
 use player::input;
 use player::input::Ends;
+use std::io::{Read, Write};
 
 // How many radios the site has; 0 where a script has no first line.
 pub(crate) fn radios(front: &[u8]) -> u32
@@ -22,21 +23,21 @@ pub(crate) fn radios(front: &[u8]) -> u32
 }
 
 // The status of a script that is played: it is refused at a line, or not read to its end, or neither.
-fn played(ends: Ends, end: Turned) -> u32
+fn played<I, O, E: Write>(ends: &mut Ends<I, O, E>, end: Turned) -> u32
     ensures { Whole end result }
 {
     if end.course.number != 0 {
-        return refusals::say_line(ends.errors, end.course.line, end.course.number);
+        return refusals::say_line(&mut ends.errors, end.course.line, end.course.number);
     }
     if end.state != input::END {
-        return refusals::say_unread(ends.errors, end.state);
+        return refusals::say_unread(&mut ends.errors, end.state);
     }
     0
 }
 
 // Reads the site into its tables: the status. `state` is what the last read of the front found.
-pub(crate) fn read(
-    ends: Ends,
+pub(crate) fn read<I: Read, O, E: Write>(
+    ends: &mut Ends<I, O, E>,
     most: usize,
     shown: bool,
     n: u32,
@@ -46,12 +47,12 @@ pub(crate) fn read(
     numbers: &mut [u8],
     order: &mut [u16],
 ) -> u32
-    ensures { SourceRead n front.now state (lent links.entry numbers.entry order.entry) result
-        (lent links.exit numbers.exit order.exit) }
+    ensures { SourceRead n front.now state (lent links.old numbers.old order.old) result
+        (lent links.new numbers.new order.new) }
 {
     if is_script(front) {
         let end = course::play(ends, most, shown, n, front, state, links, numbers, order);
         return played(ends, end);
     }
-    images::read(ends.errors, n, front, links, numbers, order)
+    images::read(&mut ends.errors, n, front, links, numbers, order)
 }

@@ -1,5 +1,6 @@
 // The text of the shell tree: a line for each node, then each radio's node in one line.
-ghost use Rattle.lists.specs.Kit.{◌≡◌, [], ◌∷◌, ◌++◌, length, take};
+ghost use Rattle.std.specs.Prelude.{◌≡◌, ◌∷◌, ◌++◌};
+ghost use Rattle.lists.specs.Kit.{[], length, take};
 ghost use Rattle.mesh.specs.Lent.{lent};
 ghost use Rattle.text.specs.Text.{bytes_of, decimal, printed_line};
 ghost use Rattle.text.specs.Print.{buffer_at, Puts};
@@ -81,7 +82,7 @@ pub(crate) fn tree<'a>(
     order: &'a [u16],
     out: &mut [u8],
 ) -> Text
-    ensures { TreeSaid n (lent links.entry numbers.entry order.entry) out.old result out.new }
+    ensures { TreeSaid n (lent links.now numbers.now order.now) out.old result out.new }
 {
     let mut names = [0u16; PLACES];
     let mut levels = [0u16; PLACES];

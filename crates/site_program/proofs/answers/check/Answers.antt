@@ -1,0 +1,13 @@
+-- `answers::check` meets its contract: one text after another.
+use Rattle.lists.specs.Kit.{refl, rules}
+use Rattle.text.proofs.PrintLaws.{puts_append}
+use Rattle.site_program.specs.Texts.{accepted_line}
+use Rattle.site_program.proofs.answers.check.Goals as goal
+
+pub returns : goal.returns
+unfolding accepted_line
+returns c =
+    record {
+      number = refl;
+      puts = puts_append c.put_text-word.ensures (puts_append c.put_decimal-size.ensures c.put_text-length.ensures);
+    }
