@@ -1,9 +1,10 @@
 -- The promises of the engine, proved: `promises`, the statement of specs/Statement.antt over the routines of the exported calls.
-use Rattle.lists.specs.Kit.{◌≡◌, sym, ap, ℕ, ◌*◌, ◌≤◌, arith, List, length}
+use Rattle.std.specs.Prelude.{◌≡◌, ◌*◌, ◌≤◌}
+use Rattle.lists.specs.Kit.{sym, ap, ℕ, arith, List, length}
 use mir.Val.{Val}
 use prog.Memory.{Memory}
 use Rattle.machine.proofs.Made.{made_ready, ran_one}
-use Rattle.hosts.{specs.Public.{call}, proofs.Hosts.{hosts_demand, standing_demand}, proofs.Made.{hosts_exist}}
+use Rattle.hosts.{specs.Public.{reader_step, call}, proofs.Hosts.{hosts_demand, standing_demand}, proofs.Made.{hosts_exist}}
 use Rattle.mesh.{specs.Limits.{max_neighbours}, specs.Tables.{Tables, graph_in}, specs.Sound.{sound}, specs.Image.{block_bytes, image_of}}
 use Rattle.mesh.{proofs.Tables.DegreeSum.{block_count_most}, proofs.Images.Tables.{valid_graph_in}, proofs.Cores.Peeling.{number_core, number_unique}}
 use Rattle.mesh.{proofs.Trees.Listed.{backbone_one_part}, proofs.Images.OtherSize.{other_size_iff}, proofs.Marks.Rules.{store_good_iff}}
@@ -22,12 +23,12 @@ use Rattle.lifting.proofs.Answers.{lift_core, lift_right, lift_none}
 use Rattle.hubs.proofs.{Confluence.{confluence, calls_agree}, Differ.{orders_differ, images_differ}}
 use Rattle.playback.proofs.ScriptPlays.{written_plays}
 use Rattle.block_reader.proofs.Runs.{part_stands}
-use Rattle.summerbugle.proofs.Runs.{routines, runs}
+use Rattle.summerbugle.proofs.World.{routines, runs}
 use Rattle.promises.specs.Statement.{Refusals, Property1, Property2, Property3, Statement}
 use Rattle.promises.specs.Statement as statement
 use Rattle.calls.specs.Chains.{write_refusal}
 
--- W208: every image of sound tables has at most 86 blocks
+-- W-208: every image of sound tables has at most 86 blocks
 blocks_most :
     (n : ℕ) (t : Tables) (w : List ℕ) → let o = write_outcome n t w in o.reply.number ≡ 0 → o.reply.value ≤ 86 * block_bytes
 unfolding write_outcome image_length graph_in sound
@@ -66,7 +67,7 @@ property_1 = record {
       (sym (ap (λ (y : Val × Memory). y.0) one), sym (ap (λ (y : Val × Memory). y.1) one));
   ready = made_ready;
   refused = refusals;
-  reader_part = part_stands;
+  reader_part = part_stands (routines reader_step);
 }
 
 property_2 : Property2

@@ -4,12 +4,13 @@
 --   Property1       every public call returns for every input, checks its tables itself, and refuses by number
 --   Property2       what an accepted outcome is worth, in document 01's words
 --   Property3       demand 3, undivided, over lists of calls and over a host's list of calls on one memory
---   W201 .. W214   what each request of document 02 asks for
+--   W201 .. W214     what each request of document 02 asks for
 -- Definitions only.
-use Rattle.lists.specs.{Kit.{◌≡◌, ◌↔◌, ◌⊎◌, Bool, true, false, List, [], ◌∷◌, ◌++◌, ℕ, ◌+◌, ◌*◌, ◌≤◌, ◌<◌, ℤ, pos, length, take, drop}, Lists.{member, same}}
+use Rattle.std.specs.Prelude.{◌≡◌, ◌↔◌, ◌⊎◌, ◌∷◌, ◌++◌, ◌+◌, ◌*◌, ◌≤◌, ◌<◌}
+use Rattle.lists.specs.{Kit.{Bool, true, false, List, [], ℕ, ℤ, pos, length, take, drop}, Lists.{member, same}}
 use Rattle.lists.specs.{Lists.{EntriesBelow}}
 use mir.Val.{Val}
-use prog.{Memory.{Memory}, Machine.{done}, Routine.{Routine}}
+use prog.{Memory.{Memory}, Machine.{done}, Routine.{Routine, step}}
 use Rattle.machine.specs.{Cells.{Param, place, entries, Input, Inputs, Stands, span, Ready, Ran, Runs, passed, outcome_of}, Made.{Fitting, blocks, placed}}
 use Rattle.hosts.specs.{Public.{Public, reader_step, bytes, a_reader, call}, Hosts.{HostsDemand, StandingDemand}, Made.{HostsExist}}
 use Rattle.mesh.specs.{Limits.{max_radios}, Graph.{Link, link_of, Graph, graph}, Cores.{Core, number}, Tables.{Tables, graph_in}, Connected.{InCore}}
@@ -80,7 +81,7 @@ pub record Property1 (ρ : Public → Routine) : Type 1 where
   -- it returns nothing else, after any count of steps
   pub only :
       (x : Public) (σ : Memory) (i : Inputs (call x).params) (h : Ran (ρ x) (call x) σ i) (steps : ℕ) (end : Val × Memory) →
-      (ρ x).step steps (passed (call x).params i) σ ≡ done end → (end.0 ≡ (call x).value (outcome_of (call x) i).0) × (end.1 ≡ h.memory)
+      step (ρ x) steps (passed (call x).params i) σ ≡ done end → (end.0 ≡ (call x).value (outcome_of (call x) i).0) × (end.1 ≡ h.memory)
   -- a memory is ready for whatever numbers and lists their types hold: the one that has a block for each lent list
   pub ready : (ps : List Param) (i : Inputs ps) → Fitting ps i → Ready (blocks ps i) ps (placed 0 ps i)
   pub refused : Refusals
@@ -140,13 +141,13 @@ pub record Property3 (ρ : Public → Routine) : Type 0 where
       Core (graph n (book_after (givens (events (cs ++ (linking up m a b (length w) ∷ [])) s)) ps)) x k →
       (member x (take o.reply.count o.lent) ≡ true) ↔ (j ≡ k → ⊥)
 
--- ---- document 02, W201: the page has the site sheet in front, column by column, with each radio's core number
+-- ---- document 02, W-201: the page has the site sheet in front, column by column, with each radio's core number
 
 pub record W201 : Type 0 where
   pub sheet :
       (n : ℕ) (t : Tables) (w : List ℕ) → let o = sheet_outcome n t w in o.reply.number ≡ 0 → SheetRight n t o.reply.value w o.lent
 
--- ---- document 02, W202: the backbone of each part
+-- ---- document 02, W-202: the backbone of each part
 
 pub record W202 : Type 0 where
   pub backbone :
@@ -156,7 +157,7 @@ pub record W202 : Type 0 where
   pub one_part :
       (g : Graph) → ((v w : ℕ) → v < g.n → w < g.n → InCore g v 0 w) → connected.backbone g ≡ connected.site_backbone g
 
--- ---- document 02, W203: a script that rebuilds a site
+-- ---- document 02, W-203: a script that rebuilds a site
 
 pub record W203 : Type 0 where
   -- the text has the script in front; its length beforehand is the length written, and 13 compares with it
@@ -171,7 +172,7 @@ pub record W203 : Type 0 where
       (n : ℕ) (t : Tables) (w : List ℕ) → let o = script_outcome n t w in
       o.reply.number ≡ 0 → EntriesBelow 256 t.links → PlaysBack n t (take o.reply.value o.lent)
 
--- ---- document 02, W205: after an accepted hearing the links are exactly the ones that both ends hear, no single call would have been
+-- ---- document 02, W-205: after an accepted hearing the links are exactly the ones that both ends hear, no single call would have been
 -- refused, and the pairs of which one end hears the other are marked and counted
 
 pub record W205 : Type 0 where
@@ -179,14 +180,14 @@ pub record W205 : Type 0 where
       (n : ℕ) (hs : List ℕ) (t : Tables) (w : List ℕ) → hear_refusal n (lengths_of t) hs (length w) (sound n t) ≡ 0 →
       let o = hear_outcome n hs t w in HearRight n hs t o.tables o.reply o.lent
 
--- ---- document 02, W206: the first of the later neighbours is one, and there is none between; nobody exactly when there are none
+-- ---- document 02, W-206: the first of the later neighbours is one, and there is none between; nobody exactly when there are none
 
 pub record W206 : Type 0 where
   pub later_of :
       (n v : ℕ) (t : Tables) → let o = later_outcome n v t in
       o.number ≡ 0 → LaterRight (graph_in n t.links) v t.order o.count o.first
 
--- ---- document 02, W207: 1, 2, 9 and 10 answered yes: accepted is the image of some sound tables with this n, refused by 15 that of some
+-- ---- document 02, W-207: 1, 2, 9 and 10 answered yes: accepted is the image of some sound tables with this n, refused by 15 that of some
 -- with another n, and refused by 11 the image of none
 
 pub record W207 : Type 0 where
@@ -199,7 +200,7 @@ pub record W207 : Type 0 where
       (n : ℕ) (bs : List ℕ) → size_good n ≡ true → whole_blocks bs ≡ true → checks_good bs ≡ true →
       (image_refusal n bs ≡ 11) ↔ ImageOfNone bs
 
--- ---- document 02, W208: tables and images from before the limit on neighbours was raised: calls give what they gave, and a link-up call
+-- ---- document 02, W-208: tables and images from before the limit on neighbours was raised: calls give what they gave, and a link-up call
 -- refused by 7 is taken
 
 pub record W208 : Type 0 where
@@ -208,7 +209,7 @@ pub record W208 : Type 0 where
   pub blocks_most :
       (n : ℕ) (t : Tables) (w : List ℕ) → let o = write_outcome n t w in o.reply.number ≡ 0 → o.reply.value ≤ 86 * images.block_bytes
 
--- ---- document 02, W209: the kept links are listed: a spanning forest, no other weighs more; the way over them between two joined radios
+-- ---- document 02, W-209: the kept links are listed: a spanning forest, no other weighs more; the way over them between two joined radios
 -- has the greatest least weight; kept links of weight k or more join what shares a connected core at level k
 
 pub record W209 : Type 0 where
@@ -216,7 +217,7 @@ pub record W209 : Type 0 where
       (n : ℕ) (t : Tables) (w : List ℕ) → let o = staircase_outcome n t w in
       o.reply.number ≡ 0 → StaircaseListed (graph_in n t.links) o.reply.value w o.lent
 
--- ---- document 02, W210: look first, then switch
+-- ---- document 02, W-210: look first, then switch
 
 pub record W210 : Type 0 where
   -- asking lists exactly the radios whose core number the link would change
@@ -246,7 +247,7 @@ pub record W210 : Type 0 where
       ((q.reply.number ≡ 0 → ⊥) → r.reply.number ≡ q.reply.number)
       × (q.reply.number ≡ 0 → (r.reply.number ≡ 0 → ⊥) → r.reply.number ≡ 16)
 
--- ---- document 02, W211: named marks
+-- ---- document 02, W-211: named marks
 
 pub record W211 : Type 0 where
   -- question 17 of a store of full length gets yes exactly if every place keeps the rules
@@ -280,7 +281,7 @@ pub record W211 : Type 0 where
       history (givens (events (before ++ (setting m x bs ∷ (between ++ (returning j x ds ∷ [])))) t₀)) ps (beginning s)
       ≡ history (givens (events before t₀)) ps (beginning s)
 
--- ---- document 02, W212: one link that lifts a radio
+-- ---- document 02, W-212: one link that lifts a radio
 
 pub record W212 : Type 0 where
   -- the pair is the first that lifts the radio; by the largest group the radio's core number is then greater; taking the link up is
@@ -292,7 +293,7 @@ pub record W212 : Type 0 where
       (n v : ℕ) (t : Tables) → ((lift_outcome n v t).number ≡ 20)
       ↔ ((radio_refusal n v (lengths_of t) (sound n t) ≡ 0) × NoLift (graph_in n t.links) v)
 
--- ---- document 02, W213: work only from the earlier end; batches
+-- ---- document 02, W-213: work only from the earlier end; batches
 
 pub record W213 : Type 0 where
   -- after a link came up nothing before the beginning end's place has moved: the lower end's, with equal numbers the earlier's
@@ -318,7 +319,7 @@ pub record W213 : Type 0 where
       (n a b : ℕ) (t : Tables) (w : List ℕ) → n ≤ length w → let o = link_outcome true n a b t w in
       let s = batch_outcome n (a ∷ b ∷ []) t in BatchSingle o.reply o.tables s.reply s.tables
 
--- ---- document 02, W214: two hubs, one mesh: both start cleared with the same n and take the same single link calls, none refused, in any
+-- ---- document 02, W-214: two hubs, one mesh: both start cleared with the same n and take the same single link calls, none refused, in any
 -- arrangements. They hold equal links and numbers, and shell tree, backbone and staircase calls with equal lent lists answer equal
 
 pub record W214 : Type 0 where

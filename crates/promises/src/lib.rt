@@ -1,1 +1,2 @@
 // The promises of the engine: one statement, specs/Statement.antt, and its proof, proofs/Promises.antt.
+#![tactic(auto)]

@@ -1,5 +1,6 @@
 -- A step that is handed on is the step that was lent: committing's contract, over equal steps.
-use Rattle.lists.specs.Kit.{◌≡◌, subst, Bool, List, ℕ, ℤ}
+use Rattle.std.specs.Prelude.{◌≡◌}
+use Rattle.lists.specs.Kit.{subst, Bool, List, ℕ, ℤ}
 use Rattle.mesh.specs.Tables.{Tables}
 use Rattle.calls.specs.{declared.Reply.{Reply}, CallContracts.{CommitContract}}
 

@@ -1,10 +1,11 @@
 -- From the three tables to the lent list: where the tables meet their contract, the list filled from them meets the public one.
---   nodes-overwritten   three tables with nodes in front give these nodes
---   length-tree      a tree has at most n + 1 nodes
---   lent-count       the count fits the list and the tables
---   lent-tree        TablesContract of blank tables, and then TreeContract
-use Rattle.lists.{specs.Kit.{◌≡◌, refl, sym, ap, ap₂, subst, ◌∙◌, ◌⊎◌, inl, inr, Bool, true, false, ◌&&◌, List, [], ◌∷◌, ◌++◌, map, ℕ, zero, suc, ◌+◌, ◌≤◌}}
-use Rattle.lists.{specs.Kit.{◌<◌, min, arith, leb, length, get_or, take, drop, replicate, length-replicate, List·getD-append, List·getD-map, take-suc}}
+--   nodes_overwritten   three tables with nodes in front give these nodes
+--   length_tree      a tree has at most n + 1 nodes
+--   lent_count       the count fits the list and the tables
+--   lent_tree        TablesContract of blank tables, and then TreeContract
+use Rattle.std.specs.Prelude.{◌≡◌, ◌⊎◌, ◌&&◌, ◌∷◌, ◌++◌, ◌+◌, ◌≤◌, ◌<◌}
+use Rattle.lists.{specs.Kit.{refl, sym, ap, ap₂, subst, ◌∙◌, inl, inr, Bool, true, false, List, [], map, ℕ, zero, suc}}
+use Rattle.lists.{specs.Kit.{min, arith, leb, length, get_or, take, drop, replicate, length-replicate, List·getD-append, List·getD-map, take-suc}}
 use Rattle.lists.{specs.Kit.{take-length, leb-true, leb-false, le-leb, lt-leb}, specs.Lists.{overwrite}, proofs.Tests.{bool_cases, and_left}}
 use Rattle.lists.{proofs.Map.{length-map}}
 use Rattle.mesh.{specs.Limits.{max_radios}, specs.Graph.{Graph}, specs.Tables.{Tables, graph_in}, specs.Sound.{sound}, specs.Tree.{node, tree, node_names}}

@@ -1,5 +1,6 @@
 -- The lent list of nodes, filled place by place.
-use Rattle.lists.{specs.Kit.{◌≡◌, refl, sym, ap, ◌∙◌, List, ℕ, zero, suc, ◌+◌, ◌≤◌, ◌<◌, arith, add-one, length, set, length-append, length-drop}}
+use Rattle.std.specs.Prelude.{◌≡◌, ◌+◌, ◌≤◌, ◌<◌}
+use Rattle.lists.{specs.Kit.{refl, sym, ap, ◌∙◌, List, ℕ, zero, suc, arith, add-one, length, set, length-append, length-drop}}
 use Rattle.lists.{specs.Lists.{overwrite}, proofs.Overwrite.{set_overwrite}}
 use Rattle.mesh.specs.declared.Node.{Node}
 use Rattle.summerbugle.specs.Nodes.{node_in, nodes_in}

@@ -1,8 +1,9 @@
 -- The nodes of three tables as records.
 --   node_in a b c i     node i of the names a, the levels b and the parents c
---   nodes-in a b c k    the first k of them
+--   nodes_in a b c k    the first k of them
 -- Definitions only.
-use Rattle.lists.specs.Kit.{List, [], ◌∷◌, ◌++◌, ℕ, zero, suc, get_or}
+use Rattle.std.specs.Prelude.{◌∷◌, ◌++◌}
+use Rattle.lists.specs.Kit.{List, [], ℕ, zero, suc, get_or}
 use Rattle.mesh.specs.{Tree.{node}, declared.Node.{Node}}
 
 abbrev pub node_in : (names levels parents : List ℕ) → ℕ → Node

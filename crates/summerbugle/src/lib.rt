@@ -1,6 +1,9 @@
 // The public interface: the calls of the link engine, exported to C, and nothing else. Each is the call of the crate that has
 // it, under the same contract. No call has a `requires`.
-ghost use Rattle.lists.specs.Kit.{◌≡◌, true, false};
+#![tactic(auto)]
+
+ghost use Rattle.std.specs.Prelude.{◌≡◌};
+ghost use Rattle.lists.specs.Kit.{true, false};
 ghost use Rattle.hosts.specs.Public.{this_version};
 ghost use Rattle.mesh.specs.Lent.{lent};
 ghost use Rattle.calls.specs.CallContracts.{ClearContract, CheckContract, LinkContract, AskContract, CommitContract, BatchContract, HearContract};
@@ -36,8 +39,8 @@ pub extern "C" fn sb_version() -> u32
 // Clears a site: zero links, zero numbers, the order 0 to n - 1. Refused by 1 and 2: then every table keeps its content.
 #[unsafe(no_mangle)]
 pub extern "C" fn sb_clear(n: u32, links: &mut [u8], numbers: &mut [u8], order: &mut [u16]) -> u32
-    ensures { ClearContract n (lent links.entry numbers.entry order.entry) result
-        (lent links.exit numbers.exit order.exit) }
+    ensures { ClearContract n (lent links.old numbers.old order.old) result
+        (lent links.new numbers.new order.new) }
 {
     tables::clear::clear(n, links, numbers, order)
 }
@@ -50,7 +53,7 @@ pub extern "C" fn sb_check<'a>(
     numbers: &'a [u8],
     order: &'a [u16],
 ) -> Value
-    ensures { CheckContract n (lent links.entry numbers.entry order.entry) result }
+    ensures { CheckContract n (lent links.now numbers.now order.now) result }
 {
     soundness::check(n, links, numbers, order)
 }
@@ -67,8 +70,8 @@ pub extern "C" fn sb_link_up(
     order: &mut [u16],
     answer: &mut [u16],
 ) -> Reply
-    ensures { LinkContract true n a b (lent links.entry numbers.entry order.entry) answer.old result
-        (lent links.exit numbers.exit order.exit) answer.new }
+    ensures { LinkContract true n a b (lent links.old numbers.old order.old) answer.old result
+        (lent links.new numbers.new order.new) answer.new }
 {
     links::link::link(true, n, a, b, links, numbers, order, answer)
 }
@@ -84,8 +87,8 @@ pub extern "C" fn sb_link_down(
     order: &mut [u16],
     answer: &mut [u16],
 ) -> Reply
-    ensures { LinkContract false n a b (lent links.entry numbers.entry order.entry) answer.old result
-        (lent links.exit numbers.exit order.exit) answer.new }
+    ensures { LinkContract false n a b (lent links.old numbers.old order.old) answer.old result
+        (lent links.new numbers.new order.new) answer.new }
 {
     links::link::link(false, n, a, b, links, numbers, order, answer)
 }
@@ -101,8 +104,8 @@ pub extern "C" fn sb_link_batch(
     order: &mut [u16],
     list: &[u16],
 ) -> Value
-    ensures { BatchContract n list.now (lent links.entry numbers.entry order.entry) result
-        (lent links.exit numbers.exit order.exit) }
+    ensures { BatchContract n list.now (lent links.old numbers.old order.old) result
+        (lent links.new numbers.new order.new) }
 {
     links::batch::batch(n, links, numbers, order, list)
 }
@@ -119,8 +122,8 @@ pub extern "C" fn sb_hear(
     heard: &[u8],
     further: &mut [u8],
 ) -> Value
-    ensures { HearContract n heard.now (lent links.entry numbers.entry order.entry) further.old result
-        (lent links.exit numbers.exit order.exit) further.new }
+    ensures { HearContract n heard.now (lent links.old numbers.old order.old) further.old result
+        (lent links.new numbers.new order.new) further.new }
 {
     hear::hear(n, links, numbers, order, heard, further)
 }
@@ -138,7 +141,7 @@ pub extern "C" fn sb_ask_up<'a>(
     order: &'a [u16],
     answer: &mut [u16],
 ) -> Reply
-    ensures { AskContract true n a b (lent links.entry numbers.entry order.entry) answer.old result
+    ensures { AskContract true n a b (lent links.now numbers.now order.now) answer.old result
         answer.new }
 {
     ask::ask(true, n, a, b, links, numbers, order, answer)
@@ -155,7 +158,7 @@ pub extern "C" fn sb_ask_down<'a>(
     order: &'a [u16],
     answer: &mut [u16],
 ) -> Reply
-    ensures { AskContract false n a b (lent links.entry numbers.entry order.entry) answer.old result
+    ensures { AskContract false n a b (lent links.now numbers.now order.now) answer.old result
         answer.new }
 {
     ask::ask(false, n, a, b, links, numbers, order, answer)
@@ -174,8 +177,8 @@ pub extern "C" fn sb_commit_up(
     order: &mut [u16],
     changed: &[u16],
 ) -> Reply
-    ensures { CommitContract true n a b step changed.now (lent links.entry numbers.entry order.entry) result
-        (lent links.exit numbers.exit order.exit) }
+    ensures { CommitContract true n a b step changed.now (lent links.old numbers.old order.old) result
+        (lent links.new numbers.new order.new) }
 {
     commit::commit(true, n, a, b, step, links, numbers, order, changed)
 }
@@ -192,8 +195,8 @@ pub extern "C" fn sb_commit_down(
     order: &mut [u16],
     changed: &[u16],
 ) -> Reply
-    ensures { CommitContract false n a b step changed.now (lent links.entry numbers.entry order.entry) result
-        (lent links.exit numbers.exit order.exit) }
+    ensures { CommitContract false n a b step changed.now (lent links.old numbers.old order.old) result
+        (lent links.new numbers.new order.new) }
 {
     commit::commit(false, n, a, b, step, links, numbers, order, changed)
 }
@@ -207,7 +210,7 @@ pub extern "C" fn sb_number<'a>(
     numbers: &'a [u8],
     order: &'a [u16],
 ) -> Value
-    ensures { NumberContract n v (lent links.entry numbers.entry order.entry) result }
+    ensures { NumberContract n v (lent links.now numbers.now order.now) result }
 {
     queries::radios::number(n, v, links, numbers, order)
 }
@@ -221,7 +224,7 @@ pub extern "C" fn sb_neighbours<'a>(
     numbers: &'a [u8],
     order: &'a [u16],
 ) -> Value
-    ensures { NeighboursContract n v (lent links.entry numbers.entry order.entry) result }
+    ensures { NeighboursContract n v (lent links.now numbers.now order.now) result }
 {
     queries::radios::neighbours(n, v, links, numbers, order)
 }
@@ -236,7 +239,7 @@ pub extern "C" fn sb_linked<'a>(
     numbers: &'a [u8],
     order: &'a [u16],
 ) -> Value
-    ensures { LinkedContract n a b (lent links.entry numbers.entry order.entry) result }
+    ensures { LinkedContract n a b (lent links.now numbers.now order.now) result }
 {
     queries::radios::linked(n, a, b, links, numbers, order)
 }
@@ -251,7 +254,7 @@ pub extern "C" fn sb_first<'a>(
     numbers: &'a [u8],
     order: &'a [u16],
 ) -> Value
-    ensures { FirstContract n a b (lent links.entry numbers.entry order.entry) result }
+    ensures { FirstContract n a b (lent links.now numbers.now order.now) result }
 {
     queries::radios::first(n, a, b, links, numbers, order)
 }
@@ -266,7 +269,7 @@ pub extern "C" fn sb_later_of<'a>(
     numbers: &'a [u8],
     order: &'a [u16],
 ) -> Later
-    ensures { LaterContract n v (lent links.entry numbers.entry order.entry) result }
+    ensures { LaterContract n v (lent links.now numbers.now order.now) result }
 {
     soundness::wake::later_of(n, v, links, numbers, order)
 }
@@ -281,7 +284,7 @@ pub extern "C" fn sb_lift<'a>(
     numbers: &'a [u8],
     order: &'a [u16],
 ) -> Pair
-    ensures { LiftContract n v (lent links.entry numbers.entry order.entry) result }
+    ensures { LiftContract n v (lent links.now numbers.now order.now) result }
 {
     lift::lift(n, v, links, numbers, order)
 }
@@ -298,7 +301,7 @@ pub extern "C" fn sb_core<'a>(
     order: &'a [u16],
     answer: &mut [u16],
 ) -> Value
-    ensures { CoreContract n v k (lent links.entry numbers.entry order.entry) answer.old result answer.new }
+    ensures { CoreContract n v k (lent links.now numbers.now order.now) answer.old result answer.new }
 {
     queries::cores::core(n, v, k, links, numbers, order, answer)
 }
@@ -313,7 +316,7 @@ pub extern "C" fn sb_backbone<'a>(
     order: &'a [u16],
     answer: &mut [u16],
 ) -> Value
-    ensures { BackboneContract n (lent links.entry numbers.entry order.entry) answer.old result answer.new }
+    ensures { BackboneContract n (lent links.now numbers.now order.now) answer.old result answer.new }
 {
     backbone::backbone(n, links, numbers, order, answer)
 }
@@ -330,7 +333,7 @@ pub extern "C" fn sb_tree<'a, 's, 't>(
     nodes: &'s mut [Node],
     answer: &'t mut [u16],
 ) -> Value
-    ensures { TreeContract n (lent links.entry numbers.entry order.entry) nodes.old answer.old result
+    ensures { TreeContract n (lent links.now numbers.now order.now) nodes.old answer.old result
         nodes.new answer.new }
 {
     let mut names = [0u16; PLACES];
@@ -362,7 +365,7 @@ pub extern "C" fn sb_staircase<'a>(
     order: &'a [u16],
     table: &mut [u16],
 ) -> Value
-    ensures { StaircaseContract n (lent links.entry numbers.entry order.entry) table.old result table.new }
+    ensures { StaircaseContract n (lent links.now numbers.now order.now) table.old result table.new }
 {
     staircase::staircase(n, links, numbers, order, table)
 }
@@ -377,7 +380,7 @@ pub extern "C" fn sb_image_write(
     order: &[u16],
     buffer: &mut [u8],
 ) -> Value
-    ensures { WriteContract n (lent links.entry numbers.entry order.entry) buffer.old result buffer.new }
+    ensures { WriteContract n (lent links.now numbers.now order.now) buffer.old result buffer.new }
 {
     image_writer::writer::write(n, links, numbers, order, buffer)
 }
@@ -392,7 +395,7 @@ pub extern "C" fn sb_sheet(
     order: &[u16],
     page: &mut [u8],
 ) -> Value
-    ensures { SheetContract n (lent links.entry numbers.entry order.entry) page.old result page.new }
+    ensures { SheetContract n (lent links.now numbers.now order.now) page.old result page.new }
 {
     sheet::sheet(n, links, numbers, order, page)
 }
@@ -400,7 +403,7 @@ pub extern "C" fn sb_sheet(
 // The length in bytes of the script that rebuilds the site. Refused by 1 to 3: then the value is 0.
 #[unsafe(no_mangle)]
 pub extern "C" fn sb_script_length(n: u32, links: &[u8], numbers: &[u8], order: &[u16]) -> Value
-    ensures { ScriptLengthContract n (lent links.entry numbers.entry order.entry) result }
+    ensures { ScriptLengthContract n (lent links.now numbers.now order.now) result }
 {
     writer::length(n, links, numbers, order)
 }
@@ -415,7 +418,7 @@ pub extern "C" fn sb_script_write(
     order: &[u16],
     text: &mut [u8],
 ) -> Value
-    ensures { ScriptContract n (lent links.entry numbers.entry order.entry) text.old result text.new }
+    ensures { ScriptContract n (lent links.now numbers.now order.now) text.old result text.new }
 {
     writer::write(n, links, numbers, order, text)
 }
@@ -430,8 +433,8 @@ pub extern "C" fn sb_image_read(
     order: &mut [u16],
     image: &[u8],
 ) -> u32
-    ensures { ReadContract n image.now (lent links.entry numbers.entry order.entry) result
-        (lent links.exit numbers.exit order.exit) }
+    ensures { ReadContract n image.now (lent links.old numbers.old order.old) result
+        (lent links.new numbers.new order.new) }
 {
     image_reader::reader::read(n, links, numbers, order, image)
 }
@@ -447,7 +450,7 @@ pub extern "C" fn sb_mark_set(
     name: &[u8],
     store: &mut [u8],
 ) -> u32
-    ensures { SetContract n name.now (lent links.entry numbers.entry order.entry) store.old result
+    ensures { SetContract n name.now (lent links.now numbers.now order.now) store.old result
         store.new }
 {
     marks::set(n, links, numbers, order, name, store)
@@ -464,7 +467,7 @@ pub extern "C" fn sb_mark_remove(
     name: &[u8],
     store: &mut [u8],
 ) -> u32
-    ensures { RemoveContract n name.now (lent links.entry numbers.entry order.entry) store.old result
+    ensures { RemoveContract n name.now (lent links.now numbers.now order.now) store.old result
         store.new }
 {
     marks::remove(n, links, numbers, order, name, store)
@@ -481,8 +484,8 @@ pub extern "C" fn sb_mark_return(
     name: &[u8],
     store: &[u8],
 ) -> u32
-    ensures { ReturnContract n name.now store.now (lent links.entry numbers.entry order.entry) result
-        (lent links.exit numbers.exit order.exit) }
+    ensures { ReturnContract n name.now store.now (lent links.old numbers.old order.old) result
+        (lent links.new numbers.new order.new) }
 {
     marks::come_back(n, links, numbers, order, name, store)
 }

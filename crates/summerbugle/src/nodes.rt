@@ -1,5 +1,6 @@
 // The lent list of nodes, filled from the shell tree's three tables by one thin function.
-ghost use Rattle.lists.specs.Kit.{◌≡◌, ◌≤◌, ◌<◌, length};
+ghost use Rattle.std.specs.Prelude.{◌≡◌, ◌≤◌, ◌<◌};
+ghost use Rattle.lists.specs.Kit.{length};
 ghost use Rattle.lists.specs.Lists.{overwrite};
 ghost use Rattle.summerbugle.specs.Nodes.{node_in, nodes_in};
 
