@@ -2,6 +2,8 @@
 use crate::reading::Site;
 use crate::tally::Tally;
 use crate::{reading, tally};
+use std::io;
+use std::io::Read;
 use test_parts::words;
 
 // Room for two radios more than a site may have, and for 600 links at a time.
@@ -89,42 +91,42 @@ fn spoil(links: &mut Links, at: usize) {
 
 // The next site of the file.
 fn one(
-    fd: i32,
+    file: &mut impl Read,
     links: &mut Links,
     numbers: &mut Numbers,
     order: &mut Order,
     list: &mut List,
     t: Tally,
-) -> Tally {
-    let s = reading::next_site(fd);
-    words::entries(fd, s.list, list);
+) -> io::Result<Tally> {
+    let s = reading::next_site(file)?;
+    words::entries(file, s.list, list)?;
     build(s, links, numbers, order, list);
     spoil(links, s.spoil);
     let u = lend(s, links, numbers, order, t);
-    tally::site(u, s.fresh == 1)
+    Ok(tally::site(u, s.fresh == 1))
 }
 
 // All sites of the file, after their count.
 fn all(
-    fd: i32,
+    file: &mut impl Read,
     links: &mut Links,
     numbers: &mut Numbers,
     order: &mut Order,
     list: &mut List,
-) -> Tally {
-    let count = words::word(fd);
+) -> io::Result<Tally> {
+    let count = words::word(file)?;
     let mut t = tally::nothing();
     for i in 0..count {
-        t = one(fd, links, numbers, order, list, t);
+        t = one(file, links, numbers, order, list, t)?;
     }
-    t
+    Ok(t)
 }
 
 // What a file comes to.
-pub fn file(fd: i32) -> Tally {
+pub fn file(file: &mut impl Read) -> io::Result<Tally> {
     let mut links = [0u8; LINKS];
     let mut numbers = [0u8; ENTRIES];
     let mut order = [0u16; ENTRIES];
     let mut list = [0u16; LIST];
-    all(fd, &mut links, &mut numbers, &mut order, &mut list)
+    all(file, &mut links, &mut numbers, &mut order, &mut list)
 }

@@ -6,6 +6,8 @@ use crate::compare;
 use crate::compare::{KEPT, Tally};
 use mesh::Site;
 use queries::backbone;
+use std::io;
+use std::io::Read;
 use test_parts::words;
 
 // Two places more than the largest tree needs.
@@ -19,18 +21,18 @@ const LINKS_BYTES: usize = Site::ROW_BYTES * Site::RADIOS as usize;
 
 // A shell tree, with as many places for nodes as the file says beside the places of the three tables.
 fn tree<'a>(
-    fd: i32,
+    file: &mut impl Read,
     n: u32,
     links: &'a [u8],
     numbers: &'a [u8],
     order: &'a [u16],
     answer: &mut [u16],
     t: Tally,
-) -> Tally {
+) -> io::Result<Tally> {
     let mut names = [KEPT; PLACES];
     let mut levels = [KEPT; PLACES];
     let mut parents = [KEPT; PLACES];
-    let room = words::half(fd) as usize;
+    let room = words::half(file)? as usize;
     let r = tree::levels::shell_tree(
         n,
         links,
@@ -42,146 +44,147 @@ fn tree<'a>(
         &mut parents,
         answer,
     );
-    let after = compare::reply(fd, r, t);
-    let named = compare::entries(fd, &names, after);
-    let levelled = compare::entries(fd, &levels, named);
-    let nodes = compare::entries(fd, &parents, levelled);
-    compare::entries(fd, answer, nodes)
+    let after = compare::reply(file, r, t)?;
+    let named = compare::entries(file, &names, after)?;
+    let levelled = compare::entries(file, &levels, named)?;
+    let nodes = compare::entries(file, &parents, levelled)?;
+    compare::entries(file, answer, nodes)
 }
 
 // A backbone.
 fn backbone<'a>(
-    fd: i32,
+    file: &mut impl Read,
     n: u32,
     links: &'a [u8],
     numbers: &'a [u8],
     order: &'a [u16],
     answer: &mut [u16],
     t: Tally,
-) -> Tally {
+) -> io::Result<Tally> {
     let r = backbone::backbone(n, links, numbers, order, answer);
-    let after = compare::reply(fd, r, t);
-    compare::entries(fd, answer, after)
+    let after = compare::reply(file, r, t)?;
+    compare::entries(file, answer, after)
 }
 
 // A staircase tree.
 fn staircase<'a>(
-    fd: i32,
+    file: &mut impl Read,
     n: u32,
     links: &'a [u8],
     numbers: &'a [u8],
     order: &'a [u16],
     table: &mut [u16],
     t: Tally,
-) -> Tally {
+) -> io::Result<Tally> {
     let r = staircase::staircase(n, links, numbers, order, table);
-    let after = compare::reply(fd, r, t);
-    compare::entries(fd, table, after)
+    let after = compare::reply(file, r, t)?;
+    compare::entries(file, table, after)
 }
 
 // A connected core, of the radio and the level that the file names.
 fn core<'a>(
-    fd: i32,
+    file: &mut impl Read,
     n: u32,
     links: &'a [u8],
     numbers: &'a [u8],
     order: &'a [u16],
     answer: &mut [u16],
     t: Tally,
-) -> Tally {
-    let v = words::half(fd) as u32;
-    let k = words::half(fd) as u32;
+) -> io::Result<Tally> {
+    let v = words::half(file)? as u32;
+    let k = words::half(file)? as u32;
     let r = queries::cores::core(n, v, k, links, numbers, order, answer);
-    let after = compare::reply(fd, r, t);
-    compare::entries(fd, answer, after)
+    let after = compare::reply(file, r, t)?;
+    compare::entries(file, answer, after)
 }
 
 // One call: its kind, n and the length of its answer table come first.
 fn call<'a>(
-    fd: i32,
+    file: &mut impl Read,
     links: &'a [u8],
     numbers: &'a [u8],
     order: &'a [u16],
     answer: &mut [u16],
     t: Tally,
-) -> Tally {
-    let kind = words::half(fd);
-    let n = words::half(fd) as u32;
-    let w = tables::fill::least(words::half(fd) as usize, answer.len());
+) -> io::Result<Tally> {
+    let kind = words::half(file)?;
+    let n = words::half(file)? as u32;
+    let w = tables::fill::least(words::half(file)? as usize, answer.len());
     tables::fill::fill16(answer, KEPT);
     if kind == 1 {
-        return tree(fd, n, links, numbers, order, &mut answer[..w], t);
+        return tree(file, n, links, numbers, order, &mut answer[..w], t);
     }
     if kind == 2 {
-        return backbone(fd, n, links, numbers, order, &mut answer[..w], t);
+        return backbone(file, n, links, numbers, order, &mut answer[..w], t);
     }
     if kind == 4 {
-        return staircase(fd, n, links, numbers, order, &mut answer[..w], t);
+        return staircase(file, n, links, numbers, order, &mut answer[..w], t);
     }
-    core(fd, n, links, numbers, order, &mut answer[..w], t)
+    core(file, n, links, numbers, order, &mut answer[..w], t)
 }
 
 // As many calls as the file says.
 fn calls<'a>(
-    fd: i32,
+    file: &mut impl Read,
     links: &'a [u8],
     numbers: &'a [u8],
     order: &'a [u16],
     answer: &mut [u16],
     t: Tally,
-) -> Tally {
-    let count = words::half(fd);
+) -> io::Result<Tally> {
+    let count = words::half(file)?;
     let mut u = t;
     let mut i: u16 = 0;
     while i < count {
-        u = call(fd, links, numbers, order, answer, u);
+        u = call(file, links, numbers, order, answer, u)?;
         i += 1;
     }
-    u
+    Ok(u)
 }
 
 // Clears the site and takes up each link that the file lists, after their count.
 fn link_all(
-    fd: i32,
+    file: &mut impl Read,
     n: u32,
     links: &mut [u8],
     numbers: &mut [u8],
     order: &mut [u16],
     answer: &mut [u16],
-) {
+) -> io::Result<()> {
     tables::clear::clear(n, links, numbers, order);
-    let count = words::half(fd);
+    let count = words::half(file)?;
     let mut i: u16 = 0;
     while i < count {
-        let a = words::half(fd) as u32;
-        let b = words::half(fd) as u32;
+        let a = words::half(file)? as u32;
+        let b = words::half(file)? as u32;
         links::link::link(true, n, a, b, links, numbers, order, answer);
         i += 1;
     }
+    Ok(())
 }
 
 // The site's links, the calls on it, and the calls after its numbers are spoiled.
 fn play(
-    fd: i32,
+    file: &mut impl Read,
     n: u32,
     links: &mut [u8],
     numbers: &mut [u8],
     order: &mut [u16],
     answer: &mut [u16],
-) -> Tally {
+) -> io::Result<Tally> {
     let none = Tally {
         calls: 0,
         compared: 0,
         wrong: 0,
     };
-    link_all(fd, n, links, numbers, order, answer);
-    let sound = calls(fd, links, numbers, order, answer, none);
+    link_all(file, n, links, numbers, order, answer)?;
+    let sound = calls(file, links, numbers, order, answer, none)?;
     tables::fill::fill8(numbers, 255);
-    calls(fd, links, numbers, order, answer, sound)
+    calls(file, links, numbers, order, answer, sound)
 }
 
 // The site of n radios, whose tables are parts of the largest ones.
-fn cut(fd: i32, n: u32) -> Tally
+fn cut(file: &mut impl Read, n: u32) -> io::Result<Tally>
     requires { n ≤ max_radios }
 {
     let many = n as usize;
@@ -191,7 +194,7 @@ fn cut(fd: i32, n: u32) -> Tally
     let mut order = [0u16; Site::RADIOS as usize];
     let mut answer = [0u16; ANSWER];
     play(
-        fd,
+        file,
         n,
         &mut links[..bytes],
         &mut numbers[..many],
@@ -201,14 +204,14 @@ fn cut(fd: i32, n: u32) -> Tally
 }
 
 // The site that the file has.
-pub fn site(fd: i32) -> Tally {
-    let n = words::half(fd) as u32;
+pub fn site(file: &mut impl Read) -> io::Result<Tally> {
+    let n = words::half(file)? as u32;
     if n > Site::RADIOS {
-        return Tally {
+        return Ok(Tally {
             calls: 0,
             compared: 0,
             wrong: 1,
-        };
+        });
     }
-    cut(fd, n)
+    cut(file, n)
 }

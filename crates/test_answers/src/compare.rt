@@ -1,12 +1,14 @@
 // What came back, value by value, against the words of the file.
 use calls::Value;
+use std::io;
+use std::io::Read;
 use test_parts::words;
 
 // What every entry and place holds before a call: no radio, level or name.
 pub const KEPT: u16 = 600;
 
 // How many calls were made, how many values compared, how many of them wrong.
-#[derive(Drop)]
+#[derive(Clone, Copy)]
 pub struct Tally {
     pub calls: u64,
     pub compared: u64,
@@ -28,33 +30,33 @@ fn counted(t: Tally, x: u16, y: u16) -> Tally {
 }
 
 // The word owed for entry i of a list of `count`: later entries keep their content.
-fn owed(fd: i32, i: usize, count: u16) -> u16 {
+fn owed(file: &mut impl Read, i: usize, count: u16) -> io::Result<u16> {
     if i < count as usize {
-        return words::half(fd);
+        return words::half(file);
     }
-    KEPT
+    Ok(KEPT)
 }
 
 // A call's number and value.
-pub fn reply(fd: i32, r: Value, t: Tally) -> Tally {
+pub fn reply(file: &mut impl Read, r: Value, t: Tally) -> io::Result<Tally> {
     let calls = std::num::wrapping_add_u64(t.calls, 1);
     let started = Tally {
         calls,
         compared: t.compared,
         wrong: t.wrong,
     };
-    let number = counted(started, (r.number % 65536) as u16, words::half(fd));
-    counted(number, (r.value % 65536) as u16, words::half(fd))
+    let number = counted(started, (r.number % 65536) as u16, words::half(file)?);
+    Ok(counted(number, (r.value % 65536) as u16, words::half(file)?))
 }
 
 // Every entry of a list, whose first ones, after their count, are in the file.
-pub fn entries(fd: i32, list: &[u16], t: Tally) -> Tally {
-    let count = words::half(fd);
+pub fn entries(file: &mut impl Read, list: &[u16], t: Tally) -> io::Result<Tally> {
+    let count = words::half(file)?;
     let mut u = t;
     let mut i: usize = 0;
     while i < list.len() {
-        u = counted(u, list[i], owed(fd, i, count));
+        u = counted(u, list[i], owed(file, i, count)?);
         i += 1;
     }
-    u
+    Ok(u)
 }

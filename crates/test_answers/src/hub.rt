@@ -6,6 +6,8 @@ use crate::compare::KEPT;
 use calls::Value;
 use mesh::Site;
 use queries::backbone;
+use std::io;
+use std::io::Read;
 use test_parts::{digest, words};
 
 // The bytes of a site's largest links table.
@@ -15,7 +17,7 @@ const LINKS_BYTES: usize = Site::ROW_BYTES * Site::RADIOS as usize;
 const NODES: usize = Site::RADIOS as usize + 1;
 
 // How many calls were made, the sum of their refusal numbers, and the digests.
-#[derive(Drop)]
+#[derive(Clone, Copy)]
 pub struct Hub {
     pub calls: u64,
     pub refusals: u64,
@@ -92,44 +94,44 @@ fn held<'a>(
 
 // Makes as many link calls as `count` says: 1 or 0 for up or down, and two radios. Comes back with the sum of their refusal numbers.
 fn play(
-    fd: i32,
+    file: &mut impl Read,
     count: u16,
     n: u32,
     links: &mut [u8],
     numbers: &mut [u8],
     order: &mut [u16],
     answer: &mut [u16],
-) -> u64 {
+) -> io::Result<u64> {
     let mut refusals: u64 = 0;
     let mut i: u16 = 0;
     while i < count {
-        let up = words::half(fd) == 1;
-        let a = words::half(fd) as u32;
-        let b = words::half(fd) as u32;
+        let up = words::half(file)? == 1;
+        let a = words::half(file)? as u32;
+        let b = words::half(file)? as u32;
         let r = links::link::link(up, n, a, b, links, numbers, order, answer);
         refusals = std::num::wrapping_add_u64(refusals, r.number as u64);
         i += 1;
     }
-    refusals
+    Ok(refusals)
 }
 
 // Clears the site, plays the calls, and looks at what is held.
 fn taken(
-    fd: i32,
+    file: &mut impl Read,
     n: u32,
     links: &mut [u8],
     numbers: &mut [u8],
     order: &mut [u16],
     answer: &mut [u16],
-) -> Hub {
-    let count = words::half(fd);
+) -> io::Result<Hub> {
+    let count = words::half(file)?;
     tables::clear::clear(n, links, numbers, order);
-    let refusals = play(fd, count, n, links, numbers, order, answer);
-    held(n, links, numbers, order, count as u64, refusals)
+    let refusals = play(file, count, n, links, numbers, order, answer)?;
+    Ok(held(n, links, numbers, order, count as u64, refusals))
 }
 
 // The site of n radios, whose tables are parts of the largest ones.
-fn cut(fd: i32, n: u32) -> Hub
+fn cut(file: &mut impl Read, n: u32) -> io::Result<Hub>
     requires { n ≤ max_radios }
 {
     let many = n as usize;
@@ -139,7 +141,7 @@ fn cut(fd: i32, n: u32) -> Hub
     let mut order = [0u16; Site::RADIOS as usize];
     let mut answer = [0u16; Site::RADIOS as usize];
     taken(
-        fd,
+        file,
         n,
         &mut links[..bytes],
         &mut numbers[..many],
@@ -149,9 +151,9 @@ fn cut(fd: i32, n: u32) -> Hub
 }
 
 // The next hub of the file; the largest site where n is too large.
-pub fn next(fd: i32, n: u32) -> Hub {
+pub fn next(file: &mut impl Read, n: u32) -> io::Result<Hub> {
     if n > Site::RADIOS {
-        return cut(fd, Site::RADIOS);
+        return cut(file, Site::RADIOS);
     }
-    cut(fd, n)
+    cut(file, n)
 }

@@ -1,29 +1,31 @@
-// Two hubs, one mesh (document 02, W214): data/hubs has, case by case, the link calls of two hubs, the same calls in two arrangements. Both
+// Two hubs, one mesh (document 02, W-214): data/hubs has, case by case, the link calls of two hubs, the same calls in two arrangements. Both
 // play theirs, and what they hold and answer is compared: links, numbers, shell tree, backbone, staircase tree. Orders may differ, and are
 // reported. Three lines for each case: of each hub how many calls it was given, the sum of their refusal numbers, and a digest of each
 // table and each answer, all worked out by a separate program (oracle/hubs.py); then which of them are equal. Of `one_more` a hub has a
 // call more, of `refused` one refuses a call: there the comparison must find every difference.
 use crate::hub;
 use crate::hub::Hub;
+use std::io;
+use std::io::Read;
 use test_parts::say::Name;
 use test_parts::{say, words};
 
 // What is held, at the end of a line.
-fn say_held(h: Hub) {
-    say::number(b" links", h.links);
-    say::number(b" numbers", h.numbers);
-    say::number(b" tree", h.tree);
-    say::number(b" backbone", h.backbone);
-    say::number(b" staircase", h.staircase);
-    say::line(b" order", h.order);
+fn say_held(rt: &impl Print, h: Hub) -> io::Result<()> {
+    say::number(rt, b" links", h.links)?;
+    say::number(rt, b" numbers", h.numbers)?;
+    say::number(rt, b" tree", h.tree)?;
+    say::number(rt, b" backbone", h.backbone)?;
+    say::number(rt, b" staircase", h.staircase)?;
+    say::line(rt, b" order", h.order)
 }
 
 // A hub's line.
-fn line(name: &Name, h: Hub) {
-    say::name(name);
-    say::number(b" calls", h.calls);
-    say::number(b" refusals", h.refusals);
-    say_held(h);
+fn line(rt: &impl Print, name: &Name, h: Hub) -> io::Result<()> {
+    say::name(rt, name)?;
+    say::number(rt, b" calls", h.calls)?;
+    say::number(rt, b" refusals", h.refusals)?;
+    say_held(rt, h)
 }
 
 // 1 when they are equal, 0 when not.
@@ -49,27 +51,28 @@ fn equals(one: Hub, other: Hub) -> Hub {
 }
 
 // Which digests of two hubs are equal.
-fn compared(name: &Name, one: Hub, other: Hub) {
-    say::name(name);
-    say::text(b" equal:");
-    say_held(equals(one, other));
+fn compared(rt: &impl Print, name: &Name, one: Hub, other: Hub) -> io::Result<()> {
+    say::name(rt, name)?;
+    say::text(rt, b" equal:")?;
+    say_held(rt, equals(one, other))
 }
 
 // The next two hubs, and their lines.
-fn case(fd: i32) {
-    let name = say::read_name(fd);
-    let n = words::half(fd) as u32;
-    let one = hub::next(fd, n);
-    let other = hub::next(fd, n);
-    line(&name, one);
-    line(&name, other);
-    compared(&name, one, other);
+fn case(rt: &impl Print, file: &mut impl Read) -> io::Result<()> {
+    let name = say::read_name(file)?;
+    let n = words::half(file)? as u32;
+    let one = hub::next(file, n)?;
+    let other = hub::next(file, n)?;
+    line(rt, &name, one)?;
+    line(rt, &name, other)?;
+    compared(rt, &name, one, other)
 }
 
 // All cases of the file, after their count.
-pub fn play(fd: i32) {
-    let count = words::half(fd);
+pub fn play(rt: &impl Print, file: &mut impl Read) -> io::Result<()> {
+    let count = words::half(file)?;
     for i in 0..count {
-        case(fd);
+        case(rt, file)?;
     }
+    Ok(())
 }

@@ -3,48 +3,49 @@
 // and how many have none, and a digest of all answers.
 use crate::asking;
 use crate::tally::Tally;
+use std::io;
+use std::rt::Files;
 use test_parts::{files, say};
 
 // A file's line.
-fn line(path: &[u8], t: Tally) {
-    say::text(path);
-    say::number(b" sites", t.sites);
-    say::number(b" asked", t.asked);
-    say::number(b" pairs", t.pairs);
-    say::number(b" none", t.none);
-    say::line(b" digest", t.digest);
+fn line(rt: &impl Print, path: &str, t: Tally) -> io::Result<()> {
+    say::text(rt, path.as_bytes())?;
+    say::number(rt, b" sites", t.sites)?;
+    say::number(rt, b" asked", t.asked)?;
+    say::number(rt, b" pairs", t.pairs)?;
+    say::number(rt, b" none", t.none)?;
+    say::line(rt, b" digest", t.digest)
 }
 
 // One file.
-fn case(path: &[u8]) {
-    let fd = files::open(path);
-    let t = asking::file(fd);
-    libc::close(fd);
-    line(path, t);
+fn case(rt: &(impl Files + Print), path: &str) -> io::Result<()> {
+    let mut file = files::open(rt, path)?;
+    let t = asking::file(&mut file)?;
+    line(rt, path, t)
 }
 
-fn documents() {
-    case(b"worked");
-    case(b"questions");
+fn documents(rt: &(impl Files + Print)) -> io::Result<()> {
+    case(rt, "worked")?;
+    case(rt, "questions")
 }
 
 // Every graph of so many radios.
-fn graphs() {
-    case(b"all-4");
-    case(b"all-5");
+fn graphs(rt: &(impl Files + Print)) -> io::Result<()> {
+    case(rt, "all-4")?;
+    case(rt, "all-5")
 }
 
-fn random() {
-    case(b"small");
-    case(b"middle");
-    case(b"regular");
+fn random(rt: &(impl Files + Print)) -> io::Result<()> {
+    case(rt, "small")?;
+    case(rt, "middle")?;
+    case(rt, "regular")
 }
 
-pub fn play() {
-    documents();
-    graphs();
-    random();
+pub fn play(rt: &(impl Files + Print)) -> io::Result<()> {
+    documents(rt)?;
+    graphs(rt)?;
+    random(rt)?;
     // radios with 39 and 40 neighbours
-    case(b"full");
-    case(b"large");
+    case(rt, "full")?;
+    case(rt, "large")
 }

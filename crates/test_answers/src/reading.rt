@@ -1,9 +1,11 @@
 // A file's sites: words of 32 bits, lowest byte first; past the file's end they are 0.
+use std::io;
+use std::io::Read;
 use test_parts::words::word;
 
 // A site: 1 where it begins anew, n, how much of each table is lent, one more than the byte of the links that is spoiled, or 0; the first radio asked
 // for, how far the next one is, how many; and how many entries its list of links has.
-#[derive(Drop)]
+#[derive(Clone, Copy)]
 pub struct Site {
     pub fresh: u32,
     pub n: u32,
@@ -18,17 +20,17 @@ pub struct Site {
 }
 
 // The next site.
-pub fn next_site(fd: i32) -> Site {
-    Site {
-        fresh: word(fd),
-        n: word(fd),
-        links: word(fd) as usize,
-        numbers: word(fd) as usize,
-        order: word(fd) as usize,
-        spoil: word(fd) as usize,
-        start: word(fd),
-        step: word(fd),
-        asked: word(fd),
-        list: word(fd) as usize,
-    }
+pub fn next_site(file: &mut impl Read) -> io::Result<Site> {
+    Ok(Site {
+        fresh: word(file)?,
+        n: word(file)?,
+        links: word(file)? as usize,
+        numbers: word(file)? as usize,
+        order: word(file)? as usize,
+        spoil: word(file)? as usize,
+        start: word(file)?,
+        step: word(file)?,
+        asked: word(file)?,
+        list: word(file)? as usize,
+    })
 }

@@ -3,7 +3,7 @@ use calls::{Pair, Refusal};
 use test_parts::digest;
 
 // How many sites there were, for how many radios was asked, how many of them have a pair, how many none, and the digest of the answers.
-#[derive(Drop)]
+#[derive(Clone, Copy)]
 pub struct Tally {
     pub sites: u64,
     pub asked: u64,

@@ -3,21 +3,24 @@
 // keep their content too. A line for each site: its name, how many calls were made, how many values were compared, and how many were
 // wrong. Of the last one's calls each owes one wrong value on purpose: all must be found.
 use crate::calling;
+use std::io;
+use std::io::Read;
 use test_parts::{say, words};
 
 // The next site, and its line.
-fn site(fd: i32) {
-    say::next_name(fd);
-    let t = calling::site(fd);
-    say::number(b" calls", t.calls);
-    say::number(b" compared", t.compared);
-    say::line(b" wrong", t.wrong);
+fn site(rt: &impl Print, file: &mut impl Read) -> io::Result<()> {
+    say::next_name(rt, file)?;
+    let t = calling::site(file)?;
+    say::number(rt, b" calls", t.calls)?;
+    say::number(rt, b" compared", t.compared)?;
+    say::line(rt, b" wrong", t.wrong)
 }
 
 // All sites of the file, after their count.
-pub fn play(fd: i32) {
-    let count = words::half(fd);
+pub fn play(rt: &impl Print, file: &mut impl Read) -> io::Result<()> {
+    let count = words::half(file)?;
     for i in 0..count {
-        site(fd);
+        site(rt, file)?;
     }
+    Ok(())
 }

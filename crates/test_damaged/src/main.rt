@@ -1,8 +1,11 @@
 // The soundness check on damaged tables: each condition of document 01 broken alone, and then lengths and sizes. Prints a line
 // for each: its name, the refusal number and the value (1 sound, 0 not). Changes that do no damage come last: their verdict must
 // differ from the ones above, which so turn on the damage alone. The expected lines are worked out by oracle/damaged.py.
+#![tactic(auto)]
+
 ghost use Rattle.std.specs.Prelude.{◌<◌};
 
+use std::io;
 use test_parts::say;
 
 // The sound tables of the site.
@@ -19,41 +22,61 @@ fn put_site(links: &mut [u8]) {
 }
 
 // Checks the tables and prints the line.
-fn line(name: &[u8], n: u32, links: &[u8], numbers: &[u8], order: &[u16]) {
+fn line(
+    rt: &impl Print,
+    name: &[u8],
+    n: u32,
+    links: &[u8],
+    numbers: &[u8],
+    order: &[u16],
+) -> io::Result<()> {
     let verdict = soundness::check(n, links, numbers, order);
-    say::number(name, verdict.number as u64);
-    say::end_line(verdict.value as u64);
+    say::number(rt, name, verdict.number as u64)?;
+    say::end_line(rt, verdict.value as u64)
 }
 
 // The site of n radios with these numbers and this order.
-fn say_tables(name: &[u8], n: u32, numbers: &[u8], order: &[u16]) {
+fn say_tables(
+    rt: &impl Print,
+    name: &[u8],
+    n: u32,
+    numbers: &[u8],
+    order: &[u16],
+) -> io::Result<()> {
     let mut links = [0u8; 320];
     put_site(&mut links);
-    line(name, n, &links, numbers, order);
+    line(rt, name, n, &links, numbers, order)
 }
 
 // The site with its own tables, called n radios.
-fn say_size(name: &[u8], n: u32) {
-    say_tables(name, n, &NUMBERS, &ORDER);
+fn say_size(rt: &impl Print, name: &[u8], n: u32) -> io::Result<()> {
+    say_tables(rt, name, n, &NUMBERS, &ORDER)
 }
 
 // The site with another order.
-fn say_order(name: &[u8], order: [u16; 5]) {
-    say_tables(name, 5, &NUMBERS, &order);
+fn say_order(rt: &impl Print, name: &[u8], order: [u16; 5]) -> io::Result<()> {
+    say_tables(rt, name, 5, &NUMBERS, &order)
 }
 
 // The site with other numbers.
-fn say_numbers(name: &[u8], numbers: [u8; 5]) {
-    say_tables(name, 5, &numbers, &ORDER);
+fn say_numbers(rt: &impl Print, name: &[u8], numbers: [u8; 5]) -> io::Result<()> {
+    say_tables(rt, name, 5, &numbers, &ORDER)
 }
 
 // The site with one bit put twice, each time set or cleared.
-fn say_bit(name: &[u8], first: bool, last: bool, a: u32, b: u32) {
+fn say_bit(
+    rt: &impl Print,
+    name: &[u8],
+    first: bool,
+    last: bool,
+    a: u32,
+    b: u32,
+) -> io::Result<()> {
     let mut links = [0u8; 320];
     put_site(&mut links);
     rows::put_bit(&mut links, first, a, b);
     rows::put_bit(&mut links, last, a, b);
-    line(name, 5, &links, &NUMBERS, &ORDER);
+    line(rt, name, 5, &links, &NUMBERS, &ORDER)
 }
 
 // Links radio k to each of the radios below it.
@@ -66,14 +89,22 @@ fn put_star(links: &mut [u8], k: u32) {
 }
 
 // The last of n radios linked to the first k, which stand before it in the order.
-fn say_star(name: &[u8], n: u32, k: u32, links: &mut [u8], numbers: &[u8], order: &mut [u16]) {
+fn say_star(
+    rt: &impl Print,
+    name: &[u8],
+    n: u32,
+    k: u32,
+    links: &mut [u8],
+    numbers: &[u8],
+    order: &mut [u16],
+) -> io::Result<()> {
     put_star(links, k);
     tables::fill::index16(order);
-    line(name, n, links, numbers, order);
+    line(rt, name, n, links, numbers, order)
 }
 
 // The last of k + 1 radios linked to all others, and to itself where `own` is set: its row has k or k + 1 bits.
-fn say_bits(name: &[u8], k: usize, own: bool)
+fn say_bits(rt: &impl Print, name: &[u8], k: usize, own: bool) -> io::Result<()>
     requires { k < 512 }
 {
     let mut links = [0u8; 32768];
@@ -82,79 +113,80 @@ fn say_bits(name: &[u8], k: usize, own: bool)
     let n = k + 1;
     rows::put_bit(&mut links, own, k as u32, k as u32);
     say_star(
+        rt,
         name,
         n as u32,
         k as u32,
         &mut links[..64 * n],
         &numbers[..n],
         &mut order[..n],
-    );
+    )
 }
 
 // At the limit and one past it.
-fn few_bits() {
-    say_bits(b"neighbours-40", 40, false);
-    say_bits(b"neighbours-41", 41, false);
-    say_bits(b"bits-40", 40, false);
-    say_bits(b"bits-41", 41, false);
+fn few_bits(rt: &impl Print) -> io::Result<()> {
+    say_bits(rt, b"neighbours-40", 40, false)?;
+    say_bits(rt, b"neighbours-41", 41, false)?;
+    say_bits(rt, b"bits-40", 40, false)?;
+    say_bits(rt, b"bits-41", 41, false)
 }
 
 // 256 + 32 and 256 + 40 bits are what a byte that wraps takes for few.
-fn many_bits() {
-    say_bits(b"bits-255", 255, false);
-    say_bits(b"bits-256", 256, false);
-    say_bits(b"bits-257", 257, false);
-    say_bits(b"bits-288", 288, false);
-    say_bits(b"bits-296", 296, false);
-    say_bits(b"bits-512", 511, true);
+fn many_bits(rt: &impl Print) -> io::Result<()> {
+    say_bits(rt, b"bits-255", 255, false)?;
+    say_bits(rt, b"bits-256", 256, false)?;
+    say_bits(rt, b"bits-257", 257, false)?;
+    say_bits(rt, b"bits-288", 288, false)?;
+    say_bits(rt, b"bits-296", 296, false)?;
+    say_bits(rt, b"bits-512", 511, true)
 }
 
-fn rows() {
-    say_bit(b"one-sided", true, true, 0, 3);
-    say_bit(b"own-bit", true, true, 0, 0);
-    say_bit(b"bit-at-n", true, true, 0, 5);
-    say_bit(b"bit-at-511", true, true, 4, 511);
-    say_bit(b"bit-lost", false, false, 3, 2);
+fn rows(rt: &impl Print) -> io::Result<()> {
+    say_bit(rt, b"one-sided", true, true, 0, 3)?;
+    say_bit(rt, b"own-bit", true, true, 0, 0)?;
+    say_bit(rt, b"bit-at-n", true, true, 0, 5)?;
+    say_bit(rt, b"bit-at-511", true, true, 4, 511)?;
+    say_bit(rt, b"bit-lost", false, false, 3, 2)
 }
 
-fn orders() {
-    say_order(b"entry-twice", [4, 3, 2, 0, 0]);
-    say_order(b"entry-n", [4, 3, 2, 0, 5]);
-    say_order(b"entry-65535", [65535, 3, 2, 0, 1]);
-    say_order(b"numbers-fall", [3, 4, 2, 0, 1]);
+fn orders(rt: &impl Print) -> io::Result<()> {
+    say_order(rt, b"entry-twice", [4, 3, 2, 0, 0])?;
+    say_order(rt, b"entry-n", [4, 3, 2, 0, 5])?;
+    say_order(rt, b"entry-65535", [65535, 3, 2, 0, 1])?;
+    say_order(rt, b"numbers-fall", [3, 4, 2, 0, 1])
 }
 
-fn numbers() {
-    say_numbers(b"later-too-many", [1, 1, 1, 1, 0]);
-    say_numbers(b"not-enough", [2, 2, 2, 1, 1]);
-    say_numbers(b"number-255", [2, 255, 2, 1, 0]);
+fn numbers(rt: &impl Print) -> io::Result<()> {
+    say_numbers(rt, b"later-too-many", [1, 1, 1, 1, 0])?;
+    say_numbers(rt, b"not-enough", [2, 2, 2, 1, 1])?;
+    say_numbers(rt, b"number-255", [2, 255, 2, 1, 0])
 }
 
-fn sizes() {
-    say_size(b"n-0", 0);
-    say_size(b"n-513", 513);
-    say_size(b"n-4", 4);
+fn sizes(rt: &impl Print) -> io::Result<()> {
+    say_size(rt, b"n-0", 0)?;
+    say_size(rt, b"n-513", 513)?;
+    say_size(rt, b"n-4", 4)
 }
 
-fn lengths() {
-    say_tables(b"short-numbers", 5, &[2, 2, 2, 1], &ORDER);
-    say_tables(b"short-order", 5, &NUMBERS, &[4, 3, 2, 0]);
+fn lengths(rt: &impl Print) -> io::Result<()> {
+    say_tables(rt, b"short-numbers", 5, &[2, 2, 2, 1], &ORDER)?;
+    say_tables(rt, b"short-order", 5, &NUMBERS, &[4, 3, 2, 0])
 }
 
-fn no_damage() {
-    say_bit(b"one-sided-mended", true, false, 0, 3);
-    say_bit(b"bit-at-511-mended", true, false, 4, 511);
-    say_order(b"other-order", [4, 3, 0, 1, 2]);
+fn no_damage(rt: &impl Print) -> io::Result<()> {
+    say_bit(rt, b"one-sided-mended", true, false, 0, 3)?;
+    say_bit(rt, b"bit-at-511-mended", true, false, 4, 511)?;
+    say_order(rt, b"other-order", [4, 3, 0, 1, 2])
 }
 
-fn main() {
-    say_size(b"sound", 5);
-    rows();
-    few_bits();
-    many_bits();
-    orders();
-    numbers();
-    sizes();
-    lengths();
-    no_damage();
+fn main(rt: HostRuntime) -> io::Result<()> {
+    say_size(&rt, b"sound", 5)?;
+    rows(&rt)?;
+    few_bits(&rt)?;
+    many_bits(&rt)?;
+    orders(&rt)?;
+    numbers(&rt)?;
+    sizes(&rt)?;
+    lengths(&rt)?;
+    no_damage(&rt)
 }

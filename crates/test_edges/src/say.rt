@@ -1,60 +1,65 @@
 // What is printed: a word and numbers, a line each.
-use libc::STDOUT_FILENO;
+use std::io;
 
-pub fn word(text: &[u8]) {
-    io::write_all(STDOUT_FILENO, text);
+pub fn word(rt: &impl Print, text: &[u8]) -> io::Result<()> {
+    rt.write_all(text)
 }
 
-pub fn field(x: u32) {
-    io::write_all(STDOUT_FILENO, b" ");
-    io::print_decimal(STDOUT_FILENO, x as u64);
+pub fn field(rt: &impl Print, x: u32) -> io::Result<()> {
+    print!(rt; " {x}")
 }
 
-pub fn end_line() {
-    io::write_all(STDOUT_FILENO, b"\n");
+pub fn end_line(rt: &impl Print) -> io::Result<()> {
+    rt.write_all(b"\n")
 }
 
 // A word and a number.
-pub fn one(text: &[u8], x: u32) {
-    word(text);
-    field(x);
-    end_line();
+pub fn one(rt: &impl Print, text: &[u8], x: u32) -> io::Result<()> {
+    word(rt, text)?;
+    field(rt, x)?;
+    end_line(rt)?;
+    Ok(())
 }
 
 // A word and two numbers.
-pub fn pair(text: &[u8], x: u32, y: u32) {
-    word(text);
-    field(x);
-    field(y);
-    end_line();
+pub fn pair(rt: &impl Print, text: &[u8], x: u32, y: u32) -> io::Result<()> {
+    word(rt, text)?;
+    field(rt, x)?;
+    field(rt, y)?;
+    end_line(rt)?;
+    Ok(())
 }
 
-fn field8(x: u8) {
-    field(x as u32);
+fn field8(rt: &impl Print, x: u8) -> io::Result<()> {
+    field(rt, x as u32)?;
+    Ok(())
 }
 
-fn field16(x: u16) {
-    field(x as u32);
+fn field16(rt: &impl Print, x: u16) -> io::Result<()> {
+    field(rt, x as u32)?;
+    Ok(())
 }
 
 // All numbers of a table.
-pub fn numbers(text: &[u8], s: &[u8]) {
-    word(text);
+pub fn numbers(rt: &impl Print, text: &[u8], s: &[u8]) -> io::Result<()> {
+    word(rt, text)?;
     let mut i: usize = 0;
     while i < s.len() {
-        field8(s[i]);
+        field8(rt, s[i])?;
         i += 1;
     }
-    end_line();
+    end_line(rt)?;
+    Ok(())
 }
 
 // All radios of a table.
-pub fn radios(text: &[u8], s: &[u16]) {
-    word(text);
+pub fn radios(rt: &impl Print, text: &[u8], s: &[u16]) -> io::Result<()> {
+    word(rt, text)?;
     let mut i: usize = 0;
     while i < s.len() {
-        field16(s[i]);
+        field16(rt, s[i])?;
         i += 1;
     }
-    end_line();
+    end_line(rt)?;
+    Ok(())
 }

@@ -3,6 +3,7 @@ ghost use Rattle.std.specs.Prelude.{◌≤◌};
 
 use super::{pictures, say};
 use calls::Reply;
+use std::io;
 
 // The shapes of a site: no link, a line of all radios, all linked.
 const NONE: u32 = 0;
@@ -37,12 +38,12 @@ fn before(n: u32) -> u32 {
 }
 
 // Prints the answer of a link call: number, whether the step is +1, count.
-fn say_reply(reply: Reply) {
-    say::word(b"up");
-    say::field(reply.number);
-    say::field((reply.step == 1) as u32);
-    say::field(reply.count);
-    say::end_line();
+fn say_reply(rt: &impl Print, reply: Reply) -> io::Result<()> {
+    say::word(rt, b"up")?;
+    say::field(rt, reply.number)?;
+    say::field(rt, (reply.step == 1) as u32)?;
+    say::field(rt, reply.count)?;
+    say::end_line(rt)
 }
 
 // Takes up the links of radio a to the radios from b on, below `end`.
@@ -95,47 +96,56 @@ fn link_all(
 
 // The answers of a site whose tables have their lengths.
 fn link_up_all(
+    rt: &impl Print,
     shape: u32,
     n: u32,
     links: &mut [u8],
     numbers: &mut [u8],
     order: &mut [u16],
     answer: &mut [u16],
-) {
-    say::one(b"clear", tables::clear::clear(n, links, numbers, order));
+) -> io::Result<()> {
+    say::one(rt, b"clear", tables::clear::clear(n, links, numbers, order))?;
     link_all(shape, n, links, numbers, order, answer);
     let reply = links::link::link(true, n, 0, before(n), links, numbers, order, answer);
-    say_reply(reply);
+    say_reply(rt, reply)
 }
 
 // Prints the verdict, the tables and the image.
-fn say_site(n: u32, links: &[u8], numbers: &[u8], order: &[u16], answer: &[u16]) {
+fn say_site(
+    rt: &impl Print,
+    n: u32,
+    links: &[u8],
+    numbers: &[u8],
+    order: &[u16],
+    answer: &[u16],
+) -> io::Result<()> {
     let verdict = soundness::check(n, links, numbers, order);
-    say::pair(b"check", verdict.number, verdict.value);
-    say::numbers(b"numbers", numbers);
-    say::radios(b"order", order);
-    say::radios(b"answer", answer);
-    pictures::write_all(n, links, numbers, order);
+    say::pair(rt, b"check", verdict.number, verdict.value)?;
+    say::numbers(rt, b"numbers", numbers)?;
+    say::radios(rt, b"order", order)?;
+    say::radios(rt, b"answer", answer)?;
+    pictures::write_all(rt, n, links, numbers, order)
 }
 
 // The site, on tables that are cut to its lengths.
 fn play(
+    rt: &impl Print,
     shape: u32,
     n: u32,
     links: &mut [u8],
     numbers: &mut [u8],
     order: &mut [u16],
     answer: &mut [u16],
-) {
-    link_up_all(shape, n, links, numbers, order, answer);
-    say_site(n, links, numbers, order, answer);
+) -> io::Result<()> {
+    link_up_all(rt, shape, n, links, numbers, order, answer)?;
+    say_site(rt, n, links, numbers, order, answer)
 }
 
 // Plays a site of n radios and prints it.
-fn run(name: &[u8], shape: u32, n: u32) {
-    say::word(name);
-    say::field(n);
-    say::end_line();
+fn run(rt: &impl Print, name: &[u8], shape: u32, n: u32) -> io::Result<()> {
+    say::word(rt, name)?;
+    say::field(rt, n)?;
+    say::end_line(rt)?;
     let many = least(n as usize, ENTRIES);
     let bytes = 64 * many;
     let mut links = [0u8; LINKS];
@@ -143,23 +153,24 @@ fn run(name: &[u8], shape: u32, n: u32) {
     let mut order = [0u16; ENTRIES];
     let mut answer = [RADIO; ENTRIES];
     play(
+        rt,
         shape,
         n,
         &mut links[..bytes],
         &mut numbers[..many],
         &mut order[..many],
         &mut answer[..many],
-    );
+    )
 }
 
-pub fn none(n: u32) {
-    run(b"none", NONE, n);
+pub fn none(rt: &impl Print, n: u32) -> io::Result<()> {
+    run(rt, b"none", NONE, n)
 }
 
-pub fn line(n: u32) {
-    run(b"line", LINE, n);
+pub fn line(rt: &impl Print, n: u32) -> io::Result<()> {
+    run(rt, b"line", LINE, n)
 }
 
-pub fn all(n: u32) {
-    run(b"all", ALL, n);
+pub fn all(rt: &impl Print, n: u32) -> io::Result<()> {
+    run(rt, b"all", ALL, n)
 }

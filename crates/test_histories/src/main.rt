@@ -2,6 +2,8 @@
 // number, the step, the count, every entry of the lent tables and the verdict on soundness are compared. Some calls are refused on
 // purpose, some are put to spoiled tables. Prints for each history how many calls got which answer, how many differ, and how many
 // of 11 expectations that are wrong on purpose are found. What is printed is worked out by oracle/histories.py.
+#![tactic(auto)]
+
 mod canaries;
 mod engine;
 mod pairs;
@@ -10,22 +12,23 @@ mod play;
 mod trouble;
 
 use picking::Plan;
+use std::io;
 use test_parts::say;
 
-fn end_line() {
-    say::text(b"\n");
+fn end_line(rt: &impl Print) -> io::Result<()> {
+    say::text(rt, b"\n")
 }
 
 // Prints a line: a name, a number, then the counts.
-fn line(name: &[u8], n: u32, counts: &play::Counts) {
-    say::text(name);
-    say::field(n as u64);
+fn line(rt: &impl Print, name: &[u8], n: u32, counts: &play::Counts) -> io::Result<()> {
+    say::text(rt, name)?;
+    say::field(rt, n as u64)?;
     let mut i: usize = 0;
     while i < play::KINDS {
-        say::field(counts[i]);
+        say::field(rt, counts[i])?;
         i += 1;
     }
-    end_line();
+    end_line(rt)
 }
 
 // Adds a history's counts to the sums of all.
@@ -39,11 +42,12 @@ fn add_up(counts: &play::Counts, sums: &mut play::Counts) {
 }
 
 // Plays a history and prints its counts.
-fn history(name: &[u8], plan: Plan, sums: &mut play::Counts) {
+fn history(rt: &impl Print, name: &[u8], plan: Plan, sums: &mut play::Counts) -> io::Result<()> {
     let mut counts = [0u64; play::KINDS];
     play::play(plan, &mut counts);
-    line(name, plan.n, &counts);
+    line(rt, name, plan.n, &counts)?;
     add_up(&counts, sums);
+    Ok(())
 }
 
 fn least(x: u32, y: u32) -> u32 {
@@ -56,7 +60,14 @@ fn least(x: u32, y: u32) -> u32 {
 // The three histories of n radios. Sparse: about as many links go down as up, and four neighbours are enough. Dense: many links among
 // at most 48 radios, up to the 40 neighbours that a radio may have, and beyond. Clique: of m radios, so far as 40 neighbours allow,
 // built and torn down: m times m pairs are asked for, twice.
-fn site(n: u32, calls: u32, m: u32, pairs: u32, sums: &mut play::Counts) {
+fn site(
+    rt: &impl Print,
+    n: u32,
+    calls: u32,
+    m: u32,
+    pairs: u32,
+    sums: &mut play::Counts,
+) -> io::Result<()> {
     let sparse = Plan {
         pairs: 0,
         group: 0,
@@ -68,7 +79,7 @@ fn site(n: u32, calls: u32, m: u32, pairs: u32, sums: &mut play::Counts) {
         calls,
         seed: 88172645463325252,
     };
-    history(b"sparse", sparse, sums);
+    history(rt, b"sparse", sparse, sums)?;
     let dense = Plan {
         pairs: 0,
         group: 0,
@@ -80,7 +91,7 @@ fn site(n: u32, calls: u32, m: u32, pairs: u32, sums: &mut play::Counts) {
         calls,
         seed: 362436069521288629,
     };
-    history(b"dense", dense, sums);
+    history(rt, b"dense", dense, sums)?;
     let clique = Plan {
         pairs,
         group: 0,
@@ -92,22 +103,30 @@ fn site(n: u32, calls: u32, m: u32, pairs: u32, sums: &mut play::Counts) {
         calls: std::num::wrapping_add_u32(pairs, pairs),
         seed: 123456789123456789,
     };
-    history(b"clique", clique, sums);
+    history(rt, b"clique", clique, sums)
 }
 
 // The sites, with how many calls are made, of how many radios the clique is, and how many pairs are asked for.
-fn sites(sums: &mut play::Counts) {
-    site(1, 500, 1, 1, sums);
-    site(2, 1000, 2, 4, sums);
-    site(41, 1800, 41, 1681, sums);
-    site(42, 1800, 42, 1764, sums);
-    site(64, 1800, 42, 1764, sums);
-    site(253, 800, 16, 256, sums);
-    site(512, 800, 16, 256, sums);
+fn sites(rt: &impl Print, sums: &mut play::Counts) -> io::Result<()> {
+    site(rt, 1, 500, 1, 1, sums)?;
+    site(rt, 2, 1000, 2, 4, sums)?;
+    site(rt, 41, 1800, 41, 1681, sums)?;
+    site(rt, 42, 1800, 42, 1764, sums)?;
+    site(rt, 64, 1800, 42, 1764, sums)?;
+    site(rt, 253, 800, 16, 256, sums)?;
+    site(rt, 512, 800, 16, 256, sums)
 }
 
 // A history of n radios in groups, asked for n times the reach pairs, both ways, with 200 links from the first in the order to others after.
-fn groups(name: &[u8], n: u32, group: u32, reach: u32, pairs: u32, sums: &mut play::Counts) {
+fn groups(
+    rt: &impl Print,
+    name: &[u8],
+    n: u32,
+    group: u32,
+    reach: u32,
+    pairs: u32,
+    sums: &mut play::Counts,
+) -> io::Result<()> {
     let plan = Plan {
         pairs,
         group,
@@ -119,23 +138,24 @@ fn groups(name: &[u8], n: u32, group: u32, reach: u32, pairs: u32, sums: &mut pl
         calls: std::num::wrapping_add_u32(std::num::wrapping_add_u32(pairs, pairs), 200),
         seed: 521288629362436069,
     };
-    history(name, plan, sums);
+    history(rt, name, plan, sums)
 }
 
 // Groups: where the first in the order is an end, most radios of its level cannot change.
-fn all_groups(sums: &mut play::Counts) {
-    groups(b"pairs", 512, 2, 1, 512, sums);
-    groups(b"paths", 126, 3, 1, 126, sums);
-    groups(b"triangles", 126, 3, 2, 252, sums);
-    groups(b"cliques", 128, 4, 3, 384, sums);
+fn all_groups(rt: &impl Print, sums: &mut play::Counts) -> io::Result<()> {
+    groups(rt, b"pairs", 512, 2, 1, 512, sums)?;
+    groups(rt, b"paths", 126, 3, 1, 126, sums)?;
+    groups(rt, b"triangles", 126, 3, 2, 252, sums)?;
+    groups(rt, b"cliques", 128, 4, 3, 384, sums)
 }
 
-fn main() {
+fn main(rt: HostRuntime) -> io::Result<()> {
     let mut sums = [0u64; play::KINDS];
     say::text(
+        &rt,
         b"history radios: accepted, refused by 1 to 7, changed radios, calls, differences, canaries\n",
-    );
-    sites(&mut sums);
-    all_groups(&mut sums);
-    line(b"all", 0, &sums);
+    )?;
+    sites(&rt, &mut sums)?;
+    all_groups(&rt, &mut sums)?;
+    line(&rt, b"all", 0, &sums)
 }

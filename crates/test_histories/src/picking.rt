@@ -8,7 +8,7 @@ use test_parts::random;
 // calls go up. Where `pairs` is not 0 but m times m, all links between the m radios go up, each asked both ways, and then down. Where `group`
 // is not 0, the radios stand in groups of so many: each is linked with the next `reach` of its group, asked both ways, and then the first in
 // the order with others; `pairs` is then n times the reach.
-#[derive(Drop)]
+#[derive(Clone, Copy)]
 pub struct Plan {
     pub pairs: u32,
     pub group: u32,
@@ -22,7 +22,7 @@ pub struct Plan {
 }
 
 // Two radios, which way, and the random number to go on from.
-#[derive(Drop)]
+#[derive(Clone, Copy)]
 pub struct Picked {
     pub up: bool,
     pub a: u32,

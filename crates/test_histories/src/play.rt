@@ -64,7 +64,7 @@ fn spoil(
 }
 
 // The engine's reply, and whether spoiled tables were found out; of a compared call, whether all is as expected.
-#[derive(Drop)]
+#[derive(Clone, Copy)]
 struct Answer {
     reply: Reply,
     fine: bool,

@@ -5,7 +5,7 @@ use test_parts::random;
 
 // What is wrong with a call, where the kind is from 1 to 14: one entry of links, numbers or order is spoiled (1 to 3), n is 0, 513
 // or one more (4 to 6), a table is one entry short (7 to 10) or long (11 to 14). One place more in the answer table is no trouble.
-#[derive(Drop)]
+#[derive(Clone, Copy)]
 pub struct Trouble {
     pub kind: u32,
     pub place: usize,

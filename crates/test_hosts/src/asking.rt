@@ -1,5 +1,4 @@
-// The shell tree in a list of nodes of its own, whose fields are handed on as words. A function with a reference to structs is
-// proved by hand, and this file has the only one here.
+// The shell tree in a list of nodes of its own, whose fields are handed on as words.
 ghost use Rattle.std.specs.Prelude.{◌≤◌};
 
 use calls::Value;

@@ -1,6 +1,7 @@
 // Each exported call, by the number that a file gives it, with its answer printed.
 use crate::reading::Call;
 use crate::{asking, say};
+use std::io;
 use summerbugle::{
     sb_commit_down, sb_commit_up, sb_link_down, sb_link_up, sb_mark_remove, sb_mark_return,
     sb_mark_set,
@@ -69,61 +70,100 @@ pub fn prints(kind: u32) -> bool {
 }
 
 // A question about a site, which writes no table.
-fn ask<'a>(call: Call, links: &'a [u8], numbers: &'a [u8], order: &'a [u16]) {
+fn ask<'a>(
+    rt: &impl Print,
+    call: Call,
+    links: &'a [u8],
+    numbers: &'a [u8],
+    order: &'a [u16],
+) -> io::Result<()> {
     let n = call.n;
     let a = call.a;
     let b = call.b;
     let kind = call.kind;
     match kind {
-        CHECK => say::value(summerbugle::sb_check(n, links, numbers, order)),
-        NUMBER => say::value(summerbugle::sb_number(n, a, links, numbers, order)),
-        NEIGHBOURS => say::value(summerbugle::sb_neighbours(n, a, links, numbers, order)),
-        LINKED => say::value(summerbugle::sb_linked(n, a, b, links, numbers, order)),
-        FIRST => say::value(summerbugle::sb_first(n, a, b, links, numbers, order)),
-        LATER_OF => say::later(summerbugle::sb_later_of(n, a, links, numbers, order)),
+        CHECK => say::value(rt, summerbugle::sb_check(n, links, numbers, order))?,
+        NUMBER => say::value(rt, summerbugle::sb_number(n, a, links, numbers, order))?,
+        NEIGHBOURS => say::value(rt, summerbugle::sb_neighbours(n, a, links, numbers, order))?,
+        LINKED => say::value(rt, summerbugle::sb_linked(n, a, b, links, numbers, order))?,
+        FIRST => say::value(rt, summerbugle::sb_first(n, a, b, links, numbers, order))?,
+        LATER_OF => say::later(rt, summerbugle::sb_later_of(n, a, links, numbers, order))?,
         _ => {}
     }
+    Ok(())
 }
 
 // A question about a site that lists radios or links. For a tree the list of nodes has `room` places; the fields of all places, lent or not,
 // come back.
 fn list<'a>(
+    rt: &impl Print,
     call: Call,
     links: &'a [u8],
     numbers: &'a [u8],
     order: &'a [u16],
     answer: &mut [u16],
     fields: &mut [u16],
-) {
+) -> io::Result<()> {
     let n = call.n;
     let a = call.a;
     let b = call.b;
     let kind = call.kind;
     let room = call.room;
     match kind {
-        CORE => say::value(summerbugle::sb_core(n, a, b, links, numbers, order, answer)),
-        BACKBONE => say::value(summerbugle::sb_backbone(n, links, numbers, order, answer)),
-        TREE => say::value(asking::ask_within(n, links, numbers, order, room, answer, fields)),
-        STAIRCASE => say::value(summerbugle::sb_staircase(n, links, numbers, order, fields)),
-        ASK_UP => say::reply(summerbugle::sb_ask_up(n, a, b, links, numbers, order, fields)),
-        ASK_DOWN => say::reply(summerbugle::sb_ask_down(n, a, b, links, numbers, order, fields)),
+        CORE => say::value(
+            rt,
+            summerbugle::sb_core(n, a, b, links, numbers, order, answer),
+        )?,
+        BACKBONE => say::value(
+            rt,
+            summerbugle::sb_backbone(n, links, numbers, order, answer),
+        )?,
+        TREE => say::value(
+            rt,
+            asking::ask_within(n, links, numbers, order, room, answer, fields),
+        )?,
+        STAIRCASE => say::value(
+            rt,
+            summerbugle::sb_staircase(n, links, numbers, order, fields),
+        )?,
+        ASK_UP => say::reply(
+            rt,
+            summerbugle::sb_ask_up(n, a, b, links, numbers, order, fields),
+        )?,
+        ASK_DOWN => say::reply(
+            rt,
+            summerbugle::sb_ask_down(n, a, b, links, numbers, order, fields),
+        )?,
         _ => {}
     }
+    Ok(())
 }
 
 // A call that writes the buffer, and the one that tells of its blocks. The number of the next block has 64 bits: a has the higher ones.
-fn store(call: Call, links: &[u8], numbers: &[u8], order: &[u16], name: &[u8], buffer: &mut [u8]) {
+fn store(
+    rt: &impl Print,
+    call: Call,
+    links: &[u8],
+    numbers: &[u8],
+    order: &[u16],
+    name: &[u8],
+    buffer: &mut [u8],
+) -> io::Result<()> {
     let n = call.n;
     let next = call.a as usize * 4294967296 + call.b as usize;
     let kind = call.kind;
     match kind {
-        IMAGE_WRITE => say::value(summerbugle::sb_image_write(n, links, numbers, order, buffer)),
-        SHEET => say::value(summerbugle::sb_sheet(n, links, numbers, order, buffer)),
-        IMAGE_BLOCK => say::block(summerbugle::sb_image_block(buffer, next)),
-        MARK_SET => say::number(sb_mark_set(n, links, numbers, order, name, buffer)),
-        MARK_REMOVE => say::number(sb_mark_remove(n, links, numbers, order, name, buffer)),
+        IMAGE_WRITE => say::value(
+            rt,
+            summerbugle::sb_image_write(n, links, numbers, order, buffer),
+        )?,
+        SHEET => say::value(rt, summerbugle::sb_sheet(n, links, numbers, order, buffer))?,
+        IMAGE_BLOCK => say::block(rt, summerbugle::sb_image_block(buffer, next))?,
+        MARK_SET => say::number(rt, sb_mark_set(n, links, numbers, order, name, buffer))?,
+        MARK_REMOVE => say::number(rt, sb_mark_remove(n, links, numbers, order, name, buffer))?,
         _ => {}
     }
+    Ok(())
 }
 
 // The step that a word says: below 128 itself, 128 stands for -128, and what is above it for -1.
@@ -139,13 +179,14 @@ fn step_of(x: usize) -> i8 {
 
 // A call of one link: made, or committed as proposed, with the step that `room` says.
 fn link(
+    rt: &impl Print,
     call: Call,
     links: &mut [u8],
     numbers: &mut [u8],
     order: &mut [u16],
     answer: &mut [u16],
     list: &[u16],
-) {
+) -> io::Result<()> {
     let n = call.n;
     let a = call.a;
     let b = call.b;
@@ -153,16 +194,25 @@ fn link(
     let said = call.said;
     let step = step_of(call.room);
     match kind {
-        LINK_UP => say::link(said, sb_link_up(n, a, b, links, numbers, order, answer)),
-        LINK_DOWN => say::link(said, sb_link_down(n, a, b, links, numbers, order, answer)),
-        COMMIT_UP => say::reply(sb_commit_up(n, a, b, step, links, numbers, order, list)),
-        COMMIT_DOWN => say::reply(sb_commit_down(n, a, b, step, links, numbers, order, list)),
+        LINK_UP => say::link(rt, said, sb_link_up(n, a, b, links, numbers, order, answer))?,
+        LINK_DOWN => say::link(
+            rt,
+            said,
+            sb_link_down(n, a, b, links, numbers, order, answer),
+        )?,
+        COMMIT_UP => say::reply(rt, sb_commit_up(n, a, b, step, links, numbers, order, list))?,
+        COMMIT_DOWN => say::reply(
+            rt,
+            sb_commit_down(n, a, b, step, links, numbers, order, list),
+        )?,
         _ => {}
     }
+    Ok(())
 }
 
 // A call that sets the site's tables, or takes many links.
 fn set(
+    rt: &impl Print,
     call: Call,
     links: &mut [u8],
     numbers: &mut [u8],
@@ -170,21 +220,36 @@ fn set(
     list: &[u16],
     heard: &[u8],
     buffer: &mut [u8],
-) {
+) -> io::Result<()> {
     let n = call.n;
     let kind = call.kind;
     match kind {
-        CLEAR => say::cleared(call.said, summerbugle::sb_clear(n, links, numbers, order)),
-        LINK_BATCH => say::value(summerbugle::sb_link_batch(n, links, numbers, order, list)),
-        HEAR => say::value(summerbugle::sb_hear(n, links, numbers, order, heard, buffer)),
-        IMAGE_READ => say::number(summerbugle::sb_image_read(n, links, numbers, order, buffer)),
-        MARK_RETURN => say::number(sb_mark_return(n, links, numbers, order, heard, buffer)),
+        CLEAR => say::cleared(
+            rt,
+            call.said,
+            summerbugle::sb_clear(n, links, numbers, order),
+        )?,
+        LINK_BATCH => say::value(
+            rt,
+            summerbugle::sb_link_batch(n, links, numbers, order, list),
+        )?,
+        HEAR => say::value(
+            rt,
+            summerbugle::sb_hear(n, links, numbers, order, heard, buffer),
+        )?,
+        IMAGE_READ => say::number(
+            rt,
+            summerbugle::sb_image_read(n, links, numbers, order, buffer),
+        )?,
+        MARK_RETURN => say::number(rt, sb_mark_return(n, links, numbers, order, heard, buffer))?,
         _ => {}
     }
+    Ok(())
 }
 
 // A call that only reads the site's tables. The name of a mark stands in the heard table.
 fn look<'a>(
+    rt: &impl Print,
     call: Call,
     links: &'a [u8],
     numbers: &'a [u8],
@@ -193,14 +258,15 @@ fn look<'a>(
     fields: &mut [u16],
     heard: &[u8],
     buffer: &mut [u8],
-) {
-    ask(call, links, numbers, order);
-    list(call, links, numbers, order, answer, fields);
-    store(call, links, numbers, order, heard, buffer);
+) -> io::Result<()> {
+    ask(rt, call, links, numbers, order)?;
+    list(rt, call, links, numbers, order, answer, fields)?;
+    store(rt, call, links, numbers, order, heard, buffer)
 }
 
 // Makes the call on the lent parts: of these functions one has its kind.
 pub fn put(
+    rt: &impl Print,
     call: Call,
     links: &mut [u8],
     numbers: &mut [u8],
@@ -209,8 +275,10 @@ pub fn put(
     fields: &mut [u16],
     heard: &[u8],
     buffer: &mut [u8],
-) {
-    look(call, links, numbers, order, answer, fields, heard, buffer);
-    link(call, links, numbers, order, answer, fields);
-    set(call, links, numbers, order, fields, heard, buffer);
+) -> io::Result<()> {
+    look(
+        rt, call, links, numbers, order, answer, fields, heard, buffer,
+    )?;
+    link(rt, call, links, numbers, order, answer, fields)?;
+    set(rt, call, links, numbers, order, fields, heard, buffer)
 }

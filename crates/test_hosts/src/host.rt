@@ -1,6 +1,8 @@
 // The host: its tables, the calls on them, and what it prints after each.
 use crate::reading::{Call, Sizes};
 use crate::{asking, calling, changing, reading};
+use std::io;
+use std::io::Read;
 use test_parts::{digest, say, words};
 
 // Room for two radios more than a site may have.
@@ -73,6 +75,7 @@ fn spoil(
 
 // Lends the front of each table.
 fn lend(
+    rt: &impl Print,
     call: Call,
     links: &mut [u8],
     numbers: &mut [u8],
@@ -81,7 +84,7 @@ fn lend(
     fields: &mut [u16],
     heard: &[u8],
     buffer: &mut [u8],
-) {
+) -> io::Result<()> {
     let i = tables::fill::least(call.links, links.len());
     let j = tables::fill::least(call.numbers, numbers.len());
     let k = tables::fill::least(call.order, order.len());
@@ -90,6 +93,7 @@ fn lend(
     let h = tables::fill::least(call.heard, heard.len());
     let m = tables::fill::least(call.room, buffer.len());
     calling::put(
+        rt,
         call,
         &mut links[..i],
         &mut numbers[..j],
@@ -98,7 +102,7 @@ fn lend(
         &mut fields[..f],
         &heard[..h],
         &mut buffer[..m],
-    );
+    )
 }
 
 // Fills what a call is to write.
@@ -137,6 +141,7 @@ fn digest_of(
 
 // Makes the call, or other hands change a table, and ends the line. Comes back with 1 where the digest shows what other hands did.
 fn line(
+    rt: &impl Print,
     call: Call,
     links: &mut Links,
     numbers: &mut Numbers,
@@ -145,23 +150,26 @@ fn line(
     fields: &mut Fields,
     heard: &Links,
     buffer: &mut Buffer,
-) -> u32 {
+) -> io::Result<u32> {
     if call.kind < SPOIL_LINKS || COPY_PLACE < call.kind {
-        lend(call, links, numbers, order, answer, fields, heard, buffer);
+        lend(
+            rt, call, links, numbers, order, answer, fields, heard, buffer,
+        )?;
         let h = digest_of(call, links, numbers, order, answer, fields, heard, buffer);
-        say::end_line(h);
-        return 0;
+        say::end_line(rt, h)?;
+        return Ok(0);
     }
     let h = digest_of(call, links, numbers, order, answer, fields, heard, buffer);
     spoil(call, links, numbers, order, answer, fields, buffer);
     let after = digest_of(call, links, numbers, order, answer, fields, heard, buffer);
-    say::end_line(after);
-    (h != after) as u32
+    say::end_line(rt, after)?;
+    Ok((h != after) as u32)
 }
 
 // The next call of the file.
 fn one(
-    fd: i32,
+    rt: &impl Print,
+    file: &mut impl Read,
     sizes: Sizes,
     links: &mut Links,
     numbers: &mut Numbers,
@@ -169,14 +177,15 @@ fn one(
     fields: &mut Fields,
     heard: &mut Links,
     buffer: &mut Buffer,
-) -> u32 {
+) -> io::Result<u32> {
     let mut answer = [KEPT; asking::PLACES];
-    say::next_name(fd);
-    let call = reading::next_call(fd, sizes);
-    words::entries(fd, call.entries, fields);
-    reading::flips(fd, call.changes, heard);
+    say::next_name(rt, file)?;
+    let call = reading::next_call(file, sizes)?;
+    words::entries(file, call.entries, fields)?;
+    reading::flips(file, call.changes, heard)?;
     refill(call.kind, fields, buffer);
     line(
+        rt,
         call,
         links,
         numbers,
@@ -190,7 +199,8 @@ fn one(
 
 // All calls of the file, after their count. Comes back with how many changes of other hands the digest showed.
 fn all(
-    fd: i32,
+    rt: &impl Print,
+    file: &mut impl Read,
     sizes: Sizes,
     links: &mut Links,
     numbers: &mut Numbers,
@@ -198,19 +208,21 @@ fn all(
     fields: &mut Fields,
     heard: &mut Links,
     buffer: &mut Buffer,
-) -> u32 {
-    let count = words::word(fd);
+) -> io::Result<u32> {
+    let count = words::word(file)?;
     let mut seen: u32 = 0;
     for i in 0..count {
-        let more = one(fd, sizes, links, numbers, order, fields, heard, buffer);
+        let more = one(
+            rt, file, sizes, links, numbers, order, fields, heard, buffer,
+        )?;
         seen = std::num::wrapping_add_u32(seen, more);
     }
-    seen
+    Ok(seen)
 }
 
 // Plays the file, and prints how many changes of other hands the digest showed.
-pub fn play(fd: i32) {
-    let sizes = reading::next_sizes(fd);
+pub fn play(rt: &impl Print, file: &mut impl Read) -> io::Result<()> {
+    let sizes = reading::next_sizes(file)?;
     let mut links = [BYTE; LINKS];
     let mut numbers = [BYTE; ENTRIES];
     let mut order = [KEPT; ENTRIES];
@@ -218,7 +230,8 @@ pub fn play(fd: i32) {
     let mut heard = [0; LINKS];
     let mut buffer = [(sizes.byte % 256) as u8; BUFFER];
     let seen = all(
-        fd,
+        rt,
+        file,
         sizes,
         &mut links,
         &mut numbers,
@@ -226,6 +239,6 @@ pub fn play(fd: i32) {
         &mut fields,
         &mut heard,
         &mut buffer,
-    );
-    say::line(b"canaries", seen as u64);
+    )?;
+    say::line(rt, b"canaries", seen as u64)
 }

@@ -3,6 +3,8 @@
 // entries past a lent part and tables that the call only reads are in it too. Between the calls other hands change the tables where the
 // file says so. Calls and expected lines are worked out by oracle/exports.py, oracle/marks.py, oracle/batches.py and oracle/heard.py;
 // oracle/hosts.py writes them.
+#![tactic(auto)]
+
 mod asking;
 mod calling;
 mod changing;
@@ -10,17 +12,18 @@ mod host;
 mod reading;
 mod say;
 
+use std::io;
+use std::rt::Files;
 use test_parts::files;
 
-fn play(path: &[u8]) {
-    let fd = files::open(path);
-    host::play(fd);
-    libc::close(fd);
+fn play(rt: &(impl Files + Print), path: &str) -> io::Result<()> {
+    let mut file = files::open(rt, path)?;
+    host::play(rt, &mut file)
 }
 
-fn main() {
-    play(b"exports");
-    play(b"marks");
-    play(b"batches");
-    play(b"hearings");
+fn main(rt: HostRuntime) -> io::Result<()> {
+    play(&rt, "exports")?;
+    play(&rt, "marks")?;
+    play(&rt, "batches")?;
+    play(&rt, "hearings")
 }

@@ -2,6 +2,7 @@
 use super::reading::Outcome;
 use super::tally::Tally;
 use super::{changed, lines, parts, reading, tally};
+use std::io;
 use test_parts::digest;
 
 // How a byte is changed: below 256 so much is added to it modulo 256; every bit flipped; swapped with the next but one, which
@@ -72,13 +73,13 @@ fn try_all(how: u32, mended: bool, good: &[u8]) -> Tally {
 
 // Changes every byte of an image of 5 radios and 3 blocks, and prints the line: how, whether checks were mended, how often 0, 10,
 // 11 and any other number came, how often a refusal changed a table, and the digest.
-fn try_line(how: u32, mended: bool, good: &[u8]) {
-    lines::begin(b"change", &[how as u64, lines::yes(mended)]);
-    tally::end_line(try_all(how, mended, good));
+fn try_line(rt: &impl Print, how: u32, mended: bool, good: &[u8]) -> io::Result<()> {
+    lines::begin(rt, b"change", &[how as u64, lines::yes(mended)])?;
+    tally::end_line(rt, try_all(how, mended, good))
 }
 
 // Both lines of a change.
-pub(crate) fn try_change(how: u32, good: &[u8]) {
-    try_line(how, false, good);
-    try_line(how, true, good);
+pub(crate) fn try_change(rt: &impl Print, how: u32, good: &[u8]) -> io::Result<()> {
+    try_line(rt, how, false, good)?;
+    try_line(rt, how, true, good)
 }

@@ -1,5 +1,6 @@
 // An image that differs from a good one in the neighbours of one radio alone.
 use super::{changed, parts, reading, sites, sizes, writing};
+use std::io;
 
 // Radio k + 1 linked to the k radios below k, and radio k to k + 2: all numbers are 1.
 fn image_of(k: u32, many: usize) -> writing::Buffer {
@@ -19,9 +20,9 @@ fn changed_image(k: u32, many: usize) -> changed::Image {
 }
 
 // Reads the changed image, with the n around too.
-pub(crate) fn try_neighbours(k: u32) {
+pub(crate) fn try_neighbours(rt: &impl Print, k: u32) -> io::Result<()> {
     let many = (k % 1024) as usize + 3;
     let image = changed_image(k, many);
-    reading::try_read(many as u32, 64 * many, many, many, &image);
-    sizes::try_around(many as u32, &image);
+    reading::try_read(rt, many as u32, 64 * many, many, many, &image)?;
+    sizes::try_around(rt, many as u32, &image)
 }

@@ -3,6 +3,7 @@ use super::sites::{Links, Numbers, Order};
 use super::{lines, parts, pattern, writing};
 use image_reader::reader;
 use mesh::Site;
+use std::io;
 use test_parts::digest;
 
 // The bytes of the largest links table.
@@ -13,7 +14,7 @@ pub(crate) const RADIOS: usize = Site::RADIOS as usize;
 
 // What a reading left: the refusal number, whether every table kept its content, whether the tables give the image again, byte for byte,
 // and their digest.
-#[derive(Drop)]
+#[derive(Clone, Copy)]
 pub(crate) struct Outcome {
     pub(crate) number: u32,
     pub(crate) kept: bool,
@@ -32,7 +33,7 @@ fn seen(n: u32, number: u32, links: &[u8], numbers: &[u8], order: &[u16], image:
 }
 
 // How much of each table is lent: bytes of rows, and entries.
-#[derive(Drop)]
+#[derive(Clone, Copy)]
 struct Lengths {
     rows: usize,
     radios: usize,
@@ -92,9 +93,17 @@ pub(crate) fn is_broken(r: Outcome) -> bool {
 
 // Reads, and prints the line: n, the lengths of the tables and of the image, the number, whether every table kept its content,
 // and the tables' digest.
-pub(crate) fn try_read(n: u32, rows: usize, radios: usize, entries: usize, image: &[u8]) {
+pub(crate) fn try_read(
+    rt: &impl Print,
+    n: u32,
+    rows: usize,
+    radios: usize,
+    entries: usize,
+    image: &[u8],
+) -> io::Result<()> {
     let r = read(n, rows, radios, entries, image);
     lines::begin(
+        rt,
         b"read",
         &[
             n as u64,
@@ -103,8 +112,8 @@ pub(crate) fn try_read(n: u32, rows: usize, radios: usize, entries: usize, image
             entries as u64,
             image.len() as u64,
         ],
-    );
-    lines::end(&[r.number as u64, lines::yes(r.kept), r.digest]);
+    )?;
+    lines::end(rt, &[r.number as u64, lines::yes(r.kept), r.digest])
 }
 
 // The cases of a site: four lengths of the image, four sizes of the site, and last the image as it is.
@@ -133,17 +142,25 @@ fn case_size(k: u32, n: u32) -> u32 {
 }
 
 // Tries every case of a site whose image is the first `exact` bytes of the buffer, zeros after it.
-pub(crate) fn try_cases(n: u32, buffer: &[u8], exact: usize) {
+pub(crate) fn try_cases(rt: &impl Print, n: u32, buffer: &[u8], exact: usize) -> io::Result<()> {
     let many = n as usize % 1024;
     for k in 0..CASES {
         let image = parts::front(buffer, case_length(k, exact));
-        try_read(case_size(k, n), Site::ROW_BYTES * many, many, many, image);
+        try_read(
+            rt,
+            case_size(k, n),
+            Site::ROW_BYTES * many,
+            many,
+            many,
+            image,
+        )?;
     }
+    Ok(())
 }
 
 // Prints whether the tables that are read give the image again, byte for byte.
-pub(crate) fn try_again(n: u32, image: &[u8]) {
+pub(crate) fn try_again(rt: &impl Print, n: u32, image: &[u8]) -> io::Result<()> {
     let many = n as usize % 1024;
     let r = read(n, Site::ROW_BYTES * many, many, many, image);
-    lines::one(b"again", lines::yes(r.again));
+    lines::one(rt, b"again", lines::yes(r.again))
 }

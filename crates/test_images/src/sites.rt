@@ -3,7 +3,7 @@ use super::reading;
 
 // A site: its radios and links; the radios below `members` have this number, the others 0. Without `spread` the order is the
 // others and then the members, both ascending.
-#[derive(Drop)]
+#[derive(Clone, Copy)]
 pub(crate) struct Shape {
     pub(crate) radios: u32,
     pub(crate) links: u32,

@@ -3,6 +3,7 @@ use super::tally::Tally;
 use super::{changed, lines, parts, reading, tally};
 use image_reader::reader;
 use mesh::Site;
+use std::io;
 use test_parts::digest;
 
 // Whether what was read is broken, or the image alone got another number.
@@ -38,13 +39,14 @@ fn try_each(first: u32, end: u32, image: &[u8]) -> Tally {
 
 // Prints the line of an image: the first n, the end, its length, the n that it says, how often 0, 15, 11 and any other number came, how
 // often a comparison differed, and a digest of the numbers.
-fn try_range(first: u32, end: u32, image: &[u8]) {
+fn try_range(rt: &impl Print, first: u32, end: u32, image: &[u8]) -> io::Result<()> {
     let says = parts::byte_at(image, 4) as u64 + 256 * parts::byte_at(image, 5) as u64;
     lines::begin(
+        rt,
         b"sizes",
         &[first as u64, end as u64, image.len() as u64, says],
-    );
-    tally::end_line(try_each(first, end, image));
+    )?;
+    tally::end_line(rt, try_each(first, end, image))
 }
 
 // So much less, and at least 0.
@@ -58,16 +60,17 @@ fn below(image: &[u8]) -> u32 {
 }
 
 // Tries an image of n radios with the sizes around.
-pub(crate) fn try_around(n: u32, image: &[u8]) {
+pub(crate) fn try_around(rt: &impl Print, n: u32, image: &[u8]) -> io::Result<()> {
     try_range(
+        rt,
         less(n, below(image)),
         std::num::wrapping_add_u32(n, 4),
         image,
-    );
+    )
 }
 
 // Tries the image with a header that says this n, its check mended.
-fn try_header(good: &[u8], says: u32) {
+fn try_header(rt: &impl Print, good: &[u8], says: u32) -> io::Result<()> {
     let image = changed::with(
         good,
         4,
@@ -76,11 +79,11 @@ fn try_header(good: &[u8], says: u32) {
         (says / 256 % 256) as u8,
         true,
     );
-    try_range(0, 9, &image);
+    try_range(rt, 0, 9, &image)
 }
 
 // Tries the image with the first and the last entry of its order exchanged: no k-order.
-fn try_order(good: &[u8]) {
+fn try_order(rt: &impl Print, good: &[u8]) -> io::Result<()> {
     let image = changed::with(
         good,
         516,
@@ -89,16 +92,16 @@ fn try_order(good: &[u8]) {
         parts::byte_at(good, 516),
         true,
     );
-    try_range(0, 9, &image);
+    try_range(rt, 0, 9, &image)
 }
 
 // Tries an image of 5 radios and 3 blocks as it is, with every size; with headers that say another n; with an order that is no k-order.
-pub(crate) fn try_small(good: &[u8]) {
-    try_range(0, 514, good);
-    try_header(good, 0);
-    try_header(good, 4);
-    try_header(good, 6);
-    try_header(good, 513);
-    try_header(good, 65535);
-    try_order(good);
+pub(crate) fn try_small(rt: &impl Print, good: &[u8]) -> io::Result<()> {
+    try_range(rt, 0, 514, good)?;
+    try_header(rt, good, 0)?;
+    try_header(rt, good, 4)?;
+    try_header(rt, good, 6)?;
+    try_header(rt, good, 513)?;
+    try_header(rt, good, 65535)?;
+    try_order(rt, good)
 }

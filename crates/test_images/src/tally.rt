@@ -1,8 +1,9 @@
 // Counts of refusal numbers, and what is compared at each reading.
 use super::lines;
+use std::io;
 
 // How often 0, the number asked for, 11 and any other number came, how often a comparison differed, and a digest.
-#[derive(Drop)]
+#[derive(Clone, Copy)]
 pub(crate) struct Tally {
     accepted: u32,
     asked: u32,
@@ -56,13 +57,16 @@ pub(crate) fn counted(t: Tally, asked: u32, number: u32, broken: bool, digest: u
 }
 
 // Ends a line with the counts and the digest.
-pub(crate) fn end_line(t: Tally) {
-    lines::end(&[
-        t.accepted as u64,
-        t.asked as u64,
-        t.eleventh as u64,
-        t.others as u64,
-        t.broken as u64,
-        t.digest,
-    ]);
+pub(crate) fn end_line(rt: &impl Print, t: Tally) -> io::Result<()> {
+    lines::end(
+        rt,
+        &[
+            t.accepted as u64,
+            t.asked as u64,
+            t.eleventh as u64,
+            t.others as u64,
+            t.broken as u64,
+            t.digest,
+        ],
+    )
 }

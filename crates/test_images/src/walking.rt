@@ -1,11 +1,12 @@
 // Walking the blocks of an image.
 use super::lines;
 use block_reader::blocks;
+use std::io;
 use test_parts::digest;
 
 // Steps of the block reader so far: the number of its next block, the last refusal number, the bytes given, how often it said
 // the end, and a digest of all that was said and given.
-#[derive(Drop)]
+#[derive(Clone, Copy)]
 struct Walk {
     next: usize,
     number: u32,
@@ -80,20 +81,23 @@ fn steps_at(image: &[u8], count: usize) -> u64 {
 }
 
 // Prints where the reader stands after the steps, its last number, the payload bytes given, how often it said the end, and the digest.
-fn print_walk(walk: Walk) {
-    lines::begin(b"blocks", &[]);
-    lines::end(&[
-        walk.next as u64,
-        walk.number as u64,
-        walk.bytes as u64,
-        walk.ends as u64,
-        walk.digest,
-    ]);
+fn print_walk(rt: &impl Print, walk: Walk) -> io::Result<()> {
+    lines::begin(rt, b"blocks", &[])?;
+    lines::end(
+        rt,
+        &[
+            walk.next as u64,
+            walk.number as u64,
+            walk.bytes as u64,
+            walk.ends as u64,
+            walk.digest,
+        ],
+    )
 }
 
 // Walks the image, two steps past its last block, and prints the walk; then the digest of the same blocks, each asked for by its number.
-pub(crate) fn try_blocks(image: &[u8]) {
+pub(crate) fn try_blocks(rt: &impl Print, image: &[u8]) -> io::Result<()> {
     let count = image.len() / 512 + 2;
-    print_walk(steps(image, count));
-    lines::one(b"held", steps_at(image, count));
+    print_walk(rt, steps(image, count))?;
+    lines::one(rt, b"held", steps_at(image, count))
 }

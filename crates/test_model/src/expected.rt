@@ -10,7 +10,7 @@ const ROW_BYTES: usize = 64;
 const NEIGHBOURS: u16 = 40;
 
 // A link call, with the lengths of the four tables that it is lent, and whether one of them is spoiled.
-#[derive(Drop)]
+#[derive(Clone, Copy)]
 pub struct Call {
     pub up: bool,
     pub n: u32,
@@ -24,7 +24,7 @@ pub struct Call {
 }
 
 // What the call owes.
-#[derive(Drop)]
+#[derive(Clone, Copy)]
 pub struct Owed {
     pub number: u32,
     pub step: i8,

@@ -1,6 +1,8 @@
 // A site worked out by peeling, from document 01 alone: core numbers, orders, link calls, soundness. It uses nothing of the engine
 // and depends on no crate, so that the engine can be compared with it. Nothing is proved of it but that it is safe and ends; no
 // function has a `requires`.
+#![tactic(auto)]
+
 pub mod cells;
 mod cores;
 pub mod expected;

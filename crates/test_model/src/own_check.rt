@@ -63,7 +63,7 @@ fn rises(n: usize, numbers: &Numbers, order: &Radios) -> bool {
 
 // What a row has: bits, neighbours later in the order, neighbours whose number is not below its radio's own; and whether all its
 // bits are proper.
-#[derive(Drop)]
+#[derive(Clone, Copy)]
 struct Row {
     proper: bool,
     bits: u16,

@@ -1,31 +1,32 @@
 // What is printed: a word and numbers, a line for each call.
-use libc::STDOUT_FILENO;
+use crate::files;
+use std::io;
+use std::io::Read;
 
-pub fn text(s: &[u8]) {
-    io::write_all(STDOUT_FILENO, s);
+pub fn text(rt: &impl Print, s: &[u8]) -> io::Result<()> {
+    rt.write_all(s)
 }
 
-pub fn field(x: u64) {
-    text(b" ");
-    io::print_decimal(STDOUT_FILENO, x);
+pub fn field(rt: &impl Print, x: u64) -> io::Result<()> {
+    print!(rt; " {x}")
 }
 
 // A word and a number.
-pub fn number(s: &[u8], x: u64) {
-    text(s);
-    field(x);
+pub fn number(rt: &impl Print, s: &[u8], x: u64) -> io::Result<()> {
+    text(rt, s)?;
+    field(rt, x)
 }
 
 // A number ends a line.
-pub fn end_line(x: u64) {
-    field(x);
-    text(b"\n");
+pub fn end_line(rt: &impl Print, x: u64) -> io::Result<()> {
+    field(rt, x)?;
+    text(rt, b"\n")
 }
 
 // A word and a number in a line.
-pub fn line(s: &[u8], x: u64) {
-    text(s);
-    end_line(x);
+pub fn line(rt: &impl Print, s: &[u8], x: u64) -> io::Result<()> {
+    text(rt, s)?;
+    end_line(rt, x)
 }
 
 // A name in a file, zeros after it.
@@ -42,29 +43,28 @@ fn zero_of(s: &[u8]) -> usize {
 }
 
 // Prints what stands before the first zero.
-fn print_front(s: &[u8]) {
+fn print_front(rt: &impl Print, s: &[u8]) -> io::Result<()> {
     let end = zero_of(s);
     if end < s.len() {
-        text(&s[0..end]);
-        return;
+        return text(rt, &s[0..end]);
     }
-    text(s);
+    text(rt, s)
 }
 
 // The name that the file has next.
-pub fn read_name(fd: i32) -> Name {
+pub fn read_name(file: &mut impl Read) -> io::Result<Name> {
     let mut name = [0u8; 16];
-    io::read_full(fd, &mut name);
-    name
+    files::read_full(file, &mut name)?;
+    Ok(name)
 }
 
 // Prints a name.
-pub fn name(s: &Name) {
-    print_front(s);
+pub fn name(rt: &impl Print, s: &Name) -> io::Result<()> {
+    print_front(rt, s)
 }
 
 // Prints the name that the file has next.
-pub fn next_name(fd: i32) {
-    let s = read_name(fd);
-    name(&s);
+pub fn next_name(rt: &impl Print, file: &mut impl Read) -> io::Result<()> {
+    let s = read_name(file)?;
+    name(rt, &s)
 }

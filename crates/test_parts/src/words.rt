@@ -1,22 +1,26 @@
 // The words of a file, lowest byte first; past the file's end they are 0. And entries of a table put and flipped.
 
+use crate::files;
+use std::io;
+use std::io::Read;
+
 // A byte as a word.
 fn wide(x: u8) -> u32 {
     x as u32
 }
 
 // The next word of 32 bits.
-pub fn word(fd: i32) -> u32 {
+pub fn word(file: &mut impl Read) -> io::Result<u32> {
     let mut four = [0u8; 4];
-    io::read_full(fd, &mut four);
-    wide(four[0]) | (wide(four[1]) << 8) | (wide(four[2]) << 16) | (wide(four[3]) << 24)
+    files::read_full(file, &mut four)?;
+    Ok(wide(four[0]) | (wide(four[1]) << 8) | (wide(four[2]) << 16) | (wide(four[3]) << 24))
 }
 
 // The next word of 16 bits.
-pub fn half(fd: i32) -> u16 {
+pub fn half(file: &mut impl Read) -> io::Result<u16> {
     let mut two = [0u8; 2];
-    io::read_full(fd, &mut two);
-    ((wide(two[0]) | (wide(two[1]) << 8)) % 65536) as u16
+    files::read_full(file, &mut two)?;
+    Ok(((wide(two[0]) | (wide(two[1]) << 8)) % 65536) as u16)
 }
 
 // Puts an entry; past the end nothing changes.
@@ -27,11 +31,12 @@ fn put(s: &mut [u16], at: usize, x: u16) {
 }
 
 // The next words, of 32 bits, as entries of a list; of those past its end nothing is kept.
-pub fn entries(fd: i32, count: usize, list: &mut [u16]) {
+pub fn entries(file: &mut impl Read, count: usize, list: &mut [u16]) -> io::Result<()> {
     for i in 0..count {
-        let x = (word(fd) % 65536) as u16;
+        let x = (word(file)? % 65536) as u16;
         put(list, i, x);
     }
+    Ok(())
 }
 
 // Flips bits of a byte; past the end nothing changes.

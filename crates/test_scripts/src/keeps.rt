@@ -1,68 +1,103 @@
 // The keep of a run, in which long answers wait; and the program as it is started.
 use crate::{print_errors, print_status};
-use libc::{STDERR_FILENO, STDIN_FILENO, STDOUT_FILENO};
 use player::input::Ends;
 use player::keeping;
+use std::cell::Cell;
+use std::fs::File;
+use std::io;
+use std::io::Seek;
+use std::os::fd::{AsRawFd, RawFd};
 use test_parts::{files, say};
 
 // Plays one script with this keep.
-fn play(path: &[u8], keep: i32) {
-    let input = files::open(path);
-    let errors = files::temporary();
-    let ends = Ends {
-        input,
-        output: STDOUT_FILENO,
-        errors,
+fn play(rt: &HostRuntime, path: &str, keep: Option<&File>) -> io::Result<()> {
+    let mut ends = Ends {
+        input: files::open(rt, path)?,
+        output: rt.stdout(),
+        errors: files::temporary(rt)?,
     };
-    say::text(path);
-    say::text(b" kept\n");
-    let status = player::run_kept(ends, keep, usize::MAX);
-    print_errors(errors);
-    print_status(status);
-    libc::close(input);
+    say::text(rt, path.as_bytes())?;
+    say::text(rt, b" kept\n")?;
+    let status = player::run_kept(&mut ends, keep, usize::MAX);
+    print_errors(rt, &mut ends.errors)?;
+    print_status(rt, status)
 }
 
 // Long answers, which wait in a file that takes no write, and in none; short ones, which need none.
-pub fn all() {
-    let keep = files::open(b"m1");
-    play(b"output-4096", keep);
-    play(b"output-4096", -1);
-    play(b"m1", -1);
-    libc::close(keep);
+pub fn all(rt: &HostRuntime) -> io::Result<()> {
+    let keep = files::open(rt, "m1")?;
+    play(rt, "output-4096", Some(&keep))?;
+    play(rt, "output-4096", None)?;
+    play(rt, "m1", None)
 }
 
-// Whether the descriptor is open.
-fn is_open(fd: i32) -> bool {
-    libc::lseek(fd, 0, libc::SEEK_CUR) >= 0
+// Whether the keep is there and open.
+fn is_open(keep: Option<File>) -> bool {
+    match keep {
+        Some(mut file) => file.stream_position().is_ok(),
+        None => false,
+    }
+}
+
+// Whether a file of this name is there.
+fn is_named(rt: &HostRuntime, name: &[u8]) -> bool {
+    match std::str::from_utf8(name) {
+        Ok(path) => files::open(rt, path).is_ok(),
+        Err(_) => false,
+    }
 }
 
 // Whether a new keep is open, and whether its file still has a name.
-fn new() {
+fn new(rt: &HostRuntime) -> io::Result<()> {
     let mut name = *b"keep-XXXXXX";
-    let keep = keeping::new(&mut name);
-    say::line(b"keep", is_open(keep) as u64);
-    say::line(b"named", is_open(os::open_read(&name)) as u64);
-    libc::close(keep);
+    let keep = keeping::new(rt, &mut name);
+    say::line(rt, b"keep", is_open(keep) as u64)?;
+    say::line(rt, b"named", is_named(rt, &name) as u64)
 }
 
-// A keep is no descriptor of the program's own: a new file would be its input here, which is closed.
-pub fn news() {
-    new();
-    libc::close(STDIN_FILENO);
-    new();
-    say::line(b"input", is_open(STDIN_FILENO) as u64);
+// A new file in the place of the program's input, as a program whose input is closed gets one. It notes that it is closed.
+struct Low<'a> {
+    open: &'a Cell<bool>,
 }
 
-// The program as it is started. Its words are this program's own, `--status 1`; its input is descriptor 0, and its errors go to descriptor
-// 2: both are closed, and a file that is opened gets the lowest number that is free.
-pub fn start(path: &[u8]) {
-    say::text(path);
-    say::text(b" started\n");
-    libc::close(STDIN_FILENO);
-    os::open_read(path);
-    libc::close(STDERR_FILENO);
-    let errors = files::temporary();
-    player::start();
-    say::text(b"\n");
-    print_errors(errors);
+impl<'a> AsRawFd for Low<'a> {
+    fn as_raw_fd(&self) -> RawFd {
+        0
+    }
+}
+
+impl<'a> Drop for Low<'a> {
+    fn drop(self) {
+        let Low { open } = self;
+        open.set(false);
+    }
+}
+
+// Whether such a file is kept, whether it has a name, and whether it is still open.
+fn as_input(rt: &HostRuntime) -> io::Result<()> {
+    let open = Cell::new(true);
+    let keep = keeping::kept(Low { open: &open });
+    say::line(rt, b"keep", keep.is_some() as u64)?;
+    say::line(rt, b"named", is_named(rt, b"keep-XXXXXX") as u64)?;
+    say::line(rt, b"input", open.get() as u64)
+}
+
+// A keep is no descriptor of the program's own.
+pub fn news(rt: &HostRuntime) -> io::Result<()> {
+    new(rt)?;
+    as_input(rt)
+}
+
+// The program as it is started. Its words are this program's own, `--status 1`; its input and its errors are files.
+pub fn start(rt: &HostRuntime, path: &str) -> io::Result<()> {
+    say::text(rt, path.as_bytes())?;
+    say::text(rt, b" started\n")?;
+    let mut ends = Ends {
+        input: files::open(rt, path)?,
+        output: rt.stdout(),
+        errors: files::temporary(rt)?,
+    };
+    player::start_on(rt, &mut ends);
+    say::text(rt, b"\n")?;
+    print_errors(rt, &mut ends.errors)
 }

@@ -1,19 +1,29 @@
 // Both calls refused by each of their numbers, and pairs of questions in their order. Three radios, of which two are linked, take 16 bytes.
 use crate::writing::answer;
+use std::io;
 use test_parts::say;
 
 // Puts both calls, and prints the buffer, of which a refusal leaves every dot.
-fn ask(n: u32, links: &[u8], numbers: &[u8], order: &[u16], text: &mut [u8]) {
+fn ask(
+    rt: &HostRuntime,
+    n: u32,
+    links: &[u8],
+    numbers: &[u8],
+    order: &[u16],
+    text: &mut [u8],
+) -> io::Result<()> {
     answer(
+        rt,
         b"length",
         summerbugle::sb_script_length(n, links, numbers, order),
-    );
+    )?;
     answer(
+        rt,
         b"write",
         summerbugle::sb_script_write(n, links, numbers, order, text),
-    );
-    say::text(text);
-    say::text(b"\n");
+    )?;
+    say::text(rt, text)?;
+    say::text(rt, b"\n")
 }
 
 // Three radios, of which 0 and 1 are linked.
@@ -24,33 +34,33 @@ pub fn link_two(links: &mut [u8], numbers: &mut [u8], order: &mut [u16]) {
 }
 
 // n and lengths.
-fn ask_sizes(links: &[u8], numbers: &[u8], order: &[u16]) {
+fn ask_sizes(rt: &HostRuntime, links: &[u8], numbers: &[u8], order: &[u16]) -> io::Result<()> {
     let mut text = *b"....................";
-    ask(0, links, numbers, order, &mut text);
-    ask(513, links, numbers, order, &mut text);
-    ask(2, links, numbers, order, &mut text);
+    ask(rt, 0, links, numbers, order, &mut text)?;
+    ask(rt, 513, links, numbers, order, &mut text)?;
+    ask(rt, 2, links, numbers, order, &mut text)?;
     let two = [0u16; 2];
-    ask(3, numbers, numbers, order, &mut text);
-    ask(3, links, links, order, &mut text);
+    ask(rt, 3, numbers, numbers, order, &mut text)?;
+    ask(rt, 3, links, links, order, &mut text)?;
     let mut none = [0u8; 0];
-    ask(3, links, numbers, &two, &mut none);
+    ask(rt, 3, links, numbers, &two, &mut none)
 }
 
 // Tables that are not sound, buffers that are too short, and one that is longer than the script.
-fn ask_rooms(links: &[u8], numbers: &[u8], order: &[u16]) {
+fn ask_rooms(rt: &HostRuntime, links: &[u8], numbers: &[u8], order: &[u16]) -> io::Result<()> {
     let mut short = *b"...............";
-    ask(3, links, numbers, order, &mut short);
+    ask(rt, 3, links, numbers, order, &mut short)?;
     let ones = [1u8; 3];
-    ask(3, links, &ones, order, &mut short);
+    ask(rt, 3, links, &ones, order, &mut short)?;
     let mut text = *b"....................";
-    ask(3, links, numbers, order, &mut text);
+    ask(rt, 3, links, numbers, order, &mut text)
 }
 
-pub fn run() {
+pub fn run(rt: &HostRuntime) -> io::Result<()> {
     let mut links = [0u8; 192];
     let mut numbers = [0u8; 3];
     let mut order = [0u16; 3];
     link_two(&mut links, &mut numbers, &mut order);
-    ask_sizes(&links, &numbers, &order);
-    ask_rooms(&links, &numbers, &order);
+    ask_sizes(rt, &links, &numbers, &order)?;
+    ask_rooms(rt, &links, &numbers, &order)
 }

@@ -1,5 +1,6 @@
 // One site: pseudo-random links taken up and down, its script written, played and compared.
 use crate::writing;
+use std::io;
 use test_parts::{random, say};
 
 // As many radios as a site may have, and the bytes of its links table.
@@ -40,6 +41,7 @@ fn wander(
 
 // The site, on tables that are cut to its lengths, and its script.
 fn play(
+    rt: &HostRuntime,
     n: u32,
     m: u32,
     calls: u32,
@@ -48,15 +50,15 @@ fn play(
     numbers: &mut [u8],
     order: &mut [u16],
     answer: &mut [u16],
-) {
+) -> io::Result<()> {
     tables::clear::clear(n, links, numbers, order);
     wander(n, m, calls, seed, links, numbers, order, answer);
-    writing::write_all(n, links, numbers, order);
+    writing::write_all(rt, n, links, numbers, order)
 }
 
 // Plays a site of n radios, whose links are among the first m.
-pub fn run(n: u32, m: u32, calls: u32, seed: u64) {
-    say::line(b"site", n as u64);
+pub fn run(rt: &HostRuntime, n: u32, m: u32, calls: u32, seed: u64) -> io::Result<()> {
+    say::line(rt, b"site", n as u64)?;
     let many = tables::fill::least(n as usize, ENTRIES);
     let bytes = 64 * many;
     let mut links = [0u8; LINKS];
@@ -64,6 +66,7 @@ pub fn run(n: u32, m: u32, calls: u32, seed: u64) {
     let mut order = [0u16; ENTRIES];
     let mut answer = [0u16; ENTRIES];
     play(
+        rt,
         n,
         m,
         calls,
@@ -72,5 +75,5 @@ pub fn run(n: u32, m: u32, calls: u32, seed: u64) {
         &mut numbers[..many],
         &mut order[..many],
         &mut answer[..many],
-    );
+    )
 }

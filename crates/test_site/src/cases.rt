@@ -1,6 +1,8 @@
 // The cases of a file: a line for each, of five words that bars part: the input's name, the verb, how many words follow the verb, and the
 // first two of these.
 use crate::run;
+use std::io;
+use test_parts::files;
 
 // More than the file has.
 const BYTES: usize = 8192;
@@ -43,7 +45,7 @@ fn count(word: &[u8]) -> usize {
 }
 
 // Runs the case that begins here. Comes back with where the next begins.
-fn run_case(text: &[u8], at: usize) -> usize {
+fn run_case(rt: &HostRuntime, text: &[u8], at: usize) -> io::Result<usize> {
     let path = word(text, at);
     let second = after(at, path);
     let verb = word(text, second);
@@ -53,29 +55,25 @@ fn run_case(text: &[u8], at: usize) -> usize {
     let v = word(text, fourth);
     let fifth = after(fourth, v);
     let k = word(text, fifth);
-    run::words(path, verb, count(many), v, k);
-    after(fifth, k)
+    run::words(rt, path, verb, count(many), v, k)?;
+    Ok(after(fifth, k))
 }
 
 // Runs every case: there are fewer than bytes.
-fn run_text(text: &[u8]) {
+fn run_text(rt: &HostRuntime, text: &[u8]) -> io::Result<()> {
     let mut at: usize = 0;
     for i in 0..text.len() {
         if at < text.len() {
-            at = run_case(text, at);
+            at = run_case(rt, text, at)?;
         }
     }
+    Ok(())
 }
 
 // Runs every case of the file.
-pub fn run_all(path: &[u8]) {
+pub fn run_all(rt: &HostRuntime, path: &str) -> io::Result<()> {
     let mut text = [0u8; BYTES];
-    let fd = os::open_read(path);
-    if fd < 0 {
-        os::fail(path);
-        return;
-    }
-    let length = io::read_full(fd, &mut text);
-    libc::close(fd);
-    run_text(&text[..length]);
+    let mut file = files::open(rt, path)?;
+    let length = files::read_full(&mut file, &mut text)?;
+    run_text(rt, &text[..length])
 }

@@ -1,5 +1,8 @@
 // Inputs of many reads: noise, and a script of many lines.
 use crate::run;
+use std::fs::File;
+use std::io;
+use std::io::Write;
 
 // The bytes that are written at a time, and how often: 10 MB of noise, 573 KB of lines.
 const CHUNK: usize = 4096;
@@ -30,21 +33,22 @@ fn fill(chunk: &mut [u8], seed: u64) -> u64 {
 }
 
 // Writes a chunk of noise: the number after the last.
-fn write_noise_chunk(fd: i32, seed: u64) -> u64 {
+fn write_noise_chunk(file: &mut File, seed: u64) -> io::Result<u64> {
     let mut chunk = [0u8; CHUNK];
     let x = fill(&mut chunk, seed);
-    io::write_all(fd, &chunk);
-    x
+    file.write_all(&chunk)?;
+    Ok(x)
 }
 
 // Writes so many chunks of noise.
-fn write_noise(fd: i32, chunks: u32) {
+fn write_noise(file: &mut File, chunks: u32) -> io::Result<()> {
     let mut x: u64 = 1;
     let mut i: u32 = 0;
     while i < chunks {
-        x = write_noise_chunk(fd, x);
+        x = write_noise_chunk(file, x)?;
         i += 1;
     }
+    Ok(())
 }
 
 // Fills the chunk with a pair of lines over and over.
@@ -58,50 +62,51 @@ fn fill_lines(chunk: &mut [u8]) {
 }
 
 // Writes a chunk of lines.
-fn write_lines_chunk(fd: i32) {
+fn write_lines_chunk(file: &mut File) -> io::Result<()> {
     let mut chunk = [0u8; CHUNK];
     fill_lines(&mut chunk);
-    io::write_all(fd, &chunk);
+    file.write_all(&chunk)
 }
 
 // Writes so many chunks of lines.
-fn write_lines(fd: i32, chunks: u32) {
+fn write_lines(file: &mut File, chunks: u32) -> io::Result<()> {
     let mut i: u32 = 0;
     while i < chunks {
-        write_lines_chunk(fd);
+        write_lines_chunk(file)?;
         i += 1;
     }
+    Ok(())
 }
 
 // 10 MB of noise behind a beginning.
-pub fn noise(front: &[u8]) {
-    let fd = run::new_file();
-    run::text(b"noise\n");
-    io::write_all(fd, front);
-    write_noise(fd, CHUNKS);
-    run::last(fd, usize::MAX, b"check");
+pub fn noise(rt: &HostRuntime, front: &[u8]) -> io::Result<()> {
+    let mut file = run::new_file(rt)?;
+    run::text(rt, b"noise\n")?;
+    file.write_all(front)?;
+    write_noise(&mut file, CHUNKS)?;
+    run::last(rt, file, usize::MAX, b"check")
 }
 
 // 71,680 lines that take a link up and down, and then the given ones, read by so many bytes at a time.
-pub fn script(end: &[u8], most: usize) {
-    let fd = run::new_file();
-    run::text(b"long script\n");
-    io::write_all(fd, b"radios 3\n");
-    write_lines(fd, LINE_CHUNKS);
-    io::write_all(fd, end);
-    run::last(fd, most, b"numbers");
+pub fn script(rt: &HostRuntime, end: &[u8], most: usize) -> io::Result<()> {
+    let mut file = run::new_file(rt)?;
+    run::text(rt, b"long script\n")?;
+    file.write_all(b"radios 3\n")?;
+    write_lines(&mut file, LINE_CHUNKS)?;
+    file.write_all(end)?;
+    run::last(rt, file, most, b"numbers")
 }
 
 // Writes lines that take more than the front.
-pub fn write_shown(fd: i32) {
-    io::write_all(fd, b"radios 3\n");
-    write_lines(fd, SHOWN_CHUNKS);
+pub fn write_shown(file: &mut File) -> io::Result<()> {
+    file.write_all(b"radios 3\n")?;
+    write_lines(file, SHOWN_CHUNKS)
 }
 
 // These lines, read by so many bytes at a time, and shown.
-pub fn shown(most: usize) {
-    let fd = run::new_file();
-    run::text(b"shown script\n");
-    write_shown(fd);
-    run::shown(fd, most);
+pub fn shown(rt: &HostRuntime, most: usize) -> io::Result<()> {
+    let mut file = run::new_file(rt)?;
+    run::text(rt, b"shown script\n")?;
+    write_shown(&mut file)?;
+    run::shown(rt, file, most)
 }

@@ -1,60 +1,84 @@
-// The program as it is started. Its words are this program's own, `--status 1 staircase`; its input is descriptor 0, and its errors go to
-// descriptor 2: both are closed, and a file that is opened gets the lowest number that is free.
+// The program as it is started. Its words are this program's own, `--status 1 staircase`; its input and its errors are files.
 use crate::{long, run};
-use libc::{STDERR_FILENO, STDIN_FILENO};
+use player::input::Ends;
+use std::fs::{File, OpenOptions};
+use std::io;
+use std::io::{Read, Seek, SeekFrom, Write};
 
-// Starts the program, with its errors in a file of their own, which is printed after its status.
-fn start() {
-    libc::close(STDERR_FILENO);
-    let errors = run::new_file();
-    site_program::start();
-    run::text(b"\n");
-    run::print_file(errors);
+// Starts the program on an input, with its errors in a file of their own, which is printed after its status.
+fn start(rt: &HostRuntime, input: &File) -> io::Result<()> {
+    let mut ends = Ends {
+        input,
+        output: rt.stdout(),
+        errors: run::new_file(rt)?,
+    };
+    site_program::start_on(rt, &mut ends);
+    run::text(rt, b"\n")?;
+    run::print_file(rt, &ends.errors)
 }
 
 // Starts it on a file.
-pub fn on(path: &[u8]) {
-    run::word(path, b" started\n");
-    libc::close(STDIN_FILENO);
-    os::open_read(path);
-    start();
+pub fn on(rt: &HostRuntime, path: &[u8]) -> io::Result<()> {
+    run::word(rt, path, b" started\n")?;
+    start(rt, &run::open(rt, path)?)
 }
 
-// A script that takes more than the front is its input.
-fn feed_lines() {
-    libc::close(STDIN_FILENO);
-    let fd = run::new_file();
-    long::write_shown(fd);
-    libc::lseek(fd, 0, libc::SEEK_SET);
+// A script that takes more than the front.
+fn many_lines(rt: &HostRuntime) -> io::Result<File> {
+    let mut file = run::new_file(rt)?;
+    long::write_shown(&mut file)?;
+    file.seek(SeekFrom::Start(0))?;
+    Ok(file)
 }
 
 // Starts it on many lines: a file is not shown how far it is.
-pub fn on_lines() {
-    run::text(b"many lines started\n");
-    feed_lines();
-    start();
+pub fn on_lines(rt: &HostRuntime) -> io::Result<()> {
+    run::text(rt, b"many lines started\n")?;
+    start(rt, &many_lines(rt)?)
 }
 
 // The first byte that a terminal was written: it gives it back, before the one that is written here.
-fn first_byte(terminal: i32) -> u8 {
+fn first_byte(terminal: &mut File) -> io::Result<u8> {
     let mut byte = [0u8; 1];
-    io::write_all(terminal, b"x");
-    io::read_full(terminal, &mut byte);
-    byte[0]
+    terminal.write_all(b"x")?;
+    terminal.read_exact(&mut byte)?;
+    Ok(byte[0])
+}
+
+// Starts it on an input with a terminal for its errors: the first byte that the terminal was written.
+fn start_shown(rt: &HostRuntime, input: &File, terminal: File) -> io::Result<u8> {
+    let mut ends = Ends {
+        input,
+        output: rt.stdout(),
+        errors: terminal,
+    };
+    site_program::start_on(rt, &mut ends);
+    first_byte(&mut ends.errors)
+}
+
+// Starts it on an input with errors that show nobody anything.
+fn start_unseen(rt: &HostRuntime, input: &File) -> io::Result<u8> {
+    let mut ends = Ends {
+        input,
+        output: rt.stdout(),
+        errors: run::new_file(rt)?,
+    };
+    site_program::start_on(rt, &mut ends);
+    Ok(b'\r')
 }
 
 // The same with a terminal in place of the file: it is shown, by a line that begins with a carriage return. A machine without terminals
 // shows nobody anything.
-pub fn on_terminal() {
-    run::text(b"terminal started\n");
-    feed_lines();
-    libc::close(STDERR_FILENO);
-    let terminal = os::open_update(b"/dev/ptmx");
-    site_program::start();
-    let mut byte = b'\r';
-    if terminal >= 0 {
-        byte = first_byte(terminal);
-    }
-    run::line(b"\nfirst byte ", byte as u64);
-    libc::close(terminal);
+pub fn on_terminal(rt: &HostRuntime) -> io::Result<()> {
+    run::text(rt, b"terminal started\n")?;
+    let lines = many_lines(rt)?;
+    let terminal = OpenOptions::new()
+        .read(true)
+        .write(true)
+        .open(rt, "/dev/ptmx");
+    let byte = match terminal {
+        Ok(terminal) => start_shown(rt, &lines, terminal)?,
+        Err(_) => start_unseen(rt, &lines)?,
+    };
+    run::line(rt, b"\nfirst byte ", byte as u64)
 }

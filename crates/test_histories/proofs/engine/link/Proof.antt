@@ -1,9 +1,0 @@
--- `engine::link` is safe: each part lies within its table.
-use Rattle.std.proofs.Common.{sym, length-take-le, rules}
-use Rattle.test_histories.proofs.engine.link.{Statement.{statement}, Tie.{close, spec}}
-
-pub link-spec : {M : Type 1} → statement M
-link-spec = close (spec (λ c κs. search rules) (λ c κs. search rules) (λ c κs. search rules) (λ c κs. search rules) (λ c. search rules)
-    (λ c. sym (length-take-le _ _ (search rules))) (λ c. search rules) (λ c. sym (length-take-le _ _ (search rules))) (λ c. search rules)
-    (λ c. sym (length-take-le _ _ (search rules))) (λ c. search rules) (λ c. sym (length-take-le _ _ (search rules))) (λ c κs. search rules)
-    (λ c. search rules) (λ c. search rules) (λ c. search rules) (λ c. search rules) (λ c. search rules))

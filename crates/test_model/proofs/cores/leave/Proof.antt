@@ -1,7 +1,0 @@
--- `cores::leave` is safe and ends: the measure is how many turns are left.
-use Rattle.std.proofs.Common.{◌-◌, rules}
-use Rattle.test_model.proofs.cores.leave.{Statement.{statement}, Tie.{close, spec}}
-
-pub leave_spec : {M : Type 1} → statement M
-leave_spec = close (spec (λ _ _ _ _ _ _. Unit) (λ _ n _ _ _ u. n - u) (λ c. search rules) (λ c κs. search rules) (λ c. search rules)
-    (λ c. search rules) (λ c. search rules) (λ c. search rules))

@@ -1,7 +1,0 @@
--- `expected::list_changed` is safe and ends: the measure is how many turns are left.
-use Rattle.std.proofs.Common.{◌-◌, rules}
-use Rattle.test_model.proofs.expected.list_changed.{Statement.{statement}, Tie.{close, spec}}
-
-pub list-changed-spec : {M : Type 1} → statement M
-list-changed-spec = close (spec (λ _ _ _ _ _ _ _. Unit) (λ _ n _ _ _ _ v. n - v) (λ c. search rules) (λ c κs. search rules) (λ c. search rules)
-    (λ c. search rules) (λ c. search rules) (λ c. search rules))

@@ -1,7 +1,0 @@
--- `model::copy` is safe and ends: the measure is how many turns are left.
-use Rattle.std.proofs.Common.{◌-◌, rules}
-use Rattle.test_model.proofs.model.copy.{Statement.{statement}, Tie.{close, spec}}
-
-pub copy_spec : {M : Type 1} → statement M
-copy_spec = close (spec (λ _ _ _ _ _ _ _. Unit) (λ _ n _ _ _ _ i. n - i) (λ c. search rules) (λ c κs. search rules) (λ c κs. search rules)
-    (λ c. search rules) (λ c. search rules) (λ c. search rules) (λ c. search rules))

@@ -1,7 +1,0 @@
--- `same::numbers` is safe and ends: the measure is how many turns are left.
-use Rattle.std.proofs.Common.{◌-◌, rules}
-use Rattle.test_model.proofs.same.numbers.{Statement.{statement}, Tie.{close, spec}}
-
-pub numbers-spec : {M : Type 1} → statement M
-numbers-spec = close (spec (λ _ _ _ _. Unit) (λ _ _ _ i. 513 - i) (λ c. search rules) (λ c κs. search rules) (λ c. search rules)
-    (λ c κs. search rules) (λ c. search rules) (λ c. search rules) (λ c. search rules) (λ c. search rules) (λ c. search rules))

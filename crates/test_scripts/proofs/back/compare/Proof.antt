@@ -1,8 +1,0 @@
--- `back::compare` is safe: each part lies within its table.
-use Rattle.std.proofs.Common.{sym, length-take-le, rules}
-use Rattle.test_scripts.proofs.back.compare.{Statement.{statement}, Tie.{close, spec}}
-
-pub compare-spec : {M : Type 1} → statement M
-compare-spec = close (spec (λ c κs. search rules) (λ c. search rules) (λ c. search rules) (λ c. sym (length-take-le _ _ (search rules)))
-    (λ c. search rules) (λ c. sym (length-take-le _ _ (search rules))) (λ c. search rules) (λ c. sym (length-take-le _ _ (search rules)))
-    (λ c κs. search rules) (λ c. search rules))

@@ -1,6 +1,0 @@
--- `writing::play_front` is safe: the part lies within the buffer.
-use Rattle.std.proofs.Common.{sym, length-take-le, rules}
-use Rattle.test_scripts.proofs.writing.play_front.{Statement.{statement}, Tie.{close, spec}}
-
-pub play-front-spec : {M : Type 1} → statement M
-play-front-spec = close (spec (λ c κs. search rules) (λ c. sym (length-take-le _ _ (search rules))) (λ c κs. search rules) (λ c. search rules))
