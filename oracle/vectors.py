@@ -51,7 +51,7 @@ def answer_text(answer):
 
 
 def name_text(name):
-    return "root-name" if name == ROOT else str(name)
+    return "root_name" if name == ROOT else str(name)
 
 
 def node_text(record):
@@ -81,14 +81,14 @@ def only_printed(site):
 
 def what_is_left(site):
     nodes, names = site.tree()
-    yield "all-numbers " + short(site.numbers)
-    yield "whole-order " + short(site.order)
-    yield f"shell-tree {short([node_text(x) for x in nodes])} {short([name_text(x) for x in names])}"
-    yield "backbone-radios " + short(site.backbone())
+    yield "all_numbers " + short(site.numbers)
+    yield "whole_order " + short(site.order)
+    yield f"shell_tree {short([node_text(x) for x in nodes])} {short([name_text(x) for x in names])}"
+    yield "backbone_radios " + short(site.backbone())
     for v, k in cores_asked(site):
         number, radios = site.core(v, k)
-        yield f"connected-core {v} {k} {number} {short(radios)}"
-    yield f"image-checks {len(site.image())} {short(site.checks())}"
+        yield f"connected_core {v} {k} {number} {short(radios)}"
+    yield f"image_checks {len(site.image())} {short(site.checks())}"
 
 
 def soundness_tried(site):
@@ -136,7 +136,7 @@ def reading_tried(site):
     if site.links:
         tried.append((n, whole, checked(image, [(1028, image[1030])])))
     for m, many, puts in tried:
-        yield f"image-reading {m} {many} {put_text(puts)} {reading(m, with_bytes(image, puts)[:many])}"
+        yield f"image_reading {m} {many} {put_text(puts)} {reading(m, with_bytes(image, puts)[:many])}"
 
 
 def row_text(about, n, calls, start, wanted):
@@ -145,7 +145,7 @@ def row_text(about, n, calls, start, wanted):
     made = "(\n" + filled([call_text(c) for c in calls]) + ")" if calls else "[]"
     answered = "(\n" + filled([answer_text(x) for x in answers]) + ")" if calls else "[]"
     wants = [f"printed (\n{filled([text_of(x) for x in lines])})"] + list(dict.fromkeys(wanted(site)))
-    return (f"    -- {about}\n    {start}row {n} {made} (\n    last-answers {answered}\n"
+    return (f"    -- {about}\n    {start}row {n} {made} (\n    last_answers {answered}\n"
             f"    ∷ {filled(wants).lstrip()})\n")
 
 
@@ -160,13 +160,13 @@ GROUPS = [
     ("printing", "numbers of two and three digits", PRINTING, only_printed),
     ("tables", "soundness, with damaged tables", TABLES, soundness_tried),
     ("images", "image reading, with damaged images", IMAGES, reading_tried),
-    ("random-small", "random calls at 2 to 5 radios",
+    ("random_small", "random calls at 2 to 5 radios",
      random_group(101, [(2, 8, 0.5), (3, 10, 0.6), (3, 12, 0.5), (4, 12, 0.7), (4, 16, 0.6),
                         (5, 14, 0.7), (5, 16, 0.8), (5, 20, 0.6), (5, 24, 0.7)]), what_is_left),
-    ("random-middle", "random calls at 6 and 7 radios",
+    ("random_middle", "random calls at 6 and 7 radios",
      random_group(201, [(6, 16, 0.8), (6, 20, 0.7), (6, 24, 0.8), (7, 18, 0.8), (7, 20, 0.9),
                         (7, 24, 0.7)]), what_is_left),
-    ("random-large", "random calls at 8 radios",
+    ("random_large", "random calls at 8 radios",
      random_group(301, [(8, 20, 0.8), (8, 24, 0.9), (8, 24, 0.75), (8, 28, 0.85)]), what_is_left),
 ]
 
@@ -174,11 +174,11 @@ GROUPS = [
 HEAD = """-- Link histories from cleared sites, with every answer and what they leave. Written by `python3 oracle/vectors.py`,
 -- whose expected values come from document 01 alone, by all sets of radios; not to be changed by hand.
 INDEX--   histories       all of them, TOTAL rows
--- That every row is right is `histories-right` in proofs/Histories.antt. Definitions only.
-use Rattle·lists.specs.Kit.{true, false, List, [], _∷_, _++_}
-use Rattle·mesh.specs.Tree.{root-name, node, root}
-use Rattle·calls.specs.Worked.{Row, row, up, down, risen, fallen, unchanged, refused, last-answers, all-numbers, whole-order, shell-tree, connected-core}
-use Rattle·calls.specs.Worked.{backbone-radios, image-checks, printed, put, soundness, image-reading}
+-- That every row is right is `histories_right` in proofs/Histories.antt. Definitions only.
+use Rattle.lists.specs.Kit.{true, false, List, [], ◌∷◌, ◌++◌}
+use Rattle.mesh.specs.Tree.{root_name, node, root}
+use Rattle.calls.specs.Worked.{Row, row, up, down, risen, fallen, unchanged, refused, last_answers, all_numbers, whole_order, shell_tree, connected_core}
+use Rattle.calls.specs.Worked.{backbone_radios, image_checks, printed, put, soundness, image_reading}
 """
 
 
