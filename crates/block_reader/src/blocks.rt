@@ -12,31 +12,27 @@ use image::{checks, layout};
 pub fn block(image: &[u8], next: usize) -> Block
     ensures { BlockContract image.now next result }
 {
-    let number = checks::refusal(image);
-    if number != 0 {
+    let none = Block {
+        number: 0,
+        end: 0,
+        offset: 0,
+        length: 0,
+        next,
+    };
+    if let Err(refusal) = checks::ask(image) {
         return Block {
-            number,
-            end: 0,
-            offset: 0,
-            length: 0,
-            next,
+            number: u32::from(refusal),
+            ..none
         };
     }
     if image.len() / layout::BLOCK <= next {
-        return Block {
-            number: 0,
-            end: 1,
-            offset: 0,
-            length: 0,
-            next,
-        };
+        return Block { end: 1, ..none };
     }
     Block {
-        number: 0,
-        end: 0,
         offset: layout::BLOCK * next + layout::HEAD,
         length: layout::PAYLOAD,
         next: next + 1,
+        ..none
     }
 }
 

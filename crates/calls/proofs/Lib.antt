@@ -1,4 +1,4 @@
--- Proofs about calls: `QuestionLaws`, `ChainLaws`, `ContractLaws` and `RecordLaws` for the crates whose functions meet the
+-- Proofs about calls: `AnswerLaws` for what calls answer, `QuestionLaws`, `ChainLaws`, `ContractLaws` and `RecordLaws` for the crates whose functions meet the
 -- contracts, `SheetLaws` the columns of the site sheet, `Refusals` what a refusal keeps, `Runs` lists of calls as relations,
 -- `Proposals` that a link call is asking and then committing, `SoundSwitches` what links taken up or down leave of sound tables,
 -- `Batches` what a batch comes to, `BatchCases` worked ones, `Turns` sorted links taken up or down in turn, `HeardLaws` that the single
@@ -8,6 +8,7 @@
 -- that the worked cases hold by `ByPairs`, `WorkedState` and `WorkedLaws`, `SheetCases` that the worked sheets do, `LiftOutcome` the
 -- question for one link that lifts a radio, `ScriptLaws` and `Rebuilt` the script that rebuilds a site, the others for demand 3.
 pub mod QuestionLaws
+pub mod AnswerLaws
 pub mod ChainLaws
 pub mod ContractLaws
 pub mod RecordLaws
@@ -41,3 +42,5 @@ pub mod ScriptLaws
 pub mod Rebuilt
 pub mod ImageNumbers
 pub mod Older
+-- its functions in a linked program
+pub mod World

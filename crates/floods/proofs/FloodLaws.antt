@@ -2,7 +2,7 @@
 -- In order: a layer, the queue after it, the start, the end.
 use Rattle.std.specs.Prelude.{◌≡◌, ◌⊎◌, ◌&&◌, ◌||◌, ◌∷◌, ◌++◌, ◌+◌, ◌≤◌, ◌<◌}
 use Rattle.lists.{specs.Kit.{refl, sym, ap, ◌∙◌, inl, inr, Bool, true, false, not, cond, List, [], ℕ, arith}}
-use Rattle.lists.{specs.Kit.{ltb, eqb, length, get_or, take, drop, set, length-append, length-set, List·getD-append, sets, sets-eq, length-sets, length-take-le}}
+use Rattle.lists.specs.Kit.{ltb, eqb, length, get_or, take, drop, set, length-append, length-set, List·getD-append, sets, sets-eq, length-sets, length-take-le}
 use Rattle.lists.{specs.Kit.{take_at, take-suc-set, get_or-take, ltb-true, ltb-false}, specs.Lists.{range, member, In}, specs.Facts.{Distinct}}
 use Rattle.lists.{proofs.Tests.{bool_cases, never, and_left, and_right, and_both}, proofs.Member.{member_append, in_left, in_right, in_cases, member_in}}
 use Rattle.lists.{proofs.Member.{in_member, in_get_d, get_d_of_in}, proofs.Range.{in_range, length_range, distinct_range}, proofs.Filter.{in_filter, filter_in}}
@@ -48,7 +48,7 @@ module _ (ts : List ℕ) (v : ℕ) (old : List ℕ) where
 
   -- ---- a layer: the neighbours of the radios from place i on
 
-  module _ (i : ℕ) (s xs : List ℕ) (h : Spreading i s xs) (reach : List ℕ) (long : length reach ≡ 8) where
+  module _ (i : ℕ) (s xs : List ℕ) (h : Spreading i s xs) (reach : List ℕ) where
     abbrev new : List ℕ
     new = common reach s
 
@@ -131,8 +131,8 @@ module _ (ts : List ℕ) (v : ℕ) (old : List ℕ) where
     pub reached : i ≤ f.count
     pub spreading : Spreading i f.set (came_in f)
 
-  pub walking_turn : (i : ℕ) (f e : Flood) → length e.set ≡ length f.set → LayerTaken ts i f e → Walking i f → Walking f.count e
-  walking_turn i f e same t h = record {
+  pub walking_turn : (i : ℕ) (f e : Flood) → LayerTaken ts i f e → Walking i f → Walking f.count e
+  walking_turn i f e t h = record {
     room = rw (queue, length-sets f.queue f.count more) h.room;
     few = omega (arith, all_few, came);
     reached = omega (arith, came);
@@ -166,7 +166,7 @@ module _ (ts : List ℕ) (v : ℕ) (old : List ℕ) where
           record { place = m.place; low = m.low; high = l; marks = ap (λ (a : ℕ). member x (row_listed ts a)) (sym (here m.place l)) ∙ m.marks }
 
       next : Spreading (length (came_in f)) e.set (came_in f ++ more)
-      next = spreading_layer i f.set (came_in f) h.spreading t.reach t.long e.set (same ∙ h.spreading.long) t.left
+      next = spreading_layer i f.set (came_in f) h.spreading t.reach e.set t.long t.left
           (λ x r. inside x (t.some x r)) (λ x m. t.all x (outside x m))
 
       all_few : f.count + length more ≤ max_radios
@@ -185,7 +185,7 @@ module _ (ts : List ℕ) (v : ℕ) (old : List ℕ) where
           (omega (arith, length-append (came_in f) more, long))
 
   -- the radio that the flood starts from
-  pub walking_start : (queue : List ℕ) → v < max_radios → length old ≡ 8 → max_radios ≤ length queue
+  pub walking_start : (queue : List ℕ) → v < max_radios → length (take_out v old) ≡ 8 → max_radios ≤ length queue
       → Walking 0 (flood_at (take_out v old) (set queue 0 v) 1)
   unfolding member
   walking_start queue lv long room =
@@ -195,10 +195,10 @@ module _ (ts : List ℕ) (v : ℕ) (old : List ℕ) where
         few = omega arith;
         reached = omega arith;
         spreading = rw one (record {
-          long = length_take_out v old ∙ long;
+          long = long;
           distinct = (λ m. m, tt);
           below = below;
-          bits = λ w. in_take_out v w old (omega (arith, long)) ∙ bit (eqb v w) (in_set old w);
+          bits = λ w. in_take_out v w old (omega (arith, long, length_take_out v old)) ∙ bit (eqb v w) (in_set old w);
           spread = spread;
           from = inl refl;
           closed = λ j l. absurd (omega arith);
@@ -224,6 +224,7 @@ module _ (ts : List ℕ) (v : ℕ) (old : List ℕ) where
   walking_end i f l h =
       let s = h.spreading in
       record {
+        long = s.long;
         few = h.few;
         once = λ w. distinct_one w (came_in f) s.distinct;
         radios = λ w. (λ m. s.spread w (member_in w (came_in f) m), λ r. in_member w (came_in f) (spread_in r));
@@ -242,5 +243,6 @@ module _ (ts : List ℕ) (v : ℕ) (old : List ℕ) where
 
 -- ---- the flood as the code has it
 
-pub flood_starts : (ts : List ℕ) (v : ℕ) (s q t : List ℕ) → Floodable v (length s) (length q) → t ≡ take_out v s → Walking ts v s 0 (flood_at t (set q 0 v) 1)
-flood_starts ts v s q t sizes out = rw out (walking_start ts v s q sizes.radio sizes.words sizes.room)
+pub flood_starts : (ts : List ℕ) (v : ℕ) (s q t : List ℕ) → Floodable v (length q) → t ≡ take_out v s → length t ≡ 8
+    → Walking ts v s 0 (flood_at t (set q 0 v) 1)
+flood_starts ts v s q t sizes out long = rw out (walking_start ts v s q sizes.radio (ap length (sym out) ∙ long) sizes.room)

@@ -1,7 +1,7 @@
 -- The radios of a level as words: a bit more in a word, and a word more in the set.
 use Rattle.std.specs.Prelude.{◌≡◌, ◌⊎◌, ◌&&◌, ◌||◌, ◌+◌, ◌*◌, ◌-◌, ◌/◌, ◌%◌, ◌^◌, ◌≤◌, ◌<◌}
 use Rattle.lists.{specs.Kit.{refl, ap, ◌∙◌, inl, inr, Bool, true, false, cond, List, ℕ, min}}
-use Rattle.lists.{specs.Kit.{arith, one-mul, mod-eq_of_lt, bit_or, or_zero_r, ltb, leb, eqb, length, get_or, set, length-set, get_or-set_same, get_or-set_other}}
+use Rattle.lists.{specs.Kit.{arith, one-mul, mod-eq_of_lt, bit_or, or_zero_r, ltb, leb, eqb, length, get_or}}
 use Rattle.lists.{specs.Kit.{ltb-true, lt-ltb, le-ltb, eqb-true, eqb-false}, proofs.Tests.{bool_cases, iff_eq}}
 use lib.Pow.{pow-lt}
 use Rattle.mesh.{specs.Tables.{digit}, proofs.Tables.Digits.{digit_nothing, digit_put_digit}}
@@ -72,22 +72,6 @@ pub record LevelSetting (ns : List ℕ) (k j : ℕ) (t : List ℕ) : Type 0 wher
   pub low : j ≤ 8
   pub long : length t ≡ 8
   pub words : (i : ℕ) → i < j → LevelWord ns k (64 * i) (get_or t i 0)
-
-pub level_setting_turn : (ns : List ℕ) (k j w : ℕ) (t : List ℕ) → j < 8 → LevelWord ns k (64 * j) w → LevelSetting ns k j t → LevelSetting ns k (j + 1)
-    (set t j w)
-level_setting_turn ns k j w t l h a = record {
-  low = omega arith;
-  long = length-set t j w ∙ a.long;
-  words = λ i li. go i li (bool_cases (eqb i j));
-}
-  where
-    go : (i : ℕ) → i < j + 1 → (eqb i j ≡ true) ⊎ (eqb i j ≡ false) → LevelWord ns k (64 * i) (get_or (set t j w) i 0)
-    go i li (inl e) m lm =
-        let q : i ≡ j = eqb-true i j e in
-        rw (q, get_or-set_same t j w 0 (omega (arith, a.long))) (h m lm)
-    go i li (inr e) m lm =
-        let q = eqb-false i j e in
-        rw (get_or-set_other t j i w 0 q) (a.words i (omega arith) m lm)
 
 pub level_setting_end : (ns : List ℕ) (k j : ℕ) (t : List ℕ) → 8 ≤ j → LevelSetting ns k j t → LevelSet ns k t
 unfolding in_set

@@ -1,5 +1,5 @@
 -- The functions that other crates call, as they stand in a linked program: the crate's table of names and codes, and that each has its code there,
--- with the code of all that it calls, where this table and those of the crates below stand in it.
+-- with the code of all that it calls, where this table and those of the crates below stand in it. Written by tools/worlds.
 use mathlib.Core.Bool.{true}
 use prog.{Linked.{Tree, World, Holds, in_world}, LinkedThreads.{HasT}}
 use Rattle.floods.proofs.TheLink as link
@@ -16,7 +16,16 @@ abbrev pub Stand : World → Type 0
 Stand W = Holds W "floods" table × rows.Stand W × tables.Stand W
 
 below : (W : World) → Stand W → link.Below W
-below W h = (rows.has_sets_join_row W h.1, (rows.has_sets_take_common W h.1, (rows.has_sets_take_out W h.1, (tables.has_fill_least W h.2, tt))))
+below W h = (
+  rows.has_sets_RadioSet_empty W h.1,
+  (
+    rows.has_sets_RadioSet_join_row W h.1,
+    (
+      rows.has_sets_RadioSet_of W h.1,
+      (rows.has_sets_RadioSet_take_common W h.1, (rows.has_sets_RadioSet_take_out W h.1, (tables.has_fill_least W h.2, tt))),
+    ),
+  ),
+)
 
 pub has_flood_flood : (W : World) → Stand W → HasT (in_world W) true flood_flood.code
 has_flood_flood W h = link.linked-floods::flood::flood W h.0 (below W h)

@@ -3,13 +3,13 @@
 --   Spread ts s v w        links lead from v to w over radios of the set s
 --   Flood                  a flood on its way: the set, the queue of the radios that came in, and how many these are
 --   MarkedBy              a radio that stands in a stretch of a list has x as neighbour
---   RowsJoined            the neighbours of the radios of a stretch, put into a set
+--   RowsJoined            the neighbours of the radios of a stretch, as a set
 --   LayerTaken            the neighbours of the radios that came in last come in where the set has them
---   Floodable              what the flood wants: lengths fit, and v may be a radio
+--   Floodable              what the flood wants: the queue has room, and v may be a radio
 --   FloodDone             what the flood leaves
 -- That on sound tables the radios that come in are the connected core is `member_flood` in proofs/FloodCore.antt.
 -- Definitions only.
-use Rattle.std.specs.Prelude.{◌≡◌, ◌↔◌, ◌⊎◌, ◌&&◌, ◌+◌, ◌-◌, ◌≤◌, ◌<◌}
+use Rattle.std.specs.Prelude.{◌≡◌, ◌↔◌, ◌&&◌, ◌+◌, ◌-◌, ◌≤◌, ◌<◌}
 use Rattle.lists.specs.{Kit.{Bool, true, not, List, ℕ, min, ltb, leb, eqb, length, get_or, take, sets}, Lists.{count}}
 use Rattle.lists.specs.{Lists.{member}}
 use Rattle.mesh.specs.{Limits.{max_radios}, Tables.{digit}}
@@ -54,15 +54,15 @@ pub record MarkedBy (ts list : List ℕ) (from to x : ℕ) : Type 0 where
   pub high : place < to
   pub marks : member x (row_listed ts (get_or list place 0)) ≡ true
 
--- r before, s after
-pub record RowsJoined (ts list : List ℕ) (from to : ℕ) (r s : List ℕ) : Type 0 where
-  pub some : (x : ℕ) → in_set s x ≡ true → (in_set r x ≡ true) ⊎ MarkedBy ts list from to x
+-- the set s has them, and no other radio
+pub record RowsJoined (ts list : List ℕ) (from to : ℕ) (s : List ℕ) : Type 0 where
+  pub some : (x : ℕ) → in_set s x ≡ true → MarkedBy ts list from to x
   pub all : (x : ℕ) → MarkedBy ts list from to x → in_set s x ≡ true
 
 -- f before, e after
 pub record LayerTaken (ts : List ℕ) (from : ℕ) (f e : Flood) : Type 0 where
+  pub long : length e.set ≡ 8
   pub reach : List ℕ
-  pub long : length reach ≡ 8
   pub some : (x : ℕ) → in_set reach x ≡ true → MarkedBy ts f.queue from f.count x
   pub all : (x : ℕ) → MarkedBy ts f.queue from f.count x → in_set reach x ≡ true
   pub counted : e.count ≡ f.count + min (length f.queue - f.count) (length (common reach f.set))
@@ -71,14 +71,14 @@ pub record LayerTaken (ts : List ℕ) (from : ℕ) (f e : Flood) : Type 0 where
 
 -- ---- the whole flood
 
--- v may be a radio, the set is eight words, and the queue has an entry for each of 512 radios
-pub record Floodable (v set queue : ℕ) : Type 0 where
+-- v may be a radio, and the queue has an entry for each of 512 radios
+pub record Floodable (v queue : ℕ) : Type 0 where
   pub radio : v < max_radios
-  pub words : set ≡ 8
   pub room : max_radios ≤ queue
 
 -- r radios came in, each once, and stand in front of the queue; the set has them no more
 pub record FloodDone (ts : List ℕ) (v : ℕ) (old : List ℕ) (r : ℕ) (set queue : List ℕ) : Type 0 where
+  pub long : length set ≡ 8
   pub few : r ≤ max_radios
   pub once : (w : ℕ) → count (λ x. eqb x w) (take r queue) ≤ 1
   pub radios : (w : ℕ) → (member w (take r queue) ≡ true) ↔ Spread ts old v w

@@ -5,40 +5,44 @@ ghost use Rattle.lists.specs.Kit.{length};
 ghost use Rattle.mesh.specs.Limits.{max_radios};
 ghost use Rattle.floods.specs.Floods.{flood_at, RowsJoined, LayerTaken, Floodable, FloodDone};
 
-use mesh::Site;
-use rows::sets;
+use rows::sets::RadioSet;
 
-// Puts the neighbours of the radios that stand in the list from place `from` on and before place `to` into the set.
-fn join_rows<'a>(links: &'a [u8], list: &'a [u16], from: usize, to: usize, set: &mut [u64])
-    requires { (from ≤ to) × (to ≤ length list.now) × (length set.old ≡ 8) }
-    ensures { RowsJoined links.now list.now from to set.old set.new }
+// The neighbours of the radios that stand in the list from place `from` on and before place `to`.
+fn join_rows<'a>(links: &'a [u8], list: &'a [u16], from: usize, to: usize) -> RadioSet
+    requires { (from ≤ to) × (to ≤ length list.now) }
+    ensures { RowsJoined links.now list.now from to result }
 {
-    let mut i = from;
-    while i < to {
-        sets::join_row(links, list[i] as u32, set);
-        i += 1;
+    let mut reach = RadioSet::empty();
+    for i in from..to {
+        reach.join_row(links, list[i] as u32);
     }
+    reach
 }
 
 // Takes the neighbours of the radios that stand in the queue from place `from` on, and before place `count`, out of the set; they
 // come behind the first `count` entries of the queue, as many as fit. Comes back with how many entries the queue then has.
-fn take_layer(links: &[u8], set: &mut [u64], queue: &mut [u16], from: usize, count: usize) -> usize
-    requires { (from ≤ count) × (count ≤ length queue.old) × (count ≤ max_radios) × (length set.old ≡ 8) }
+fn take_layer(
+    links: &[u8],
+    set: &mut RadioSet,
+    queue: &mut [u16],
+    from: usize,
+    count: usize,
+) -> usize
+    requires { (from ≤ count) × (count ≤ length queue.old) × (count ≤ max_radios) }
     ensures { LayerTaken links.now from (flood_at set.old queue.old count)
         (flood_at set.new queue.new result) }
 {
-    let mut reach = [0u64; Site::ROW_BYTES / 8];
-    join_rows(links, queue, from, count, &mut reach);
-    count + sets::take_common(&reach, set, &mut queue[count..])
+    let reach = join_rows(links, queue, from, count);
+    count + set.take_common(&reach, &mut queue[count..])
 }
 
 // Takes v out of the set, and with it the radios that links lead to from v over radios of the set. Comes back with how many these
 // are; they stand in front of the queue, each once, and the rest of it holds anything.
-pub fn flood(links: &[u8], v: u32, set: &mut [u64], queue: &mut [u16]) -> usize
-    requires { Floodable v (length set.old) (length queue.old) }
+pub fn flood(links: &[u8], v: u32, set: &mut RadioSet, queue: &mut [u16]) -> usize
+    requires { Floodable v (length queue.old) }
     ensures { FloodDone links.now v set.old result set.new queue.new }
 {
-    sets::take_out(set, v);
+    set.take_out(v);
     queue[0] = v as u16;
     let mut count: usize = 1;
     let mut i: usize = 0;

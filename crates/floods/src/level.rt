@@ -4,7 +4,7 @@ ghost use Rattle.lists.specs.Kit.{length};
 ghost use Rattle.mesh.specs.Limits.{max_radios};
 ghost use Rattle.floods.specs.Floods.{LevelWord, LevelSet};
 
-use mesh::Site;
+use rows::sets::RadioSet;
 
 // Of the radios from `first` on, 64 or as many as there are, the ones whose number is at least the level, a bit for each.
 fn level_word(numbers: &[u8], level: u8, first: usize) -> u64
@@ -16,22 +16,20 @@ fn level_word(numbers: &[u8], level: u8, first: usize) -> u64
     }
     let many = tables::fill::least(numbers.len() - first, 64);
     let mut word: u64 = 0;
-    let mut i: usize = 0;
-    while i < many {
+    for i in 0..many {
         word = word | ((level <= numbers[first + i]) as u64) << i as u32;
-        i += 1;
     }
     word
 }
 
-// The set holds the radios whose number is at least the level after.
-pub fn at_least(numbers: &[u8], level: u8, set: &mut [u64])
-    requires { length set.old ≡ 8 }
-    ensures { LevelSet numbers.now level set.new }
+// The radios whose number is at least the level.
+pub fn at_least(numbers: &[u8], level: u8) -> RadioSet
+    ensures level { LevelSet numbers.now level result }
+    ensures long { length result ≡ 8 }
 {
-    let mut k: usize = 0;
-    while k < Site::ROW_BYTES / 8 {
-        set[k] = level_word(numbers, level, 64 * k);
-        k += 1;
+    let mut words = [0u64; rows::ROW_WORDS as usize];
+    for k in 0..rows::ROW_WORDS as usize {
+        words[k] = level_word(numbers, level, 64 * k);
     }
+    RadioSet::of(words)
 }

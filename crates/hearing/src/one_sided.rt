@@ -42,8 +42,7 @@ fn mark_row(heard: &[u8], a: u32, one_sided: &mut [u8]) -> u32
     let end = start + Site::ROW_BYTES;
     let row = &heard[start..end];
     let mut n: u32 = 0;
-    let mut k: u32 = 0;
-    while k < rows::ROW_WORDS {
+    for k in 0..rows::ROW_WORDS {
         n += mark_word(
             heard,
             a,
@@ -51,7 +50,6 @@ fn mark_row(heard: &[u8], a: u32, one_sided: &mut [u8]) -> u32
             rows::word_of(row, k),
             one_sided,
         );
-        k += 1;
     }
     n
 }
@@ -61,12 +59,10 @@ pub fn mark(n: u32, heard: &[u8], one_sided: &mut [u8]) -> u32
     requires { OfSize n heard.now }
     ensures { OneSidedMarked n heard.now one_sided.old result one_sided.new }
 {
-    fill::fill8(one_sided, 0);
+    fill::fill(one_sided, &0);
     let mut count: u32 = 0;
-    let mut a: u32 = 0;
-    while a < n {
+    for a in 0..n {
         count += mark_row(heard, a, one_sided);
-        a += 1;
     }
     count
 }

@@ -4,6 +4,7 @@ ghost use Rattle.lists.specs.Kit.{ℕ, leb, length};
 ghost use Rattle.mesh.specs.Limits.{max_radios, max_neighbours, row_bytes};
 ghost use Rattle.lists.specs.Lists.{count};
 ghost use Rattle.rows.specs.Rows.{neighbours_of, set_bits};
+ghost use Rattle.calls.specs.Answers.{call_number};
 ghost use Rattle.calls.specs.Heard.{agreed_degree, heard_proper, agreed_few};
 ghost use Rattle.conditions.specs.Hearing.{OfSize, hears, none_from, rows_refusal};
 
@@ -33,15 +34,13 @@ fn is_proper(n: u32, heard: &[u8]) -> bool
     requires { OfSize n heard.now }
     ensures { result ≡ heard_proper n heard.now }
 {
-    let mut a: u32 = 0;
-    while a < n {
+    for a in 0..n {
         if rows::is_marked(heard, a, a) {
             return false;
         }
         if !is_within(n, heard, a) {
             return false;
         }
-        a += 1;
     }
     true
 }
@@ -69,10 +68,8 @@ fn count_agreed(heard: &[u8], a: u32) -> u32
     let end = start + Site::ROW_BYTES;
     let row = &heard[start..end];
     let mut n: u32 = 0;
-    let mut k: u32 = 0;
-    while k < rows::ROW_WORDS {
+    for k in 0..rows::ROW_WORDS {
         n += count_word(heard, a, rows::WORD_BITS * k, rows::word_of(row, k));
-        k += 1;
     }
     n
 }
@@ -95,26 +92,24 @@ fn are_few(n: u32, heard: &[u8]) -> bool
     if n <= Site::NEIGHBOURS {
         return true;
     }
-    let mut a: u32 = 0;
-    while a < n {
+    for a in 0..n {
         if !is_few(heard, a) {
             return false;
         }
-        a += 1;
     }
     true
 }
 
-// The number of questions 14 and 7, or 0.
-pub fn refusal(n: u32, heard: &[u8]) -> u32
+// Questions 14 and 7.
+pub fn ask(n: u32, heard: &[u8]) -> Result<(), Refusal>
     requires { OfSize n heard.now }
-    ensures { result ≡ rows_refusal n heard.now }
+    ensures { call_number result ≡ rows_refusal n heard.now }
 {
     if !is_proper(n, heard) {
-        return Refusal::HEARD;
+        return Err(Refusal::Heard);
     }
     if !are_few(n, heard) {
-        return Refusal::NO_ROOM;
+        return Err(Refusal::NoRoom);
     }
-    0
+    Ok(())
 }

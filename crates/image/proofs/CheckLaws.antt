@@ -1,7 +1,7 @@
 -- Laws of a block's check.
 -- In order: the sum byte by byte, two words as one number, tests one after the other, with and without a stop.
 use Rattle.std.specs.Prelude.{◌≡◌, ◌&&◌, ◌∷◌, ◌+◌, ◌*◌, ◌-◌, ◌≤◌, ◌<◌}
-use Rattle.lists.{specs.Kit.{refl, sym, ap, ◌∙◌, Bool, true, false, List, [], ℕ, suc, arith, mul-le-mul, add-one}}
+use Rattle.lists.{specs.Kit.{refl, sym, ap, ◌∙◌, Bool, true, false, List, [], ℕ, suc, arith, add-one}}
 use Rattle.lists.{specs.Kit.{length, get_or, take, take-suc, length-take-le, get_or-take}, specs.Lists.{range, all}, proofs.All.{all_append}}
 use Rattle.lists.{proofs.Range.{range_suc}}
 use Rattle.mesh.{specs.Image.{check_sum, word_at}, proofs.Images.Laws.{check_sum_snoc}, proofs.Images.Words.{check_sum_less}, proofs.Images.Checks.{long_at}}
@@ -18,12 +18,6 @@ pub record Summing (bytes : List ℕ) (count sum i : ℕ) : Type 0 where
   pub is : sum ≡ check_sum (take i bytes)
 
 module _ (bs : List ℕ) (count sum i x : ℕ) (s : Summing bs count sum i) (h : i < count) (e : x ≡ get_or bs i 0) where
-  pub product_fits : x < 256 → x * (i + 1) < 4294967296
-  product_fits b =
-      let here : x ≤ 255 = omega arith in
-      let there : i + 1 ≤ 512 = omega (arith, s.few) in
-      omega (arith, mul-le-mul here there)
-
   one_more : sum + x * (i + 1) ≡ check_sum (take (i + 1) bs)
   one_more =
       sym (ap (λ (k : ℕ). check_sum (take k bs)) (add-one i) ∙ ap check_sum (take-suc bs i 0 (omega (arith, s.whole)))
@@ -36,10 +30,6 @@ module _ (bs : List ℕ) (count sum i x : ℕ) (s : Summing bs count sum i) (h :
 
   pub summing_turn : Summing bs count (sum + x * (i + 1)) (i + 1)
   summing_turn = record { low = omega arith; few = s.few; whole = s.whole; is = one_more }
-
-pub summing_end : (bs : List ℕ) (count sum i : ℕ) → Summing bs count sum i → count ≤ i → sum ≡ check_sum (take count bs)
-summing_end bs count sum i s h =
-    let e : i ≡ count = omega (arith, s.low) in s.is ∙ ap (λ (k : ℕ). check_sum (take k bs)) e
 
 -- ---- two words as one number
 

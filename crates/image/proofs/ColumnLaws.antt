@@ -1,7 +1,7 @@
 -- Laws of the check by columns.
 -- In order: bounds, a byte added, the loop over a run's columns, the difference of a column, all columns together.
 use Rattle.std.specs.Prelude.{◌≡◌, ◌+◌, ◌*◌, ◌-◌, ◌/◌, ◌%◌, ◌≤◌, ◌<◌}
-use Rattle.lists.specs.Kit.{refl, sym, ap, ap₂, subst, ◌∙◌, Bool, true, false, cond, List, ℕ, zero, suc, arith, mul-add}
+use Rattle.lists.specs.Kit.{refl, sym, ap, ap₂, ◌∙◌, Bool, true, false, cond, List, ℕ, zero, suc, arith, mul-add}
 use Rattle.lists.specs.Kit.{add-mul, mul_comm, mul-le-mul, add-one, ltb, eqb, length, get_or, take, replicate, length-set, length-replicate, get_or-replicate}
 use Rattle.lists.specs.Kit.{take-suc, length-take-le, get_or-set_same, get_or-set_other, ltb-true, ltb-false, lt-ltb, le-ltb, eqb-true, eqb-false}
 use Rattle.mesh.{specs.Image.{check_sum, weighted_sum}, proofs.Images.Laws.{check_sum_snoc}}
@@ -95,24 +95,6 @@ module _ (bs : List ℕ) (runs : ℕ → ℕ) (ss ts : List ℕ) (s : Summed bs 
 
 abbrev pub runs_at : (r t q : ℕ) → ℕ
 runs_at r t q = cond (ltb (3 * (q % 8) + q / 8) t) (suc r) r
-
-pub adding_none : (bs : List ℕ) (r : ℕ) (ss ts : List ℕ) → Columns bs r ss ts → Summed bs (runs_at r 0) ss ts
-adding_none bs r ss ts c =
-    record {
-      sums_long = c.sums_long;
-      twice_long = c.twice_long;
-      sum_at = λ q l. rw (le-ltb (3 * (q % 8) + q / 8) 0 (omega arith)) (c.sum_at q l);
-      twice_at = λ q l. rw (le-ltb (3 * (q % 8) + q / 8) 0 (omega arith)) (c.twice_at q l);
-    }
-
-pub adding_end : (bs : List ℕ) (r t : ℕ) (ss ts : List ℕ) → Summed bs (runs_at r t) ss ts → 24 ≤ t → Columns bs (r + 1) ss ts
-adding_end bs r t ss ts s h =
-    record {
-      sums_long = s.sums_long;
-      twice_long = s.twice_long;
-      sum_at = λ q l. rw (lt-ltb (3 * (q % 8) + q / 8) t (omega arith)) at (s.sum_at q l) ∙ ap (column bs q) (sym (add-one r));
-      twice_at = λ q l. rw (lt-ltb (3 * (q % 8) + q / 8) t (omega arith)) at (s.twice_at q l) ∙ ap (column_twice bs q) (sym (add-one r));
-    }
 
 -- column p is the next
 module _ (bs : List ℕ) (r t : ℕ) (ss ts : List ℕ) (s : Summed bs (runs_at r t) ss ts) (p : ℕ) (h : p < 24) (e : 3 * (p % 8) + p / 8 ≡ t) where
@@ -245,13 +227,7 @@ module _ (ss ts : List ℕ) (fit : ColumnsFit ss ts) (sum p : ℕ) (t : Totallin
         is = ap (λ (k : ℕ). k + ((p + 505) * get_or ss p 0 - 24 * get_or ts p 0)) t.is ∙ ap (columns_total ss ts) (sym (add-one p));
       }
 
-pub totalling_end : (ss ts : List ℕ) (sum p : ℕ) → Totalling ss ts sum p → 24 ≤ p → sum ≡ columns_total ss ts 24
-totalling_end ss ts sum p t h = let e : p ≡ 24 = omega (arith, t.low) in t.is ∙ ap (columns_total ss ts) e
-
--- ---- the loop over the runs
-
-pub columns_end : (bs ss ts : List ℕ) (r : ℕ) → Columns bs r ss ts → r ≤ 21 → 21 ≤ r → Columns bs 21 ss ts
-columns_end bs ss ts r c l h = let e : r ≡ 21 = omega arith in subst (λ (k : ℕ). Columns bs k ss ts) e c
+-- ---- before the first run
 
 pub columns_none : (bs : List ℕ) → Columns bs 0 (replicate 24 0) (replicate 24 0)
 unfolding column column_twice

@@ -1,6 +1,7 @@
 -- The form of an image of n radios, as question 11 tests it in place: bs is the image, m its count of links.
 --   zeros bs at k              the k bytes from `at` on are zero
---   kind_of n i                the kind of block i
+--   kind_byte k                the byte of a kind
+--   kind_of n i                the kind of block i, as its byte
 --   used_of n m i              how many bytes of the payload of block i are used
 --   block_formed bs i k u      block i has kind k, a zero byte, its index, and zeros past u bytes of its payload
 --   blocks_formed n bs b       the first b blocks are formed
@@ -8,10 +9,17 @@
 -- That a formed image whose checks are good is the image of what it says is in proofs/FormLaws.antt. Definitions only.
 use Rattle.std.specs.Prelude.{◌&&◌, ◌+◌, ◌*◌, ◌-◌}
 use Rattle.lists.specs.{Kit.{Bool, cond, List, ℕ, zero, suc, min, ltb, eqb, length, get_or}, Lists.{range, all}}
+use Rattle.image.specs.declared.layout.Kind.{Kind}
+use Rattle.image.specs.declared.layout.Kind.TheVariants.{Counts, Order, Links}
 use Rattle.mesh.specs.Image.{block_bytes, payload_bytes, block_entries, block_links, word_at, order_blocks, block_count}
 
 unfoldable pub zeros : (image : List ℕ) → (at k : ℕ) → Bool
 zeros bs at k = all (λ j. eqb (get_or bs (at + j) 0) 0) (range 0 k)
+
+abbrev pub kind_byte : Kind → ℕ
+kind_byte Counts = 0
+kind_byte Order = 1
+kind_byte Links = 2
 
 unfoldable pub kind_of : (n i : ℕ) → ℕ
 kind_of n zero = 0

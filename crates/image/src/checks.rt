@@ -3,6 +3,7 @@ ghost use Rattle.std.specs.Prelude.{◌≡◌, ◌<◌, ◌≤◌, ◌+◌, ◌/
 ghost use Rattle.lists.specs.Kit.{length, take};
 ghost use Rattle.mesh.specs.Image.{block_bytes, check_sum, block_check, checks_good};
 ghost use Rattle.image.specs.Columns.{ByteFits, ByteAdded, Columns, ColumnsFit, columns_total};
+ghost use Rattle.calls.specs.Answers.{call_number};
 ghost use Rattle.calls.specs.Chains.{block_refusal};
 
 use super::{bytes, layout};
@@ -33,8 +34,7 @@ fn add_run(block: &[u8], r: usize, sums: &mut [u16], twice: &mut [u16])
     requires { (r < 21) × (504 ≤ length block.now) × Columns block.now r sums.old twice.old }
     ensures { Columns block.now (r + 1) sums.new twice.new }
 {
-    let mut p: usize = 0;
-    while p < THIRD {
+    for p in 0..THIRD {
         add_byte(block, COLUMNS * r + p, p, sums, twice);
         add_byte(block, COLUMNS * r + (THIRD + p), THIRD + p, sums, twice);
         add_byte(
@@ -44,7 +44,6 @@ fn add_run(block: &[u8], r: usize, sums: &mut [u16], twice: &mut [u16])
             sums,
             twice,
         );
-        p += 1;
     }
 }
 
@@ -53,10 +52,8 @@ fn add_runs(block: &[u8], sums: &mut [u16], twice: &mut [u16])
     requires { (504 ≤ length block.now) × Columns block.now 0 sums.old twice.old }
     ensures { Columns block.now 21 sums.new twice.new }
 {
-    let mut r: usize = 0;
-    while r < RUNS {
+    for r in 0..RUNS {
         add_run(block, r, sums, twice);
-        r += 1;
     }
 }
 
@@ -66,10 +63,8 @@ fn columns_total(sums: &[u16], twice: &[u16]) -> u32
     ensures { result ≡ columns_total sums.now twice.now 24 }
 {
     let mut sum: u32 = 0;
-    let mut p: usize = 0;
-    while p < COLUMNS {
+    for p in 0..COLUMNS {
         sum += (p as u32 + 505) * sums[p] as u32 - 24 * twice[p] as u32;
-        p += 1;
     }
     sum
 }
@@ -91,10 +86,8 @@ fn check_rest(block: &[u8], from: usize, count: usize, start: u32) -> u32
     ensures { result ≡ check_sum (take count block.now) }
 {
     let mut sum = start;
-    let mut i = from;
-    while i < count {
-        sum += bytes::wide(block[i]) * (i as u32 + 1);
-        i += 1;
+    for i in from..count {
+        sum += block[i] as u32 * (i as u32 + 1);
     }
     sum
 }
@@ -126,29 +119,27 @@ fn all_good(image: &[u8]) -> bool
     ensures { result ≡ checks_good image.now }
 {
     let count = image.len() / layout::BLOCK;
-    let mut i: usize = 0;
-    while i < count {
+    for i in 0..count {
         if !is_good(image, i) {
             return false;
         }
-        i += 1;
     }
     true
 }
 
-// The number of questions 9 and 10: 9, 10, or 0 when both got yes.
-pub fn refusal(image: &[u8]) -> u32
-    ensures { result ≡ block_refusal image.now }
+// Questions 9 and 10.
+pub fn ask(image: &[u8]) -> Result<(), Refusal>
+    ensures { call_number result ≡ block_refusal image.now }
 {
     let length = image.len();
     if length == 0 {
-        return Refusal::IMAGE_SIZE;
+        return Err(Refusal::ImageSize);
     }
     if length % layout::BLOCK != 0 {
-        return Refusal::IMAGE_SIZE;
+        return Err(Refusal::ImageSize);
     }
     if !all_good(image) {
-        return Refusal::IMAGE_CHECK;
+        return Err(Refusal::ImageCheck);
     }
-    0
+    Ok(())
 }

@@ -16,7 +16,7 @@ pub struct Header {
 // The header of an image that has its block 0.
 pub fn header_of(image: &[u8]) -> Header
     requires { block_bytes ≤ length image.now }
-    ensures { HeaderOf image.now result.radios result.links }
+    ensures { HeaderOf image.now result }
 {
     Header {
         radios: bytes::word_at(image, layout::RADIOS_AT),

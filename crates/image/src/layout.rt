@@ -1,6 +1,7 @@
 // The layout of an image: its figures, here once, and how many blocks it has.
 ghost use Rattle.std.specs.Prelude.{◌≡◌, ◌<◌};
 ghost use Rattle.mesh.specs.Image.{blocks_for, block_count};
+ghost use Rattle.image.specs.Form.{kind_byte};
 
 use mesh::Site;
 
@@ -14,6 +15,27 @@ pub const PAYLOAD: usize = 504;
 
 // The bytes before the check.
 pub const BODY: usize = 508;
+
+// What a block holds: the counts of block 0, entries of the order, or links.
+#[derive(Clone, Copy)]
+pub enum Kind {
+    Counts,
+    Order,
+    Links,
+}
+
+impl Kind {
+    // The first byte of a block of this kind.
+    pub fn byte(self) -> u8
+        ensures { result ≡ kind_byte self }
+    {
+        match self {
+            Kind::Counts => 0,
+            Kind::Order => 1,
+            Kind::Links => 2,
+        }
+    }
+}
 
 // Where block 0 says how many radios there are, and how many links.
 pub const RADIOS_AT: usize = 4;

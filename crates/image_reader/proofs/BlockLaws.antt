@@ -2,16 +2,17 @@
 use Rattle.std.specs.Prelude.{◌≡◌, ◌+◌, ◌*◌, ◌-◌, ◌/◌, ◌%◌, ◌≤◌, ◌<◌}
 use Rattle.lists.specs.Kit.{ap, ◌∙◌, List, ℕ, min, arith}
 use Rattle.mesh.specs.Image.{block_bytes, block_links, order_blocks, blocks_for, block_count, word_at, entry_at, image_link}
+use Rattle.image.specs.Header.{header}
 use Rattle.image_reader.specs.Site.{LinkAt, passed, PartIs}
 
 -- ---- a block
 
 pub part_is : (n m q at orders left count : ℕ) → orders ≡ order_blocks n → at ≡ block_bytes * (1 + orders + q) + 4
-    → left ≡ m - block_links * q → count ≡ min block_links left → PartIs n m q at count
+    → left ≡ m - block_links * q → count ≡ min block_links left → PartIs (header n m) q (record { at = at; count = count })
 part_is n m q at orders left count e a l c =
     record { at_is = a ∙ ap (λ (k : ℕ). block_bytes * (1 + k + q) + 4) e; count_is = c ∙ ap (min block_links) l }
 
-module _ (n m q at count : ℕ) (part : PartIs n m q at count) where
+module _ (n m q at count : ℕ) (part : PartIs (header n m) q (record { at = at; count = count })) where
   -- link i of block q
   pub link_in : (bs : List ℕ) (i a b : ℕ) → i < count → a ≡ word_at bs (at + 4 * i) → b ≡ word_at bs (at + 4 * i + 2)
       → LinkAt n bs (block_links * q + i) a b

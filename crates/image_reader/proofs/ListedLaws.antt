@@ -5,6 +5,7 @@ use Rattle.lists.{specs.Kit.{arith, ltb, eqb, length, get_or, set, ext_get_or, g
 use Rattle.lists.{specs.Lists.{range}, proofs.Tests.{bool_cases, trichotomy}, proofs.Map.{get_d_map_range}}
 use Rattle.mesh.{specs.Graph.{Link, link_of, link_before, proper, ascending}, specs.Image.{block_bytes, block_entries, word_at, entry_at, image_link}}
 use Rattle.mesh.{specs.Image.{image_order}, proofs.Tables.AscendingLinks.{link_eq}, proofs.Images.Canonical.{length_image_order}}
+use Rattle.image.specs.Header.{header}
 use Rattle.image_reader.specs.Site.{order_entry, LinkAt, links_up_to, key_of, key_link, next_key, listed_from, Listed, OrderRead}
 
 -- ---- proper and ascending, link by link
@@ -92,7 +93,7 @@ module _ (x a b : ℕ) (is : x ≡ a + 65536 * b) (la : a < 65536) (lb : b < 655
 
 -- ---- j links passed
 
-pub listed_none : (n m : ℕ) (bs : List ℕ) → Listed n m bs true 0 0
+pub listed_none : (n m : ℕ) (bs : List ℕ) → Listed (header n m) bs (record { good = true; key = 0 }) 0
 unfolding links_up_to
 listed_none n m bs =
     let z : m - 0 ≡ m = omega arith in
@@ -102,7 +103,8 @@ and_assoc : (a b c : Bool) → (a && (b && c)) ≡ ((a && b) && c)
 and_assoc true b c = refl
 and_assoc false b c = refl
 
-module _ (n m : ℕ) (bs : List ℕ) (good : Bool) (key j : ℕ) (l : Listed n m bs good key j) (h : j < m) (x a b : ℕ) (pair : LinkAt n bs j a b)
+module _ (n m : ℕ) (bs : List ℕ) (good : Bool) (key j : ℕ)
+    (l : Listed (header n m) bs (record { good = good; key = key }) j) (h : j < m) (x a b : ℕ) (pair : LinkAt n bs j a b)
     (x_is : x ≡ a + 65536 * b) (la : a < 65536) (lb : b < 65536) where
   abbrev k : ℕ
   k = key_of x
@@ -125,13 +127,13 @@ module _ (n m : ℕ) (bs : List ℕ) (good : Bool) (key j : ℕ) (l : Listed n m
       let f : suc j ≡ j + 1 = omega arith in
       rw (e, f, link_here) (ap (λ (t : Bool). t && listed_from n (key_link k) rest) next_here)
 
-  pub listed_turn : Listed n m bs (good && next_key n key k) k (j + 1)
+  pub listed_turn : Listed (header n m) bs (record { good = good && next_key n key k; key = k }) (j + 1)
   listed_turn = record {
     low = omega arith;
     is = l.is ∙ ap (λ (t : Bool). good && t) next_link ∙ and_assoc good (next_key n key k) (listed_from n (key_link k) rest);
   }
 
-pub listed_end : (n m : ℕ) (bs : List ℕ) (good : Bool) (key j : ℕ) → Listed n m bs good key j → j ≡ m
+pub listed_end : (n m : ℕ) (bs : List ℕ) (good : Bool) (key j : ℕ) → Listed (header n m) bs (record { good = good; key = key }) j → j ≡ m
     → good ≡ (proper n (links_up_to n bs m) && ascending (links_up_to n bs m))
 unfolding range listed_from
 listed_end n m bs good key j l h = let e : m - j ≡ 0 = omega arith in sym (l.is ∙ rw e (and-true good))
@@ -140,8 +142,9 @@ listed_end n m bs good key j l h = let e : m - j ≡ 0 = omega arith in sym (l.i
     and-true true = refl
     and-true false = refl
 
-pub listed_at : (n m : ℕ) (bs : List ℕ) (good : Bool) (key i j : ℕ) → Listed n m bs good key i → i ≡ j → Listed n m bs good key j
-listed_at n m bs good key i j l e = subst (λ (q : ℕ). Listed n m bs good key q) e l
+pub listed_at : (n m : ℕ) (bs : List ℕ) (good : Bool) (key i j : ℕ) → Listed (header n m) bs (record { good = good; key = key }) i → i ≡ j
+    → Listed (header n m) bs (record { good = good; key = key }) j
+listed_at n m bs good key i j l e = subst (λ (q : ℕ). Listed (header n m) bs (record { good = good; key = key }) q) e l
 
 -- ---- the order
 

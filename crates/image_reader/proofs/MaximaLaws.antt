@@ -26,9 +26,6 @@ pub record Running (c : ℕ → ℕ) (order start ranks : List ℕ) (top i : ℕ
   pub long : length ranks ≡ length start
   pub is : map (λ v. get_or ranks v 0) (take i order) ++ running_maxima_of c top (drop i order) ≡ running_maxima_of c 0 order
 
-pub running_none : (c : ℕ → ℕ) (order start : List ℕ) → Running c order start start 0 0
-running_none c order start = record { low = omega arith; long = refl; is = refl }
-
 -- an entry of the order is a radio
 entry_below : (order : List ℕ) → each_once (length order) order ≡ true → (i : ℕ) → i < length order → get_or order i 0 < length order
 entry_below order once i l = once_below (length order) order (each_once_of (length order) order once) (get_or order i 0) (in_get_d order i l)

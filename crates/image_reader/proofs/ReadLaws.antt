@@ -1,36 +1,34 @@
 -- The outcomes of reading and of asking an image alone: the first question that gets no, or the tables of the image.
-use Rattle.std.specs.Prelude.{◌≡◌, ◌&&◌, ◌*◌, ◌≤◌}
+use Rattle.std.specs.Prelude.{◌≡◌, ◌&&◌, ◌*◌}
 use Rattle.lists.specs.Kit.{refl, sym, ap, ◌∙◌, Bool, true, false, List, ℕ, length}
-use Rattle.mesh.{specs.Limits.{max_radios, row_bytes, size_good}, specs.Tables.{Tables}, specs.Image.{word_at}, proofs.Sizes.{size_good_true, true_size_good}}
+use Rattle.mesh.{specs.Limits.{row_bytes, size_good}, specs.Tables.{Tables}, specs.Image.{word_at}, proofs.Sizes.{true_size_good}}
 use Rattle.calls.{specs.Questions.{ask, Lengths, lengths_of, site_lengths, lent_refusal, tables_refusal, image_refusal, read_refusal}}
 use Rattle.calls.{specs.Outcomes.{read_outcome}, specs.CallContracts.{ReadContract}, proofs.ContractLaws.{by_refused}, proofs.QuestionLaws.{ask_yes}}
 use Rattle.calls.{proofs.ChainLaws.{LentGood, lent_zero, lent_yes, BlocksGood, blocks_yes}}
-use Rattle.image_reader.specs.Reading.{alone_refusal, header_refusal, OpenedAs, SourceRoom, SourceDecided}
+use Rattle.image.specs.declared.header.Header.{Header}
+use Rattle.image_reader.specs.Reading.{alone_refusal, header_refusal, Opened, SourceRoom, SourceDecided}
 use Rattle.image_reader.proofs.SourceLaws.{header_stops, header_passes}
 use Rattle.calls.specs.Chains.{source_refusal}
 
 -- ---- the image is opened
 
-module _ (bs : List ℕ) (p radios links : ℕ) (o : OpenedAs bs p radios links) (p_zero : p ≡ 0) where
+module _ (bs : List ℕ) (h : Header) (o : Opened bs h) where
   passed : BlocksGood bs × (size_good (word_at bs 4) ≡ true)
-  passed = header_passes bs (sym o.asked ∙ p_zero)
+  passed = header_passes bs (sym o.asked)
 
-  said_size : size_good radios ≡ true
-  said_size = ap size_good (o.said p_zero).radios_said ∙ passed.1
-
-  pub header_small : radios ≤ max_radios
-  header_small = (size_good_true radios said_size).1
+  said_size : size_good h.radios ≡ true
+  said_size = ap size_good o.said.radios_said ∙ passed.1
 
   -- 15 and 11 decide
   asked_last : (n : ℕ) → image_refusal n bs ≡ source_refusal n bs
   unfolding image_refusal
   asked_last n = blocks_yes bs (source_refusal n bs) passed.0
 
-  pub header_room : (n : ℕ) → size_good n ≡ true → (x y : ℕ) → x ≡ radios → y ≡ radios → SourceRoom n radios links bs x y
+  pub header_room : (n : ℕ) → size_good n ≡ true → (x y : ℕ) → x ≡ h.radios → y ≡ h.radios → SourceRoom n h bs x y
   header_room n one x y ex ey = record {
     this_size = one;
     says_size = said_size;
-    room = record { most = header_small; says = o.said p_zero; checked = passed.0.checks; listed_long = ex; cores_long = ey };
+    room = record { most = o.small; says = o.said; checked = passed.0.checks; listed_long = ex; cores_long = ey };
   }
 
 -- ---- an image alone
@@ -47,8 +45,8 @@ module _ (n : ℕ) (bs : List ℕ) (one : size_good n ≡ true) where
   pub alone_header : (p : ℕ) → p ≡ header_refusal bs → (p ≡ 0 → ⊥) → p ≡ alone_refusal n bs
   alone_header p e h = e ∙ sym (header_stops n bs one (λ z. h (e ∙ z))) ∙ sym alone_asked
 
-  pub alone_decided : (p x y : ℕ) → OpenedAs bs p x y → p ≡ 0 → (xs ns : List ℕ) (r : ℕ) → SourceDecided n bs xs ns r → r ≡ alone_refusal n bs
-  alone_decided p x y o z xs ns r d = d.answer ∙ sym (asked_last bs p x y o z n) ∙ sym alone_asked
+  pub alone_decided : (h : Header) → Opened bs h → (xs ns : List ℕ) (r : ℕ) → SourceDecided n bs xs ns r → r ≡ alone_refusal n bs
+  alone_decided h o xs ns r d = d.answer ∙ sym (asked_last bs h o n) ∙ sym alone_asked
 
 -- ---- reading
 
@@ -94,5 +92,5 @@ module _ (n : ℕ) (bs : List ℕ) (t : Tables) where
     read_sized = (lent.lengths.links, lent.lengths.numbers, lent.lengths.order)
 
     -- the image is opened: 15 and 11 decide
-    pub read_asked : (p x y : ℕ) → OpenedAs bs p x y → p ≡ 0 → read_refusal n l bs ≡ source_refusal n bs
-    read_asked p x y o z = asked ∙ asked_last bs p x y o z n
+    pub read_asked : (h : Header) → Opened bs h → read_refusal n l bs ≡ source_refusal n bs
+    read_asked h o = asked ∙ asked_last bs h o n

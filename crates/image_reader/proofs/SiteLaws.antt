@@ -8,7 +8,7 @@ use Rattle.mesh.{specs.Orders.{is_k_order}, specs.Tables.{tables_of, Tables, tab
 use Rattle.mesh.{specs.Image.{image_links, image_graph, checks_good, is_image}, proofs.Cores.Peeling.{length_numbers, get_d_numbers}}
 use Rattle.mesh.{proofs.Tables.Sites.{image_valid}, proofs.Images.Tables.{number_most}, proofs.Images.Canonical.{length_image_order}, specs.Valid.{Valid}}
 use Rattle.tables.{specs.Widths.{values}, proofs.WidthLaws.{length_values, values_below}}
-use Rattle.image.{specs.Header.{HeaderOf}, specs.Form.{blocks_formed, is_formed}, proofs.FormLaws.{is_image_formed}}
+use Rattle.image.{specs.Header.{HeaderOf, header}, specs.Form.{blocks_formed, is_formed}, proofs.FormLaws.{is_image_formed}}
 use Rattle.image_reader.specs.{Site.{links_up_to, few_ends, TallyRoom, SiteRoom, SiteDecided}, Reading.{ImageDecided}}
 use Rattle.image_reader.proofs.KOrderLaws.{few_degrees}
 
@@ -26,7 +26,7 @@ whole_of n bs m counted h =
 
 module _ (n : ℕ) (bs : List ℕ) (small : n ≤ max_radios) (u : Bool) (u_is : u ≡ is_formed n bs) where
   -- what asking the site wants
-  pub site_room : u ≡ true → (m x y : ℕ) → HeaderOf bs n m → x ≡ n → y ≡ n → SiteRoom n m bs x y
+  pub site_room : u ≡ true → (m x y : ℕ) → HeaderOf bs (header n m) → x ≡ n → y ≡ n → SiteRoom (header n m) bs x y
   site_room e m x y h ex ey = record {
     most = small;
     few = h.links_fit;
@@ -47,7 +47,7 @@ module _ (n : ℕ) (bs : List ℕ) (small : n ≤ max_radios) (u : Bool) (u_is :
         pick (inl e) = never u (u_is ∙ ((is_image_formed n bs small b checked).0 e).0) f
         pick (inr e) = e
 
-    module _ (yes : u ≡ true) (m : ℕ) (counted : m ≡ word_at bs 6) (xs ns : List ℕ) (r : Bool) (d : SiteDecided n m bs xs ns r) where
+    module _ (yes : u ≡ true) (m : ℕ) (counted : m ≡ word_at bs 6) (xs ns : List ℕ) (r : Bool) (d : SiteDecided (header n m) bs xs ns r) where
       abbrev ls : List Link
       ls = links_up_to n bs m
 
@@ -121,7 +121,7 @@ module _ (n : ℕ) (bs : List ℕ) (small : n ≤ max_radios) (xs ns : List ℕ)
       ap (λ (k : ℕ). proper n (links_up_to n bs k)) counted ∙ (image_valid n bs small is_site).links_proper
 
   -- what writing the links wants
-  pub links_room : Bytes bs → checks_good bs ≡ true → (m : ℕ) → m ≡ word_at bs 6 → m < 65536 → TallyRoom n m bs n n
+  pub links_room : Bytes bs → checks_good bs ≡ true → (m : ℕ) → m ≡ word_at bs 6 → m < 65536 → TallyRoom (header n m) bs n n
   links_room b checked m counted fits = record {
     most = small;
     few = fits;

@@ -13,8 +13,8 @@ use Rattle.mesh.{specs.Image.{checks_good, is_image, other_size}, proofs.Sizes.{
 use Rattle.calls.{specs.Questions.{ask, lengths_of, blocks_refusal, image_refusal, read_refusal}, specs.Outcomes.{read_outcome}}
 use Rattle.calls.{specs.CallContracts.{ReadContract}, proofs.QuestionLaws.{ask_zero}, proofs.ContractLaws.{by_accepted, by_refused}}
 use Rattle.calls.{proofs.ChainLaws.{BlocksGood, blocks_zero, blocks_yes}}
-use Rattle.image.specs.Header.{HeaderOf}
-use Rattle.image_reader.specs.Reading.{header_refusal, OpenedAs, ImageDecided, SourceDecided}
+use Rattle.image.specs.Header.{HeaderOf, header}
+use Rattle.image_reader.specs.Reading.{header_refusal, ImageDecided, SourceDecided}
 use Rattle.calls.specs.{Chains.{block_refusal, source_refusal}}
 
 -- ---- by the header's n
@@ -66,12 +66,9 @@ header_passes bs e =
 -- ---- opening, after questions 9 and 10 gave p
 
 module _ (bs : List ℕ) (p : ℕ) (p_is : p ≡ block_refusal bs) where
-  pub opened_blocks : (p ≡ 0 → ⊥) → (q x y : ℕ) → q ≡ p → OpenedAs bs q x y
+  pub opened_blocks : (p ≡ 0 → ⊥) → p ≡ header_refusal bs
   unfolding header_refusal blocks_refusal ask
-  opened_blocks h q x y e = record {
-    asked = e ∙ p_is ∙ go (whole_blocks bs) (checks_good bs) (ask 11 (size_good (word_at bs 4)) 0) (λ z. h (p_is ∙ z));
-    said = λ z. absurd (h (sym e ∙ z));
-  }
+  opened_blocks h = p_is ∙ go (whole_blocks bs) (checks_good bs) (ask 11 (size_good (word_at bs 4)) 0) (λ z. h (p_is ∙ z))
     where
       go : (a b : Bool) (x : ℕ) → (ask 9 a (ask 10 b 0) ≡ 0 → ⊥) → ask 9 a (ask 10 b 0) ≡ ask 9 a (ask 10 b x)
       go false b x h = refl
@@ -91,19 +88,19 @@ module _ (bs : List ℕ) (p : ℕ) (p_is : p ≡ block_refusal bs) where
         go zero h = never false h refl
         go (suc k) h = omega (arith, eqb-true (suc k % block_bytes) 0 (and_right (not (eqb (suc k) 0)) (eqb (suc k % block_bytes) 0) h))
 
-    module _ (n m : ℕ) (says : HeaderOf bs n m) (u : Bool) (u_is : u ≡ size_good n) where
+    module _ (n m : ℕ) (says : HeaderOf bs (header n m)) (u : Bool) (u_is : u ≡ size_good n) where
       asked_size : ask 11 u 0 ≡ header_refusal bs
       unfolding header_refusal
       asked_size =
           ap (λ (x : Bool). ask 11 x 0) (u_is ∙ ap size_good says.radios_said) ∙ sym (blocks_yes bs (ask 11 (size_good (word_at bs 4)) 0) good)
 
-      pub opened_no_size : u ≡ false → (q x y : ℕ) → q ≡ 11 → OpenedAs bs q x y
+      pub opened_no_size : u ≡ false → 11 ≡ header_refusal bs
       unfolding ask
-      opened_no_size e q x y h = record { asked = h ∙ rw e at asked_size; said = λ z. absurd (omega arith) }
+      opened_no_size e = rw e at asked_size
 
-      pub opened_size : u ≡ true → OpenedAs bs 0 n m
+      pub opened_size : u ≡ true → 0 ≡ header_refusal bs
       unfolding ask
-      opened_size e = record { asked = rw e at asked_size; said = λ z. says }
+      opened_size e = rw e at asked_size
 
 -- ---- the decision's outcomes; the bytes were decided for the header's m
 

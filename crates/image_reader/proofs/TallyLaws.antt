@@ -266,11 +266,6 @@ module _ (n : ℕ) (rs : List ℕ) (s : ℕ) (bs start counts : List ℕ) (j k i
 
 -- ---- one link, end by end
 
--- the count at the higher end is still what it was
-pub high_fits_still : (a b x : ℕ) (counts one : List ℕ) → LinkFits a b counts → one ≡ set counts a x → get_or one b 0 < 65535
-high_fits_still a b x counts one f e =
-    omega (arith, f.high_fits, ap (λ (xs : List ℕ). get_or xs b 0) e, get_or-set_other counts a b x 0 (λ z. omega (arith, f.lower)))
-
 pub link_counted : (rs : List ℕ) (s a b : ℕ) (counts one two : List ℕ) (p q : Bool) → p ≡ below rs s a b → q ≡ below rs s b a
     → one ≡ set counts a (get_or counts a 0 + cond p 1 0) → two ≡ set one b (get_or one b 0 + cond q 1 0) → two ≡ count_link rs s a b counts
 unfolding count_link

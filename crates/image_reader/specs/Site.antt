@@ -3,6 +3,8 @@
 --   order_entry bs j             entry j of the order of the image bs
 --   LinkAt                      a-b is link j of the image of n radios
 --   passed m q                   how many of m links stand in the first q blocks of links
+--   listed_links h bs            all links that the header says
+--   links_before h q bs          those in the blocks of links before block q
 --   key_of x                     the key of a link whose four bytes are the number x: 65536 times the lower radio, and the higher one
 --   key_link k                   the link with the key k
 --   next_key n p k               the link with the key k is proper and stands after the one with the key p
@@ -29,6 +31,8 @@
 use Rattle.std.specs.Prelude.{◌≡◌, ◌&&◌, ◌∷◌, ◌+◌, ◌*◌, ◌-◌, ◌/◌, ◌%◌, ◌≤◌, ◌<◌}
 use Rattle.lists.specs.{Kit.{Bool, true, cond, List, [], map, ℕ, suc, min, max, ltb, leb, length, get_or, set}}
 use Rattle.lists.specs.{Kit.{drop}, Lists.{range, all, count}}
+use Rattle.image.specs.declared.header.Header.{Header}
+use Rattle.image_reader.specs.declared.blocks.{Last.{Last}, Part.{Part}}
 use Rattle.mesh.specs.{Limits.{max_radios, max_neighbours}, Graph.{Link, Graph, graph, link_of, link_before, other_ends, linked, proper, ascending}}
 use Rattle.mesh.specs.{Cores.{number}, Orders.{each_once, is_k_order}, Image.{block_bytes, block_entries, block_links, order_blocks, block_count, word_at}}
 use Rattle.mesh.specs.{Image.{entry_at, image_link, image_order}}
@@ -47,6 +51,12 @@ pub record LinkAt (n : ℕ) (image : List ℕ) (j a b : ℕ) : Type 0 where
 abbrev pub passed : (m q : ℕ) → ℕ
 passed m q = min m (block_links * q)
 
+abbrev pub listed_links : Header → (image : List ℕ) → List Link
+listed_links h bs = links_up_to h.radios bs h.links
+
+abbrev pub links_before : Header → (q : ℕ) → (image : List ℕ) → List Link
+links_before h q bs = links_up_to h.radios bs (passed h.links q)
+
 unfoldable pub listed_from : (n : ℕ) → (before : Link) → List Link → Bool
 listed_from n p [] = true
 listed_from n p (l ∷ ls) = ((ltb l.low l.high && ltb l.high n) && link_before p l) && listed_from n l ls
@@ -60,11 +70,11 @@ key_link k = link_of (k / 65536) (k % 65536)
 unfoldable pub next_key : (n last key : ℕ) → Bool
 next_key n p k = (ltb (k / 65536) (k % 65536) && ltb (k % 65536) n) && ltb p k
 
-pub record Listed (n m : ℕ) (image : List ℕ) (good : Bool) (key j : ℕ) : Type 0 where
-  pub low : j ≤ m
+pub record Listed (h : Header) (image : List ℕ) (last : Last) (j : ℕ) : Type 0 where
+  pub low : j ≤ h.links
   pub is :
-      (proper n (links_up_to n image m) && ascending (links_up_to n image m))
-      ≡ (good && listed_from n (key_link key) (map (image_link n image) (range j (m - j))))
+      (proper h.radios (listed_links h image) && ascending (listed_links h image))
+      ≡ (last.good && listed_from h.radios (key_link last.key) (map (image_link h.radios image) (range j (h.links - j))))
 
 unfoldable pub tallied : (ranks : List ℕ) → (slack : ℕ) → List Link → (v : ℕ) → ℕ
 tallied rs s ls v = count (λ w. ltb (get_or rs v 0) (get_or rs w 0 + s)) (other_ends v ls)
@@ -102,23 +112,23 @@ running_maxima_of c m [] = []
 running_maxima_of c m (x ∷ xs) = let top = max m (c x) in top ∷ running_maxima_of c top xs
 
 -- an image with blocks for m links
-pub record LinksRoom (n m : ℕ) (image : List ℕ) : Type 0 where
-  pub most : n ≤ max_radios
-  pub few : m < 65536
-  pub whole : block_bytes * block_count n m ≤ length image
+pub record LinksRoom (h : Header) (image : List ℕ) : Type 0 where
+  pub most : h.radios ≤ max_radios
+  pub few : h.links < 65536
+  pub whole : block_bytes * block_count h.radios h.links ≤ length image
 
 -- a rank and a count for each radio, and links that are proper
-pub record TallyRoom (n m : ℕ) (image : List ℕ) (ranks counts : ℕ) : Type 0 where
-  pub most : n ≤ max_radios
-  pub few : m < 65536
-  pub whole : block_bytes * block_count n m ≤ length image
-  pub ranked : ranks ≡ n
-  pub counted : counts ≡ n
-  pub is_proper : proper n (links_up_to n image m) ≡ true
+pub record TallyRoom (h : Header) (image : List ℕ) (ranks counts : ℕ) : Type 0 where
+  pub most : h.radios ≤ max_radios
+  pub few : h.links < 65536
+  pub whole : block_bytes * block_count h.radios h.links ≤ length image
+  pub ranked : ranks ≡ h.radios
+  pub counted : counts ≡ h.radios
+  pub is_proper : proper h.radios (links_up_to h.radios image h.links) ≡ true
 
-pub record PartIs (n m q at count : ℕ) : Type 0 where
-  pub at_is : at ≡ block_bytes * (1 + order_blocks n + q) + 4
-  pub count_is : count ≡ min block_links (m - block_links * q)
+pub record PartIs (h : Header) (q : ℕ) (part : Part) : Type 0 where
+  pub at_is : part.at ≡ block_bytes * (1 + order_blocks h.radios + q) + 4
+  pub count_is : part.count ≡ min block_links (h.links - block_links * q)
 
 abbrev pub OrderRead : (image : List ℕ) → (k : ℕ) → (order : List ℕ) → Type 0
 OrderRead bs k xs = (j : ℕ) → j < k → get_or xs j 0 ≡ order_entry bs j
@@ -139,16 +149,16 @@ pub record SoundDecided (n : ℕ) (links : List Link) (xs after : List ℕ) (r :
   pub numbers : r ≡ true → (v : ℕ) → v < n → get_or after v 0 ≡ number (graph n links) v
 
 -- an image with blocks for n radios and m links, and two tables with an entry for each radio
-pub record SiteRoom (n m : ℕ) (image : List ℕ) (order numbers : ℕ) : Type 0 where
-  pub most : n ≤ max_radios
-  pub few : m < 65536
-  pub whole : block_bytes * block_count n m ≤ length image
-  pub order_long : order ≡ n
-  pub numbers_long : numbers ≡ n
+pub record SiteRoom (h : Header) (image : List ℕ) (order numbers : ℕ) : Type 0 where
+  pub most : h.radios ≤ max_radios
+  pub few : h.links < 65536
+  pub whole : block_bytes * block_count h.radios h.links ≤ length image
+  pub order_long : order ≡ h.radios
+  pub numbers_long : numbers ≡ h.radios
 
-pub record SiteDecided (n m : ℕ) (image order numbers : List ℕ) (r : Bool) : Type 0 where
+pub record SiteDecided (h : Header) (image order numbers : List ℕ) (r : Bool) : Type 0 where
   pub answer :
-      r ≡ ((proper n (links_up_to n image m) && ascending (links_up_to n image m))
-      && (few_ends max_neighbours n (links_up_to n image m) && is_k_order (graph n (links_up_to n image m)) (image_order n image)))
-  pub order_is : r ≡ true → order ≡ image_order n image
-  pub numbers_are : r ≡ true → (v : ℕ) → v < n → get_or numbers v 0 ≡ number (graph n (links_up_to n image m)) v
+      r ≡ ((proper h.radios (listed_links h image) && ascending (listed_links h image))
+      && (few_ends max_neighbours h.radios (listed_links h image) && is_k_order (graph h.radios (listed_links h image)) (image_order h.radios image)))
+  pub order_is : r ≡ true → order ≡ image_order h.radios image
+  pub numbers_are : r ≡ true → (v : ℕ) → v < h.radios → get_or numbers v 0 ≡ number (graph h.radios (listed_links h image)) v

@@ -3,9 +3,10 @@ ghost use Rattle.std.specs.Prelude.{◌≡◌, ◌≤◌, ◌<◌, ◌+◌, ◌*
 ghost use Rattle.lists.specs.Kit.{[], min, cond, ltb, length, get_or, set};
 ghost use Rattle.mesh.specs.Limits.{max_radios};
 ghost use Rattle.mesh.specs.Image.{block_bytes, block_entries, block_links};
-ghost use Rattle.image_reader.specs.Site.{links_up_to, passed, key_of, next_key, Listed, Tallied, count_link, OrderRead};
+ghost use Rattle.image_reader.specs.Site.{links_before, passed, key_of, next_key, Listed, Tallied, count_link, OrderRead};
 ghost use Rattle.image_reader.specs.Site.{LinkFits, LinkThere, count_at, LinksRoom, TallyRoom, PartIs};
 
+use image::header::Header;
 use image::{bytes, layout};
 
 // The links of a block: where the first one stands, and how many there are.
@@ -16,12 +17,12 @@ pub struct Part {
 }
 
 // The links of block q of the blocks of links, in an image of n radios and m links.
-pub fn part_of(n: u32, m: u32, q: u32) -> Part
-    requires { block_links * q < m }
-    ensures { PartIs n m q result.at result.count }
+pub fn part_of(header: Header, q: u32) -> Part
+    requires { block_links * q < header.links }
+    ensures { PartIs header q result }
 {
-    let orders = layout::blocks_for(n, layout::ENTRIES) as usize;
-    let left = m - layout::LINKS * q;
+    let orders = layout::blocks_for(header.radios, layout::ENTRIES) as usize;
+    let left = header.links - layout::LINKS * q;
     Part {
         at: layout::BLOCK * (1 + orders + q as usize) + layout::HEAD,
         count: tables::fill::least(layout::LINKS as usize, left as usize),
@@ -42,7 +43,8 @@ fn is_next(n: u32, last: u32, x: u32) -> bool
     (x % 65536 < x / 65536) & (x / 65536 < n) & (last < key_of(x))
 }
 
-// Whether all links so far are listed well, and the key of the last one.
+// Whether all links so far are listed well, and the key of the last one. It is no option: after a link that is not listed well the keys go on
+// too, so that no branch keeps the compiler from testing many links at a time.
 #[derive(Drop)]
 pub(crate) struct Last {
     pub(crate) good: bool,
@@ -50,20 +52,19 @@ pub(crate) struct Last {
 }
 
 // Goes on over the links of block q. It does not stop at the first that is not listed well: the compiler then tests many at a time.
-pub(crate) fn list_block(image: &[u8], n: u32, m: u32, q: u32, last: Last) -> Last
-    requires room { LinksRoom n m image.now × (block_links * q < m) }
-    requires before { Listed n m image.now last.good last.key (passed m q) }
-    ensures { Listed n m image.now result.good result.key (passed m (q + 1)) }
+pub(crate) fn list_block(image: &[u8], header: Header, q: u32, last: Last) -> Last
+    requires room { LinksRoom header image.now }
+    requires there { block_links * q < header.links }
+    requires before { Listed header image.now last (passed header.links q) }
+    ensures { Listed header image.now result (passed header.links (q + 1)) }
 {
-    let part = part_of(n, m, q);
+    let part = part_of(header, q);
     let mut good = last.good;
     let mut key = last.key;
-    let mut i: usize = 0;
-    while i < part.count {
+    for i in 0..part.count {
         let x = bytes::long_at(image, part.at + 4 * i);
-        good = good & is_next(n, key, x);
+        good = good & is_next(header.radios, key, x);
         key = key_of(x);
-        i += 1;
     }
     Last { good, key }
 }
@@ -131,26 +132,25 @@ fn tally_at(image: &[u8], at: usize, ranks: &[u16], slack: u16, counts: &mut [u1
 // that the last one stored: the two halves of the block go side by side, and neither waits for the other.
 pub(crate) fn count_block(
     image: &[u8],
-    n: u32,
-    m: u32,
+    header: Header,
     q: u32,
     places: &[u16],
     counts: &mut [u16],
     later: &mut [u16],
 )
-    requires room { TallyRoom n m image.now (length places.now) (length counts.old) × (length later.old ≡ n) × (block_links * q < m) }
-    requires ends { Tallied n [] 1 (links_up_to n image.now (passed m q)) counts.old }
-    requires before { Tallied n places.now 0 (links_up_to n image.now (passed m q)) later.old }
-    ensures { Tallied n [] 1 (links_up_to n image.now (passed m (q + 1))) counts.new ×
-        Tallied n places.now 0 (links_up_to n image.now (passed m (q + 1))) later.new }
+    requires room { TallyRoom header image.now (length places.now) (length counts.old) }
+    requires later_long { length later.old ≡ header.radios }
+    requires there { block_links * q < header.links }
+    requires ends { Tallied header.radios [] 1 (links_before header q image.now) counts.old }
+    requires before { Tallied header.radios places.now 0 (links_before header q image.now) later.old }
+    ensures { Tallied header.radios [] 1 (links_before header (q + 1) image.now) counts.new ×
+        Tallied header.radios places.now 0 (links_before header (q + 1) image.now) later.new }
 {
-    let part = part_of(n, m, q);
+    let part = part_of(header, q);
     let half = part.count / 2;
-    let mut i: usize = 0;
-    while i < half {
+    for i in 0..half {
         count_at(image, part.at + 4 * i, places, counts, later);
         count_at(image, part.at + 4 * (half + i), places, counts, later);
-        i += 1;
     }
     if part.count <= half + half {
         return;
@@ -158,27 +158,26 @@ pub(crate) fn count_block(
     count_at(image, part.at + 4 * (half + half), places, counts, later);
 }
 
-// Counts on over the links of block q, as `site::tally` says; its two halves side by side, as in `count_block`.
+// Counts on over the links of block q, as `site::tally` says; its two halves side by side, as in `count_block`. The two are not one function
+// over a closure: it would have to be told what the closure has counted by each turn of both halves, which is longer than the loop.
 pub(crate) fn tally_block(
     image: &[u8],
-    n: u32,
-    m: u32,
+    header: Header,
     q: u32,
     ranks: &[u16],
     slack: u16,
     counts: &mut [u16],
 )
-    requires room { TallyRoom n m image.now (length ranks.now) (length counts.old) × (block_links * q < m) }
-    requires before { Tallied n ranks.now slack (links_up_to n image.now (passed m q)) counts.old }
-    ensures { Tallied n ranks.now slack (links_up_to n image.now (passed m (q + 1))) counts.new }
+    requires room { TallyRoom header image.now (length ranks.now) (length counts.old) }
+    requires there { block_links * q < header.links }
+    requires before { Tallied header.radios ranks.now slack (links_before header q image.now) counts.old }
+    ensures { Tallied header.radios ranks.now slack (links_before header (q + 1) image.now) counts.new }
 {
-    let part = part_of(n, m, q);
+    let part = part_of(header, q);
     let half = part.count / 2;
-    let mut i: usize = 0;
-    while i < half {
+    for i in 0..half {
         tally_at(image, part.at + 4 * i, ranks, slack, counts);
         tally_at(image, part.at + 4 * (half + i), ranks, slack, counts);
-        i += 1;
     }
     if part.count <= half + half {
         return;
@@ -196,10 +195,8 @@ pub(crate) fn order_block(image: &[u8], q: usize, order: &mut [u16])
     let at = layout::BLOCK * (1 + q) + layout::HEAD;
     let from = layout::ENTRIES as usize * q;
     let count = tables::fill::least(layout::ENTRIES as usize, order.len() - from);
-    let mut i: usize = 0;
-    while i < count {
+    for i in 0..count {
         let x = bytes::word_at(image, at + 2 * i);
         order[from + i] = (x % 65536) as u16;
-        i += 1;
     }
 }

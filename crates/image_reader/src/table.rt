@@ -6,9 +6,10 @@ ghost use Rattle.mesh.specs.Limits.{max_radios, row_bytes};
 ghost use Rattle.mesh.specs.Graph.{graph};
 ghost use Rattle.mesh.specs.Tables.{put_bit, put_link, links_table};
 ghost use Rattle.mesh.specs.Image.{block_links};
-ghost use Rattle.image_reader.specs.Site.{links_up_to, passed, TallyRoom};
+ghost use Rattle.image_reader.specs.Site.{listed_links, links_before, TallyRoom};
 
 use super::blocks;
+use image::header::Header;
 use image::{bytes, layout};
 use mesh::Site;
 
@@ -32,32 +33,29 @@ fn set_link(links: &mut [u8], a: u32, b: u32)
 }
 
 // Marks the links of block q in the links table.
-fn mark_block(image: &[u8], n: u32, m: u32, q: u32, links: &mut [u8])
-    requires room { TallyRoom n m image.now n n × (block_links * q < m) }
-    requires before { links.old ≡ links_table (graph n (links_up_to n image.now (passed m q))) }
-    ensures { links.new ≡ links_table (graph n (links_up_to n image.now (passed m (q + 1)))) }
+fn mark_block(image: &[u8], header: Header, q: u32, links: &mut [u8])
+    requires room { TallyRoom header image.now header.radios header.radios }
+    requires there { block_links * q < header.links }
+    requires before { links.old ≡ links_table (graph header.radios (links_before header q image.now)) }
+    ensures { links.new ≡ links_table (graph header.radios (links_before header (q + 1) image.now)) }
 {
-    let part = blocks::part_of(n, m, q);
-    let mut i: usize = 0;
-    while i < part.count {
+    let part = blocks::part_of(header, q);
+    for i in 0..part.count {
         let at = part.at + 4 * i;
         let a = bytes::word_at(image, at);
         let b = bytes::word_at(image, at + 2);
         set_link(links, a, b);
-        i += 1;
     }
 }
 
 // The links table of the first m links of the image.
-pub(crate) fn put_links(image: &[u8], n: u32, m: u32, links: &mut [u8])
-    requires { TallyRoom n m image.now n n × (length links.old ≡ row_bytes * n) }
-    ensures { links.new ≡ links_table (graph n (links_up_to n image.now m)) }
+pub(crate) fn put_links(image: &[u8], header: Header, links: &mut [u8])
+    requires { TallyRoom header image.now header.radios header.radios × (length links.old ≡ row_bytes * header.radios) }
+    ensures { links.new ≡ links_table (graph header.radios (listed_links header image.now)) }
 {
-    tables::fill::fill8(links, 0);
-    let end = layout::blocks_for(m, layout::LINKS);
-    let mut q: u32 = 0;
-    while q < end {
-        mark_block(image, n, m, q, links);
-        q += 1;
+    tables::fill::fill(links, &0);
+    let end = layout::blocks_for(header.links, layout::LINKS);
+    for q in 0..end {
+        mark_block(image, header, q, links);
     }
 }

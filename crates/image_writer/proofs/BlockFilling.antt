@@ -94,13 +94,6 @@ module _ (f : ℕ → List ℕ) (start : List ℕ) (s j k : ℕ) (buffer : List 
             ∙ ap (λ (xs : List ℕ). xs ++ drop (block_bytes * (j + 1)) start) (sym more));
       }
 
--- from block 0 on
-pub filling_end : (f : ℕ → List ℕ) (start : List ℕ) (j k : ℕ) (buffer : List ℕ) → Filling f start 0 j buffer → j ≡ k
-    → buffer ≡ flat_map f (range 0 k) ++ drop (block_bytes * k) start
-filling_end f start j k buffer g e =
-    let all_of : j - 0 ≡ k = omega arith in
-    g.is ∙ ap₂ {C = List ℕ} (λ (i m : ℕ). flat_map f (range 0 i) ++ drop (block_bytes * m) start) all_of e
-
 -- ---- a block of links
 
 module _ {ls left : List Link} {old new : List ℕ} {at : ℕ} (p : LinksPut ls 4 old new at left) (full : (left ≡ []) ⊎ (at ≡ 508)) where
@@ -144,7 +137,7 @@ head_put index [] h = absurd (omega arith)
 head_put index (a ∷ []) h = absurd (omega arith)
 head_put index (a ∷ b ∷ []) h = absurd (omega arith)
 head_put index (a ∷ b ∷ c ∷ []) h = absurd (omega arith)
-head_put index (a ∷ b ∷ c ∷ d ∷ rest) h = refl
+head_put index (a ∷ b ∷ c ∷ d ∷ more) h = refl
 
 -- head, links and zeros, sealed
 pub links_sealed : {ls left : List Link} {old new : List ℕ} {at : ℕ} (p : LinksPut ls 4 old new at left) → (left ≡ []) ⊎ (at ≡ 508) → (index : ℕ)

@@ -9,7 +9,7 @@ use Rattle.mesh.{specs.Graph.{Link, link_of}, specs.Limits.{max_radios, row_byte
 use Rattle.rows.{specs.Rows.{row_from, set_bits, row_word, word_of}, proofs.RowWords.{row_split, row_from_end, word_of_whole, row_word_part}}
 use Rattle.rows.{proofs.WordLaws.{word_none}, specs.Links.{links_to, links_above, links_from}, proofs.AboveWords.{above_words}}
 use Rattle.rows.{proofs.LinksFrom.{links_lowest, links_none, links_from_row, links_from_end}}
-use Rattle.image_writer.specs.Blocks.{LinksPut, Stopped, RowStopped, row_left, links_left}
+use Rattle.image_writer.specs.Blocks.{LinksPut, RowStopped, row_left, links_left}
 
 -- ---- links put one after the other
 
@@ -153,11 +153,6 @@ module _ (ts : List ℕ) (a k first rest left : ℕ) {old new : List ℕ} {from 
       (rw (links_none a first left z) at whole) in
       rw (append-nil others) at (put_then (after ts a k) [] last to others mine q)
 
--- where something of a word is left, the block is full
-pub full_of : {at rest : ℕ} → Stopped at rest → (rest ≡ 0 → ⊥) → (at ≡ 508) × (rest < 2 ^ 64)
-full_of (inl e) h = absurd (h e)
-full_of (inr e) h = e
-
 -- ---- rows
 
 module _ (n : ℕ) (ts : List ℕ) (a : ℕ) (h : a < n) {ls : List Link} {from : ℕ} {old now : List ℕ} {at : ℕ}
@@ -227,13 +222,6 @@ module _ (ts : List ℕ) (at a k first rest : ℕ) (s : RowStopped ts at a k fir
       go : RowStopped ts at a k first rest → row_left ts a k first rest ≡ []
       go (inl d) = d.1
       go (inr d) = absurd (d.0 e)
-
-  pub row_full : (rest ≡ 0 → ⊥) → (at ≡ 508) × (rest < 2 ^ 64)
-  row_full e = go s
-    where
-      go : RowStopped ts at a k first rest → (at ≡ 508) × (rest < 2 ^ 64)
-      go (inl d) = absurd (e d.0)
-      go (inr d) = d.1
 
 module _ (n : ℕ) (ts : List ℕ) (a k first rest : ℕ) {from at : ℕ} {old now : List ℕ} (e : from ≡ 4) (k₂ first₂ rest₂ : ℕ)
     (p : LinksPut (row_left ts a k first rest) from old now at (row_left ts a k₂ first₂ rest₂)) where

@@ -6,18 +6,23 @@ ghost use Rattle.lists.specs.Lists.{range};
 ghost use Rattle.mesh.specs.Graph.{link_of};
 ghost use Rattle.mesh.specs.Image.{block_bytes, block_entries, block_count, order_blocks, word, link_bytes, block};
 ghost use Rattle.mesh.specs.Limits.{max_radios, max_neighbours, row_bytes};
-ghost use Rattle.mesh.specs.Lent.{lent};
+ghost use Rattle.mesh.specs.Lent.{read_of};
+ghost use Rattle.calls.specs.Answers.{value_reply};
 ghost use Rattle.calls.specs.CallContracts.{WriteContract};
+ghost use Rattle.image.specs.Form.{kind_byte};
 ghost use Rattle.rows.specs.Rows.{row_from, row_word, set_bits};
 ghost use Rattle.rows.specs.Links.{links_to, links_above, links_from, RowsListed};
 ghost use Rattle.image_writer.specs.Filler.{opened, sealed};
 ghost use Rattle.image_writer.specs.Blocks.{Place, LinksPut, Stopped, RowStopped, RowThere, RowsThere, row_left, links_left, Going, NextLink};
 ghost use Rattle.image_writer.specs.Blocks.{LinksFilled, LinksFit, AllLinksFilled, front_block};
 
-use calls::{Refusal, Value};
+use calls::Refusal;
+use image::header::Header;
+use image::layout::Kind;
 use image::{checks, layout};
-use mesh::Site;
+use mesh::{Lent, Site};
 use rows::link_list;
+use tables::fill::{fill, least};
 
 // The figures that count places.
 const ENTRIES: usize = layout::ENTRIES as usize;
@@ -32,12 +37,12 @@ fn put_word(part: &mut [u8], at: usize, x: u32)
 }
 
 // The block is its kind, zero, its index and zeros after.
-fn open_block(part: &mut [u8], kind: u8, index: u32)
+fn open_block(part: &mut [u8], kind: Kind, index: u32)
     requires { length part.old ≡ block_bytes }
-    ensures { part.new ≡ opened kind index }
+    ensures { part.new ≡ opened (kind_byte kind) index }
 {
-    tables::fill::fill8(part, 0);
-    part[0] = kind;
+    fill(part, &0);
+    part[0] = kind.byte();
     put_word(part, 2, index);
 }
 
@@ -51,14 +56,14 @@ fn close_block(part: &mut [u8])
     put_word(part, layout::BODY + 2, sum / 65536);
 }
 
-// The block of kind 0: n and the count of links.
-fn fill_counts(part: &mut [u8], n: u32, count: u32)
+// The block of kind 0: the header.
+fn fill_counts(part: &mut [u8], header: Header)
     requires { length part.old ≡ block_bytes }
-    ensures { part.new ≡ block 0 0 (word n ++ word count) }
+    ensures { part.new ≡ block 0 0 (word header.radios ++ word header.links) }
 {
-    open_block(part, 0, 0);
-    put_word(part, layout::HEAD, n);
-    put_word(part, layout::HEAD + 2, count);
+    open_block(part, Kind::Counts, 0);
+    put_word(part, layout::RADIOS_AT, header.radios);
+    put_word(part, layout::LINKS_AT, header.links);
     close_block(part);
 }
 
@@ -67,12 +72,10 @@ fn put_order(part: &mut [u8], order: &[u16], from: usize)
     requires { (length part.old ≡ block_bytes) × (from ≤ length order.now) }
     ensures { part.new ≡ sets part.old 4 (flat_map word (take block_entries (drop from order.now))) }
 {
-    let count = tables::fill::least(ENTRIES, order.len() - from);
-    let mut v: usize = 0;
-    while v < count {
+    let count = least(ENTRIES, order.len() - from);
+    for v in 0..count {
         let x = order[from + v];
         put_word(part, layout::HEAD + 2 * v, x as u32);
-        v += 1;
     }
 }
 
@@ -81,7 +84,7 @@ fn fill_order(part: &mut [u8], index: u32, order: &[u16], from: usize)
     requires { (length part.old ≡ block_bytes) × (from ≤ length order.now) }
     ensures { part.new ≡ block 1 index (flat_map word (take block_entries (drop from order.now))) }
 {
-    open_block(part, 1, index);
+    open_block(part, Kind::Order, index);
     put_order(part, order, from);
     close_block(part);
 }
@@ -151,8 +154,7 @@ fn put_words(part: &mut [u8], from: usize, links: &[u8], a: u32, first: u32) -> 
     ensures stopped { RowStopped links.now result.at a result.k result.first result.rest × Going result.row a result.k result.first }
 {
     let mut at = from;
-    let mut k = first;
-    while k < rows::ROW_WORDS {
+    for k in first..rows::ROW_WORDS {
         let put = put_bits(part, at, a, rows::WORD_BITS * k, row_word(links, a, k));
         at = put.at;
         if put.rest != 0 {
@@ -164,7 +166,6 @@ fn put_words(part: &mut [u8], from: usize, links: &[u8], a: u32, first: u32) -> 
                 rest: put.rest,
             };
         }
-        k += 1;
     }
     Cursor {
         at,
@@ -186,10 +187,8 @@ fn put_row(part: &mut [u8], links: &[u8], c: Cursor) -> Cursor
     if own.rest != 0 {
         return Cursor {
             at: own.at,
-            row: c.row,
-            k: c.k,
-            first: c.first,
             rest: own.rest,
+            ..c
         };
     }
     put_words(part, own.at, links, c.row, c.k + 1)
@@ -219,14 +218,12 @@ fn put_rows(part: &mut [u8], from: usize, n: u32, links: &[u8], first: u32) -> C
     ensures stopped { NextLink n links.now result.at result.row result.k result.first result.rest }
 {
     let mut at = from;
-    let mut a = first;
-    while a < n {
+    for a in first..n {
         let put = put_row(part, links, row_start(links, a, at));
         at = put.at;
         if put.rest != 0 {
             return put;
         }
-        a += 1;
     }
     Cursor {
         at,
@@ -258,19 +255,16 @@ fn fill_links(part: &mut [u8], index: u32, n: u32, links: &[u8], c: Cursor) -> C
         (links_left n links.now result.row result.k result.first result.rest) }
     ensures stopped { NextLink n links.now result.at result.row result.k result.first result.rest }
 {
-    part[0] = 2;
+    part[0] = Kind::Links.byte();
     part[1] = 0;
     put_word(part, 2, index);
     let from = Cursor {
         at: layout::HEAD,
-        row: c.row,
-        k: c.k,
-        first: c.first,
-        rest: c.rest,
+        ..c
     };
     let next = put_links(part, n, links, from);
     let end = next.at;
-    tables::fill::fill8(&mut part[end..], 0);
+    fill(&mut part[end..], &0);
     close_block(part);
     next
 }
@@ -301,30 +295,30 @@ fn fill_link_blocks(first: u32, n: u32, links: &[u8], buffer: &mut [u8]) -> Ende
     Ended { blocks: i, count }
 }
 
-// Block i of the image of n radios and `count` links, of the ones before its links.
-fn fill_block(part: &mut [u8], i: u32, n: u32, count: u32, order: &[u16])
-    requires { (length part.old ≡ block_bytes) × (length order.now ≡ n) × (i ≤ order_blocks n) × (n ≤ max_radios) }
-    ensures { part.new ≡ front_block n count order.now i }
+// Block i of the image with this header, of the ones before its links.
+fn fill_block(part: &mut [u8], i: u32, header: Header, order: &[u16])
+    requires { (length part.old ≡ block_bytes) × (length order.now ≡ header.radios) ×
+        (i ≤ order_blocks header.radios) × (header.radios ≤ max_radios) }
+    ensures { part.new ≡ front_block header.radios header.links order.now i }
 {
     if i == 0 {
-        fill_counts(part, n, count);
+        fill_counts(part, header);
         return;
     }
     fill_order(part, i, order, ENTRIES * (i as usize - 1));
 }
 
 // Fills the blocks before the links, each through its own part of the buffer; bytes past them keep their content.
-fn fill_blocks(blocks: u32, n: u32, count: u32, order: &[u16], buffer: &mut [u8])
-    requires { (block_bytes * blocks ≤ length buffer.old) × (length order.now ≡ n) × (blocks ≡ 1 + order_blocks n) × (n ≤ max_radios) }
-    ensures { buffer.new ≡ flat_map (front_block n count order.now) (range 0 blocks)
+fn fill_blocks(blocks: u32, header: Header, order: &[u16], buffer: &mut [u8])
+    requires { (block_bytes * blocks ≤ length buffer.old) × (length order.now ≡ header.radios) ×
+        (blocks ≡ 1 + order_blocks header.radios) × (header.radios ≤ max_radios) }
+    ensures { buffer.new ≡ flat_map (front_block header.radios header.links order.now) (range 0 blocks)
         ++ drop (block_bytes * blocks) buffer.old }
 {
-    let mut i: u32 = 0;
-    while i < blocks {
+    for i in 0..blocks {
         let at = layout::BLOCK * i as usize;
         let end = at + layout::BLOCK;
-        fill_block(&mut buffer[at..end], i, n, count, order);
-        i += 1;
+        fill_block(&mut buffer[at..end], i, header, order);
     }
 }
 
@@ -344,25 +338,22 @@ fn has_room(n: u32, links: &[u8], bytes: usize) -> bool
 }
 
 // Writes the image of sound tables in front of the buffer; the value is its length in bytes, and bytes past it keep their
-// content. Refused by 1 to 3 and 9: then the value is 0 and the buffer keeps its content.
-pub fn write(n: u32, links: &[u8], numbers: &[u8], order: &[u16], buffer: &mut [u8]) -> Value
-    ensures { WriteContract n (lent links.now numbers.now order.now) buffer.old result buffer.new }
+// content. Refused by 1 to 3 and 9: then the buffer keeps its content.
+pub fn write(t: &Lent, buffer: &mut [u8]) -> Result<u32, Refusal>
+    ensures { WriteContract t.now.radios (read_of t.now) buffer.old (value_reply result) buffer.new }
 {
-    let number = soundness::refusal(n, links, numbers, order, true);
-    if number != 0 {
-        return Value { number, value: 0 };
+    if let Err(refusal) = soundness::ask(t, true) {
+        return Err(refusal);
     }
-    if !has_room(n, links, buffer.len()) {
-        return Value {
-            number: Refusal::IMAGE_SIZE,
-            value: 0,
-        };
+    if !has_room(t.radios, t.links, buffer.len()) {
+        return Err(Refusal::ImageSize);
     }
-    let first = 1 + layout::blocks_for(n, layout::ENTRIES);
-    let links_end = fill_link_blocks(first, n, links, buffer);
-    fill_blocks(first, n, links_end.count, order, buffer);
-    Value {
-        number: 0,
-        value: layout::BLOCK as u32 * links_end.blocks,
-    }
+    let first = 1 + layout::blocks_for(t.radios, layout::ENTRIES);
+    let ended = fill_link_blocks(first, t.radios, t.links, buffer);
+    let header = Header {
+        radios: t.radios,
+        links: ended.count,
+    };
+    fill_blocks(first, header, t.order, buffer);
+    Ok(layout::BLOCK as u32 * ended.blocks)
 }

@@ -1,5 +1,6 @@
--- Laws of the search: `PeelLaws` for the leaves of the peel, `PeelSteps` for its turns, `TryLaws` for the leaves of a pair tried,
+-- Laws of the search: `SetLaws` for the sets of radios, `PeelLaws` for the leaves of the peel, `PeelSteps` for its turns, `TryLaws` for the leaves of a pair tried,
 -- `TrySteps` for the pair, `OrderLaws` for where a pair may begin, `SearchLaws` and `SearchSteps` for the search.
+mod SetLaws
 mod PeelLaws
 mod PeelSteps
 mod TryLaws

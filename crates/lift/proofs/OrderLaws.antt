@@ -8,7 +8,7 @@ use Rattle.lists.{specs.Kit.{ltb, eqb, length, get_or, drop, drop_of_length-le, 
 use Rattle.lists.{specs.Lists.{EntriesBelow, count, range, filter}, specs.Facts.{Rising, EachOnce}, proofs.Tests.{bit_one, byte_bit}}
 use Rattle.lists.{proofs.Member.{get_d_of_in, in_get_d}, proofs.Range.{once_in, once_length, range_in}, proofs.Filter.{count_filter, in_filter}}
 use mir.Val.{bool_byte}
-use Rattle.mesh.{specs.Limits.{row_bytes}, specs.Graph.{Graph, radios, linked, neighbours_in}, specs.Cores.{number}, specs.Tables.{Tables, tables, marked}}
+use Rattle.mesh.{specs.Limits.{max_radios, row_bytes}, specs.Graph.{Graph, radios, linked, neighbours_in}, specs.Cores.{number}, specs.Tables.{Tables, tables}}
 use Rattle.mesh.{specs.Tables.{graph_in}, proofs.Cores.Certificate.{Certificate}, proofs.Cores.KOrders.{k_order_certificate}}
 use Rattle.rows.{specs.Rows.{neighbours_of}, proofs.RowListLaws.{neighbours_of_linked}}
 use Rattle.conditions.{specs.Conditions.{later_count}, proofs.RowByRow.{place_of, count_later, few_later_at}}
@@ -16,6 +16,7 @@ use Rattle.soundness.proofs.SoundSite.{number_entry}
 use Rattle.lifting.specs.Tight.{later, Ordered, tight, first_end}
 use Rattle.lift.specs.{Peels.{graph_of, SoundLinks}, Search.{SearchPlaces, later_than, place_in, is_tight}}
 use Rattle.lift.proofs.PeelSteps.{links_site, links_valid}
+use Rattle.rows.specs.Sets.{in_set}
 
 rising_at : (num : ℕ → ℕ) (xs : List ℕ) → Rising num xs → (i j : ℕ) → i < j → j < length xs → num (get_or xs i 0) ≤ num (get_or xs j 0)
 rising_at num [] r i j l m = absurd (omega arith)
@@ -41,6 +42,9 @@ module _ (links numbers places : List ℕ) (s : SearchPlaces links numbers place
 
   pub places_radios : length links / row_bytes ≡ length numbers
   places_radios = sym (links_site links places_links).numbers_long
+
+  pub places_small : length numbers ≤ max_radios
+  places_small = omega (arith, places_radios, (links_site links places_links).small)
 
   certified : Certificate g (number g) s.order
   certified = k_order_certificate g s.order (links_valid links places_links).k_order
@@ -103,11 +107,11 @@ module _ (k r : ℕ) (ts ns ps : List ℕ) (v : ℕ) where
 
 -- ---- the first end
 
-pub first_second : (ps ks : List ℕ) (a c : ℕ) (x : Bool) → get_or ps c 0 < get_or ps a 0 → x ≡ marked ks 0 c → x ≡ marked ks 0 (first_end (place_in ps) a c)
+pub first_second : (ps ks : List ℕ) (a c : ℕ) (x : Bool) → get_or ps c 0 < get_or ps a 0 → x ≡ in_set ks c → x ≡ in_set ks (first_end (place_in ps) a c)
 unfolding first_end
 first_second ps ks a c x l e = rw (lt-ltb (get_or ps c 0) (get_or ps a 0) l) e
 
-pub first_own : (ps ks : List ℕ) (a c : ℕ) (x : Bool) → get_or ps a 0 ≤ get_or ps c 0 → x ≡ marked ks 0 a → x ≡ marked ks 0 (first_end (place_in ps) a c)
+pub first_own : (ps ks : List ℕ) (a c : ℕ) (x : Bool) → get_or ps a 0 ≤ get_or ps c 0 → x ≡ in_set ks a → x ≡ in_set ks (first_end (place_in ps) a c)
 unfolding first_end
 first_own ps ks a c x l e = rw (le-ltb (get_or ps c 0) (get_or ps a 0) l) e
 
@@ -120,9 +124,6 @@ pub record LaterCounting (p : ℕ) (ps xs : List ℕ) (i m : ℕ) : Type 0 where
   pub is : m + later_than p ps (drop i xs) ≡ later_than p ps xs
 
 module _ (p : ℕ) (ps xs : List ℕ) where
-  pub later_none : LaterCounting p ps xs 0 0
-  later_none = record { low = omega arith; few = omega arith; is = omega arith }
-
   pub later_turn : (i m x : ℕ) → i < length xs → x ≡ get_or xs i 0 → LaterCounting p ps xs i m
       → LaterCounting p ps xs (i + 1) (m + bool_byte (ltb p (get_or ps x 0)))
   unfolding later_than count
@@ -139,15 +140,15 @@ module _ (p : ℕ) (ps xs : List ℕ) where
   later_end i m l h = omega (arith, h.is, ap (later_than p ps) (drop_of_length-le xs l))
 
 -- the neighbours that `row_neighbours` lists have places
-module _ (links : List ℕ) (s : SoundLinks links) (v : ℕ) (l : v < length links / row_bytes) (ps : List ℕ) (room : length links / row_bytes ≤ length ps) where
-  pub near_placed : (xs : List ℕ) → xs ≡ neighbours_of links v → EntriesBelow (length ps) xs
+module _ (links : List ℕ) (s : SoundLinks links) (v : ℕ) (l : v < length links / row_bytes) (ps : List ℕ) where
+  pub near_placed : (xs : List ℕ) → xs ≡ neighbours_of links v → EntriesBelow max_radios xs
   near_placed xs e i q =
       let n = length links / row_bytes in
       let site = links_site links s in
       let is = neighbours_of_linked n links site.small site.symmetric site.irreflexive site.within v l in
       let f : ℕ → Bool = linked (graph_in n links) v in
       let in_row : In (get_or xs i 0) (filter f (range 0 n)) = subst (In (get_or xs i 0)) (e ∙ is) (in_get_d xs i q) in
-      omega (arith, room, (range_in 0 n (get_or xs i 0) (in_filter f (range 0 n) (get_or xs i 0) in_row).0).1)
+      omega (arith, site.small, (range_in 0 n (get_or xs i 0) (in_filter f (range 0 n) (get_or xs i 0) in_row).0).1)
 
   pub near_later : (xs : List ℕ) (x : ℕ) → xs ≡ neighbours_of links v → x ≡ later_than (get_or ps v 0) ps xs → x ≡ later_count ps v (neighbours_of links v)
   unfolding later_than later_count

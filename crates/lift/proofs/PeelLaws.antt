@@ -2,15 +2,13 @@
 --   is_due        what each test of the code says of it
 --   Lowered       of nobody, of one radio, of some radios and then others
 --   Lowering      what the rest leaves, the whole leaves; the bits of a word and the words of two sets in turn
---   Marking       the radios below v are marked where they pass a test
 use Rattle.std.specs.Prelude.{◌≡◌, ◌⊎◌, ◌&&◌, ◌||◌, ◌∷◌, ◌+◌, ◌-◌, ◌≤◌, ◌<◌, ◌++◌, ◌*◌, ◌^◌}
 use Rattle.lists.{specs.Kit.{refl, sym, ap, subst, ◌∙◌, inl, inr, Bool, true, false, not, cond, List, [], ℕ}}
-use Rattle.lists.{specs.Kit.{arith, ltb, leb, eqb, length, get_or, set, replicate, length-set, length-replicate}}
+use Rattle.lists.{specs.Kit.{arith, ltb, leb, eqb, length, get_or, set, length-set}}
 use Rattle.lists.{specs.Kit.{get_or-set_same, get_or-set_other, eqb-true, eqb-false, eq-eqb, ne_eqb, ltb-true, ltb-false, le-leb, lt-leb, lt-ltb}}
-use Rattle.lists.{specs.Kit.{le-ltb}, specs.Lists.{In, member}, specs.Facts.{Distinct}, proofs.Tests.{bool_cases, cond_false, iff_eq}}
+use Rattle.lists.{specs.Kit.{le-ltb}, specs.Lists.{In, member}, specs.Facts.{Distinct}, proofs.Tests.{bool_cases, cond_false}}
 use Rattle.lists.{proofs.Member.{not_member}, proofs.Parts.{get_d_any}}
-use Rattle.mesh.{specs.Limits.{max_radios, row_bytes}, specs.Tables.{marked, put_bit, byte_at}, proofs.Tables.Laws.{marked_put_bit, marked_replicate}}
-use Rattle.mesh.{proofs.Tables.Laws.{length_put_bit}}
+use Rattle.mesh.{specs.Limits.{max_radios}}
 use Rattle.lifting.{specs.Peeling.{left}, proofs.Peeling.{below_left, high_left}}
 use Rattle.lists.{specs.Kit.{bit_and, and_le_l, count_trailing_zeros}, specs.Lists.{range, filter}, proofs.Range.{range_in, distinct_range}}
 use Rattle.lists.{proofs.Filter.{in_filter, distinct_filter}, proofs.Member.{member_append, member_in}, proofs.Distinct.{distinct_right, distinct_apart}}
@@ -18,6 +16,7 @@ use Rattle.mesh.specs.Tables.{digit}
 use Rattle.rows.{specs.Rows.{set_bits}, specs.Sets.{common}, proofs.WordLaws.{set_bits_filter, set_bits_lowest, set_bits_nothing}}
 use Rattle.rows.{proofs.RowWords.{words_from, words_end}, proofs.SetLaws.{both_from, both_word, common_filter}}
 use Rattle.lift.specs.Peels.{is_due, gone_of, Lowered}
+use Rattle.rows.specs.Sets.{in_set}
 
 -- ---- tests
 
@@ -28,9 +27,6 @@ and_no false b e = refl
 pub or_no : (a b : Bool) → b ≡ false → (a || b) ≡ a
 or_no true b e = refl
 or_no false b e = e
-
-less_other : (v w : ℕ) → w < v + 1 → (v ≡ w → ⊥) → w < v
-less_other v w l ne = omega arith
 
 -- ---- is_due
 
@@ -48,7 +44,7 @@ module _ (k a : ℕ) (held cs : List ℕ) (v : ℕ) (l : v < length cs) where
   due_short h ne =
       let e = get_d_any cs v 0 255 l in rw (le-leb (get_or cs v 255) k (omega (arith, e)), ne_eqb v a ne, lt-ltb (get_or cs v 255) k (omega (arith, e)))
 
-  pub due_other : (t : Bool) → get_or cs v 0 ≤ k → (v ≡ a → ⊥) → k ≤ get_or cs v 0 → t ≡ marked held 0 v → not t ≡ is_due k a held cs v
+  pub due_other : (t : Bool) → get_or cs v 0 ≤ k → (v ≡ a → ⊥) → k ≤ get_or cs v 0 → t ≡ in_set held v → not t ≡ is_due k a held cs v
   unfolding is_due
   due_other t h ne m e =
       let q = get_d_any cs v 0 255 l in
@@ -64,9 +60,6 @@ pub gone_short : (k a r : ℕ) (cs : List ℕ) → r < length cs → a < length 
 unfolding gone_of
 gone_short k a r cs l m h = rw (below_left cs r (omega (arith, h, get_d_any cs r 0 255 l)), get_d_any cs a 0 255 m)
 
-pub over_gone : (k a r b : ℕ) (cs : List ℕ) (t : Bool) → t ≡ gone_of k a r cs → t ≡ true → true ≡ (gone_of k a r cs || not (left cs b))
-over_gone k a r b cs t e q = rw (sym e ∙ q)
-
 pub over_stop : (k a r b : ℕ) (cs : List ℕ) (t : Bool) → b < length cs → t ≡ gone_of k a r cs → t ≡ false
     → leb 128 (get_or cs b 0) ≡ (gone_of k a r cs || not (left cs b))
 unfolding left
@@ -79,98 +72,14 @@ over_stop k a r b cs t l e q = rw (sym e ∙ q, get_d_any cs b 0 255 l) (turn (g
         at (inl z) = rw z (lt-leb 128 x (ltb-true x 128 z))
         at (inr z) = rw z (le-leb 128 x (ltb-false x 128 z))
 
--- ---- radios put into a set where they pass a test
-
--- the radios below v are in the set where they pass
-pub record Putting (f : ℕ → Bool) (v : ℕ) (row : List ℕ) : Type 0 where
-  pub long : length row ≡ row_bytes
-  pub is : (w : ℕ) → w < max_radios → marked row 0 w ≡ (ltb w v && f w)
-
-module _ (f : ℕ → Bool) where
-  pub putting_none : (row : List ℕ) → row ≡ replicate row_bytes 0 → Putting f 0 row
-  unfolding byte_at
-  putting_none row e = record {
-    long = ap length e ∙ length-replicate {A = ℕ} row_bytes 0;
-    is = λ w l. ap (λ (xs : List ℕ). marked xs 0 w) e ∙ marked_replicate row_bytes 0 w (omega arith) ∙ rw (le-ltb w 0 (omega arith));
-  }
-
-  pub putting_turn : (v : ℕ) (t : Bool) (row new : List ℕ) → v < max_radios → t ≡ f v → new ≡ cond t (put_bit true 0 v row) row
-      → Putting f v row → Putting f (v + 1) new
-  unfolding byte_at
-  putting_turn v t row new l test e h = record {
-    long = ap length e ∙ long_put t ∙ h.long;
-    is = λ w lw. ap (λ (xs : List ℕ). marked xs 0 w) e ∙ put w lw t ∙ at w lw (bool_cases (eqb v w));
-  }
-    where
-      long_put : (u : Bool) → length (cond u (put_bit true 0 v row) row) ≡ length row
-      long_put true = length_put_bit true 0 v row
-      long_put false = refl
-
-      put : (w : ℕ) → w < max_radios → (u : Bool) → marked (cond u (put_bit true 0 v row) row) 0 w ≡ cond (u && eqb v w) true (marked row 0 w)
-      put w lw true = marked_put_bit true 0 v row 0 w l lw (omega (arith, h.long))
-      put w lw false = refl
-
-      same : (u : Bool) → cond (u && true) true false ≡ u
-      same true = refl
-      same false = refl
-
-      past : (u m : Bool) → cond (u && false) true m ≡ m
-      past true m = refl
-      past false m = refl
-
-      further : (w : ℕ) → (v ≡ w → ⊥) → ltb w v ≡ ltb w (v + 1)
-      further w ne =
-          iff_eq (ltb w v) (ltb w (v + 1)) (λ q. lt-ltb w (v + 1) (omega (arith, ltb-true w v q)))
-          (λ q. let less = ltb-true w (v + 1) q in lt-ltb w v (omega arith))
-
-      at : (w : ℕ) → w < max_radios → (eqb v w ≡ true) ⊎ (eqb v w ≡ false) → cond (t && eqb v w) true (marked row 0 w) ≡ (ltb w (v + 1) && f w)
-      at w lw (inl q) =
-          subst (λ (x : ℕ). cond (t && eqb v x) true (marked row 0 x) ≡ (ltb x (v + 1) && f x)) (eqb-true v w q)
-          (rw (eq-eqb v v refl, h.is v l, le-ltb v v (omega arith), lt-ltb v (v + 1) (omega arith), ← test) (same t))
-      at w lw (inr q) = rw (q, ← further w (eqb-false v w q)) (past t (marked row 0 w) ∙ h.is w lw)
-
-  pub putting_end : (v : ℕ) (row : List ℕ) → max_radios ≤ v → Putting f v row → (w : ℕ) → w < max_radios → marked row 0 w ≡ f w
-  putting_end v row l h w lw = h.is w lw ∙ rw (lt-ltb w v (omega arith))
-
--- ---- radios marked where they pass a test
-
--- the radios below v are marked where they pass, the others as before
-pub record Marking (f : ℕ → Bool) (old : List ℕ) (v : ℕ) (row : List ℕ) : Type 0 where
-  pub long : length row ≡ length old
-  pub is : (w : ℕ) → w < v → w < max_radios → marked row 0 w ≡ f w
-  pub other : (w : ℕ) → v ≤ w → w < max_radios → marked row 0 w ≡ marked old 0 w
-
-module _ (f : ℕ → Bool) (old : List ℕ) (room : length old ≡ row_bytes) where
-  pub marking_none : Marking f old 0 old
-  marking_none = record { long = refl; is = λ w l lw. absurd (omega arith); other = λ w l lw. refl }
-
-  pub marking_turn : (v : ℕ) (row new : List ℕ) → v < max_radios → new ≡ put_bit (f v) 0 v row → Marking f old v row → Marking f old (v + 1) new
-  unfolding byte_at
-  marking_turn v row new l e h = record {
-    long = ap length e ∙ length_put_bit (f v) 0 v row ∙ h.long;
-    is = λ w less lw. put w lw ∙ at w less lw (bool_cases (eqb v w));
-    other = λ w more lw. put w lw ∙ rw (ne_eqb v w (λ q. past v w more q)) (h.other w (omega arith) lw);
-  }
-    where
-      put : (w : ℕ) → w < max_radios → marked new 0 w ≡ cond (eqb 0 0 && eqb v w) (f v) (marked row 0 w)
-      put w lw = ap (λ (xs : List ℕ). marked xs 0 w) e ∙ marked_put_bit (f v) 0 v row 0 w l lw (omega (arith, h.long, room))
-
-      past : (v w : ℕ) → v + 1 ≤ w → v ≡ w → ⊥
-      past v w more q = omega arith
-
-      at : (w : ℕ) → w < v + 1 → w < max_radios → (eqb v w ≡ true) ⊎ (eqb v w ≡ false) → cond (eqb 0 0 && eqb v w) (f v) (marked row 0 w) ≡ f w
-      at w less lw (inl q) = rw q (ap f (eqb-true v w q))
-      at w less lw (inr q) = rw q (h.is w (less_other v w less (eqb-false v w q)) lw)
-
 -- ---- nobody lowered
 
 pub lowered_none : (k a : ℕ) (held cs due : List ℕ) → Lowered k a held [] cs due cs due
 unfolding member
 lowered_none k a held cs due = record {
   long = refl;
-  due_long = refl;
   counter_after = λ w. sym (cond_false (left cs w && false) (get_or cs w 255 - 1) (get_or cs w 255) (and_no (left cs w) false refl));
-  due_after = λ w l. sym (or_no (marked due 0 w) ((left cs w && false) && is_due k a held cs w) (rw (and_no (left cs w) false refl)));
+  due_after = λ w l. sym (or_no (in_set due w) ((left cs w && false) && is_due k a held cs w) (rw (and_no (left cs w) false refl)));
 }
 
 -- ---- one radio lowered
@@ -198,9 +107,8 @@ module _ (k a w : ℕ) (held cs due : List ℕ) (l : w < length cs) where
   pub lowered_gone : 128 ≤ get_or cs w 0 → Lowered k a held (w ∷ []) cs due cs due
   lowered_gone h = record {
     long = refl;
-    due_long = refl;
     counter_after = λ v. sym (cond_false (left cs v && member v (w ∷ [])) (get_or cs v 255 - 1) (get_or cs v 255) (untouched v (gone h)));
-    due_after = λ v lv. sym (or_no (marked due 0 v) ((left cs v && member v (w ∷ [])) && is_due k a held cs v) (rw (untouched v (gone h))));
+    due_after = λ v lv. sym (or_no (in_set due v) ((left cs v && member v (w ∷ [])) && is_due k a held cs v) (rw (untouched v (gone h))));
   }
 
   is_left : get_or cs w 0 < 128 → left cs w ≡ true
@@ -208,8 +116,8 @@ module _ (k a w : ℕ) (held cs due : List ℕ) (l : w < length cs) where
   is_left h = lt-ltb (get_or cs w 255) 128 (omega (arith, get_d_any cs w 0 255 l))
 
   -- y is the counter after, t whether w is then due
-  module _ (y : ℕ) (t : Bool) (new : List ℕ) (small : w < max_radios) (room : length due ≡ row_bytes) (h : get_or cs w 0 < 128) (less : y ≡ get_or cs w 0 - 1)
-      (test : t ≡ is_due k a held (set cs w y) w) (put : new ≡ cond t (put_bit true 0 w due) due) where
+  module _ (y : ℕ) (t : Bool) (new : List ℕ) (h : get_or cs w 0 < 128) (less : y ≡ get_or cs w 0 - 1)
+      (test : t ≡ is_due k a held (set cs w y) w) (put : (v : ℕ) → in_set new v ≡ (in_set due v || (eqb w v && t))) where
     abbrev ds : List ℕ
     ds = set cs w y
 
@@ -223,18 +131,6 @@ module _ (k a w : ℕ) (held cs due : List ℕ) (l : w < length cs) where
         ∙ sym (cond_false (left cs v && member v (w ∷ [])) (get_or cs v 255 - 1) (get_or cs v 255) (and_no (left cs v) (member v (w ∷ [])) (one_other w v
         (eqb-false w v q))))
 
-    marked_new : (v : ℕ) → v < max_radios → (u : Bool) → new ≡ cond u (put_bit true 0 w due) due → marked new 0 v ≡ (marked due 0 v || (eqb w v && u))
-    unfolding byte_at
-    marked_new v lv true e = ap (λ (xs : List ℕ). marked xs 0 v) e ∙ marked_put_bit true 0 w due 0 v small lv (omega (arith, room))
-        ∙ flip (eqb w v) (marked due 0 v)
-      where
-        flip : (b m : Bool) → cond b true m ≡ (m || (b && true))
-        flip true true = refl
-        flip true false = refl
-        flip false true = refl
-        flip false false = refl
-    marked_new v lv false e = ap (λ (xs : List ℕ). marked xs 0 v) e ∙ sym (or_no (marked due 0 v) (eqb w v && false) (and_no (eqb w v) false refl))
-
     due_at : (v : ℕ) → (eqb w v ≡ true) ⊎ (eqb w v ≡ false) → (eqb w v && t) ≡ ((left cs v && member v (w ∷ [])) && is_due k a held ds v)
     due_at v (inl q) =
         let e : w ≡ v = eqb-true w v q in
@@ -245,14 +141,9 @@ module _ (k a w : ℕ) (held cs due : List ℕ) (l : w < length cs) where
     pub lowered_one : Lowered k a held (w ∷ []) cs due ds new
     lowered_one = record {
       long = length-set cs w y;
-      due_long = ap length put ∙ long_put t;
       counter_after = λ v. counter_at v (bool_cases (eqb w v));
-      due_after = λ v lv. marked_new v lv t put ∙ ap (λ (b : Bool). marked due 0 v || b) (due_at v (bool_cases (eqb w v)));
+      due_after = λ v lv. put v ∙ ap (λ (b : Bool). in_set due v || b) (due_at v (bool_cases (eqb w v)));
     }
-      where
-        long_put : (u : Bool) → length (cond u (put_bit true 0 w due) due) ≡ length due
-        long_put true = length_put_bit true 0 w due
-        long_put false = refl
 
 -- ---- some radios lowered, and then others
 
@@ -290,22 +181,21 @@ module _ (k a : ℕ) (held xs ys cs due cs1 due1 ds new : List ℕ) (apart : (w 
   counter_both w (inr e) = rw (more_other w e, sym (left_other w e), sym (counter_other w e)) (rest.counter_after w)
 
   due_both : (w : ℕ) → w < max_radios → (member w xs ≡ true) ⊎ (member w xs ≡ false)
-      → marked new 0 w ≡ (marked due 0 w || ((left cs w && member w (xs ++ ys)) && is_due k a held ds w))
+      → in_set new w ≡ (in_set due w || ((left cs w && member w (xs ++ ys)) && is_due k a held ds w))
   due_both w l (inl e) =
       rest.due_after w l
-      ∙ or_no (marked due1 0 w) ((left cs1 w && member w ys) && is_due k a held ds w) (rw (and_no (left cs1 w) (member w ys) (more_same w e)))
+      ∙ or_no (in_set due1 w) ((left cs1 w && member w ys) && is_due k a held ds w) (rw (and_no (left cs1 w) (member w ys) (more_same w e)))
       ∙ one.due_after w l
       ∙ rw (both_same w e, due_like w e)
   due_both w l (inr e) =
       rest.due_after w l
       ∙ ap (λ (b : Bool). b || ((left cs1 w && member w ys) && is_due k a held ds w))
-      (one.due_after w l ∙ or_no (marked due 0 w) ((left cs w && member w xs) && is_due k a held cs1 w) (rw (and_no (left cs w) (member w xs) e)))
+      (one.due_after w l ∙ or_no (in_set due w) ((left cs w && member w xs) && is_due k a held cs1 w) (rw (and_no (left cs w) (member w xs) e)))
       ∙ rw (more_other w e, left_other w e)
 
   pub lowered_append : Lowered k a held (xs ++ ys) cs due ds new
   lowered_append = record {
     long = rest.long ∙ one.long;
-    due_long = rest.due_long ∙ one.due_long;
     counter_after = λ w. counter_both w (bool_cases (member w xs));
     due_after = λ w l. due_both w l (bool_cases (member w xs));
   }
@@ -314,20 +204,16 @@ module _ (k a : ℕ) (held xs ys cs due cs1 due1 ds new : List ℕ) (apart : (w 
 
 -- rest is left
 pub record Lowering (k a : ℕ) (held xs old old_due rest cs due : List ℕ) : Type 0 where
-  pub long : length cs ≡ length old
-  pub due_long : length due ≡ length old_due
   pub once : Distinct rest
   pub whole : (ds new : List ℕ) → Lowered k a held rest cs due ds new → Lowered k a held xs old old_due ds new
 
 module _ (k a : ℕ) (held xs old old_due : List ℕ) where
   pub lowering_none : Distinct xs → Lowering k a held xs old old_due xs old old_due
-  lowering_none d = record { long = refl; due_long = refl; once = d; whole = λ ds new h. h }
+  lowering_none d = record { once = d; whole = λ ds new h. h }
 
   lowering_part : (ys rest cs due ds new : List ℕ) → Lowering k a held xs old old_due (ys ++ rest) cs due → Lowered k a held ys cs due ds new
       → Lowering k a held xs old old_due rest ds new
   lowering_part ys rest cs due ds new h one = record {
-    long = one.long ∙ h.long;
-    due_long = one.due_long ∙ h.due_long;
     once = distinct_right ys rest h.once;
     whole = λ es end r. h.whole es end (lowered_append k a held ys rest cs due ds new es end (distinct_apart ys rest h.once) one r);
   }

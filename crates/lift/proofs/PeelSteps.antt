@@ -5,23 +5,28 @@ use Rattle.std.specs.Prelude.{◌≡◌, ◌⊎◌, ◌&&◌, ◌||◌, ◌+◌,
 use Rattle.lists.{specs.Kit.{refl, sym, ap, subst, ◌∙◌, inl, inr, Bool, true, false, not, cond, List, ℕ, suc}}
 use Rattle.lists.{specs.Kit.{min, arith, ltb, leb, eqb, length, get_or, set, take, length-set, List·getD-eq-default, get_or-set_same, get_or-set_other, eqb-true}}
 use Rattle.lists.{specs.Kit.{eqb-false, eq-eqb, ne_eqb, ltb-true, ltb-false, lt-ltb, leb-true, leb-false, le-leb, lt-leb, not-true, not-false}}
-use Rattle.lists.{specs.Lists.{In, member, count, range, overwrite, head_or}, proofs.Tests.{bool_cases, never, and_left, and_right, and_both}}
-use Rattle.lists.{proofs.Tests.{or_cases, or_left, or_right, cond_false, cond_true}, proofs.Ascending.{head_or_lowest}, proofs.Member.{member_in}}
-use Rattle.lists.{proofs.Member.{head_or_below}, proofs.Parts.{get_d_any}, proofs.Filter.{member_filter}, proofs.Range.{in_range}, proofs.All.{all_in}}
-use Rattle.lists.{specs.Kit.{bit_and, and_le_l, count_trailing_zeros, replicate, length-replicate, get_or-replicate}, specs.Lists.{all}}
-use Rattle.mesh.{specs.Limits.{max_radios, max_neighbours, row_bytes}, specs.Graph.{linked}, specs.Cores.{number}, specs.Tables.{Tables, tables, marked, digit}}
-use Rattle.mesh.{specs.Tables.{put_bit, byte_at, graph_in}, specs.Sound.{sound}, specs.Valid.{Valid}, proofs.Tables.Laws.{marked_put_bit, length_put_bit}}
+use Rattle.lists.{specs.Lists.{member, count, range, overwrite}, proofs.Tests.{bool_cases, never, and_left, and_right, and_both}}
+use Rattle.lists.{proofs.Tests.{or_cases, or_left, or_right, cond_false, cond_true}}
+use Rattle.lists.{proofs.Parts.{get_d_any}, proofs.Filter.{member_filter}, proofs.Range.{in_range}, proofs.All.{all_in}}
+use Rattle.lists.{specs.Kit.{bit_and, and_le_l, count_trailing_zeros, replicate, get_or-replicate}, specs.Lists.{all}}
+use Rattle.mesh.{specs.Limits.{max_radios, max_neighbours, row_bytes}, specs.Graph.{linked}, specs.Cores.{number}, specs.Tables.{Tables, tables, digit}}
+use Rattle.mesh.{specs.Tables.{graph_in}, specs.Sound.{sound}, specs.Valid.{Valid}}
 use Rattle.mesh.{proofs.Tables.Rows.{few_of}, proofs.Images.Tables.{valid_graph_in}}
 use Rattle.calls.specs.Questions.{size_good, site_lengths, lengths_of}
-use Rattle.rows.{specs.Rows.{row_word, word_of}, proofs.WordLaws.{word_at_less}, specs.Sets.{in_set, take_out, common, RowJoined}}
-use Rattle.rows.{proofs.SetLaws.{digit_and, in_set_zeros, in_take_out, length_take_out, common_filter}}
-use Rattle.rows.{specs.Rows.{neighbours_of, row_listed, row_count}, proofs.RowListLaws.{ascending_neighbours_of, in_neighbours_of, member_neighbours_of}}
-use Rattle.rows.{proofs.RowListLaws.{length_neighbours_of, row_listed_fits}, proofs.RowWords.{row_listed_whole, marked_word, word_of_whole}}
+use Rattle.rows.{specs.Sets.{in_set, common, RowJoined}}
+use Rattle.rows.{proofs.SetLaws.{digit_and, in_set_zeros, common_filter}}
+use Rattle.rows.{specs.Rows.{neighbours_of, row_listed, row_count}, proofs.RowListLaws.{member_neighbours_of}}
+use Rattle.rows.{proofs.RowListLaws.{length_neighbours_of, row_listed_fits}}
 use Rattle.soundness.{specs.Checks.{fits_sound}, proofs.SoundSite.{SoundSite, fits_sound_site, linked_marked, row_listed_neighbours}}
 use Rattle.lifting.{specs.Peeling.{left, stays, Taken}, proofs.Peeling.{left_below, high_left, below_left, stays_above, stays_left, stays_cases, taken_fewer}}
 use Rattle.lifting.{proofs.Peeling.{taken_still, peeling_near, peeling_takes}}
 use Rattle.lift.specs.Peels.{graph_of, SoundLinks, is_due, Due, gone_of, Lowered, NextDue, PeelState, PeelBegin, PeelEnd}
 use Rattle.lift.proofs.PeelLaws.{or_no, lowest_bit}
+use Rattle.std.specs.Prelude.{Option, None, Some}
+use Rattle.rows.specs.Rows.{first_in}
+use Rattle.lift.proofs.SetLaws.{lowest_none, lowest_some}
+use Rattle.rows.proofs.SetLaws.{member_word}
+use Rattle.lift.specs.Peels.{EarlyDue}
 
 -- ---- sound links
 
@@ -71,13 +76,13 @@ inside_left cs w long l = by_test (bool_cases (ltb w max_radios))
         absurd (omega (arith, left_below cs w l, List·getD-eq-default cs 255 {n = w} (omega (arith, long, ltb-false w max_radios q))))
 
 module _ (links held : List ℕ) (k a : ℕ) (stay cs due : List ℕ) (s : SoundLinks links) (h : PeelState links held k a stay cs due) (v : ℕ)
-    (lv : v < max_radios) (m : marked due 0 v ≡ true) where
+    (lv : v < max_radios) (m : in_set due v ≡ true) where
   own_due : is_due k a held cs v ≡ true
   own_due = sym (h.due_is v lv) ∙ m
 
   -- the part of the test after the first
   abbrev rest_of : Bool
-  rest_of = not (eqb v a) && (ltb (get_or cs v 255) k || not (marked held 0 v))
+  rest_of = not (eqb v a) && (ltb (get_or cs v 255) k || not (in_set held v))
 
   own_low : get_or cs v 255 ≤ k
   unfolding is_due
@@ -87,17 +92,17 @@ module _ (links held : List ℕ) (k a : ℕ) (stay cs due : List ℕ) (s : Sound
   unfolding is_due
   not_low_end =
       eqb-false v a (not-true (eqb v a)
-      (and_left (not (eqb v a)) (ltb (get_or cs v 255) k || not (marked held 0 v)) (and_right (leb (get_or cs v 255) k) rest_of own_due)))
+      (and_left (not (eqb v a)) (ltb (get_or cs v 255) k || not (in_set held v)) (and_right (leb (get_or cs v 255) k) rest_of own_due)))
 
-  own_short : marked held 0 v ≡ true → get_or cs v 255 < k
+  own_short : in_set held v ≡ true → get_or cs v 255 < k
   unfolding is_due
   own_short on =
-      at (or_cases (ltb (get_or cs v 255) k) (not (marked held 0 v))
-      (and_right (not (eqb v a)) (ltb (get_or cs v 255) k || not (marked held 0 v)) (and_right (leb (get_or cs v 255) k) rest_of own_due)))
+      at (or_cases (ltb (get_or cs v 255) k) (not (in_set held v))
+      (and_right (not (eqb v a)) (ltb (get_or cs v 255) k || not (in_set held v)) (and_right (leb (get_or cs v 255) k) rest_of own_due)))
     where
-      at : (ltb (get_or cs v 255) k ≡ true) ⊎ (not (marked held 0 v) ≡ true) → get_or cs v 255 < k
+      at : (ltb (get_or cs v 255) k ≡ true) ⊎ (not (in_set held v) ≡ true) → get_or cs v 255 < k
       at (inl q) = ltb-true (get_or cs v 255) k q
-      at (inr q) = never (marked held 0 v) on (not-true (marked held 0 v) q)
+      at (inr q) = never (in_set held v) on (not-true (in_set held v) q)
 
   own_left : left cs v ≡ true
   own_left = below_left cs v (omega (arith, own_low, h.low))
@@ -135,15 +140,14 @@ module _ (links held : List ℕ) (k a : ℕ) (stay cs due : List ℕ) (s : Sound
   other_left w ne = ap (λ (x : ℕ). ltb x 128) (other_counter w ne)
 
   -- then its neighbours', of which those that are left stand in both sets
-  module _ (due1 ds new near stay1 : List ℕ) (out : due1 ≡ put_bit false 0 v due) (out_stay : stay1 ≡ take_out v stay)
+  module _ (due1 ds new near stay1 : List ℕ) (out : (w : ℕ) → in_set due1 w ≡ cond (eqb v w) false (in_set due w))
+      (out_stay : (w : ℕ) → in_set stay1 w ≡ cond (eqb v w) false (in_set stay w))
       (row : RowJoined links v (replicate 8 0) near) (masked : Lowered k a held (common near stay1) cs1 due1 ds new) where
     abbrev xs : List ℕ
     xs = neighbours_of links v
 
     stay_other : (w : ℕ) → (w ≡ v → ⊥) → in_set stay1 w ≡ in_set stay w
-    stay_other w ne =
-        ap (λ (ws : List ℕ). in_set ws w) out_stay ∙ in_take_out v w stay (omega (arith, h.stay_long))
-        ∙ cond_false (eqb v w) false (in_set stay w) (ne_eqb v w (λ e. ne (sym e)))
+    stay_other w ne = out_stay w ∙ cond_false (eqb v w) false (in_set stay w) (ne_eqb v w (λ e. ne (sym e)))
 
     in_row : (w : ℕ) → in_set near w ≡ member w xs
     in_row w = row.bits w ∙ rw (in_set_zeros 8 w) (ap (member w) (row_own links s v own_radio))
@@ -167,11 +171,10 @@ module _ (links held : List ℕ) (k a : ℕ) (stay cs due : List ℕ) (s : Sound
     lower : Lowered k a held xs cs1 due1 ds new
     lower = record {
       long = masked.long;
-      due_long = masked.due_long;
       counter_after = λ w. masked.counter_after w
           ∙ ap (λ (b : Bool). cond b (get_or cs1 w 255 - 1) (get_or cs1 w 255)) (same_near w (bool_cases (left cs1 w)));
       due_after = λ w lw. masked.due_after w lw
-          ∙ ap (λ (b : Bool). marked due1 0 w || (b && is_due k a held ds w)) (same_near w (bool_cases (left cs1 w)));
+          ∙ ap (λ (b : Bool). in_set due1 w || (b && is_due k a held ds w)) (same_near w (bool_cases (left cs1 w)));
     }
 
     own_after : get_or ds v 255 ≡ 128 + get_or cs v 255
@@ -208,10 +211,6 @@ module _ (links held : List ℕ) (k a : ℕ) (stay cs due : List ℕ) (s : Sound
 
     -- ---- who is due then
 
-    out_of : (w : ℕ) → w < max_radios → marked due1 0 w ≡ cond (eqb v w) false (marked due 0 w)
-    unfolding byte_at
-    out_of w lw = ap (λ (xs : List ℕ). marked xs 0 w) out ∙ marked_put_bit false 0 v due 0 w lv lw (omega (arith, h.due_long))
-
     due_own_after : is_due k a held ds v ≡ false
     unfolding is_due
     due_own_after = rw (lt-leb (get_or ds v 255) k (omega (arith, own_after, h.low)))
@@ -219,22 +218,22 @@ module _ (links held : List ℕ) (k a : ℕ) (stay cs due : List ℕ) (s : Sound
     due_less : (w : ℕ) → (w ≡ v → ⊥) → is_due k a held cs w ≡ true → is_due k a held ds w ≡ true
     unfolding is_due
     due_less w ne q =
-        let tail = and_right (leb (get_or cs w 255) k) (not (eqb w a) && (ltb (get_or cs w 255) k || not (marked held 0 w))) q in
-        and_both (leb (get_or ds w 255) k) (not (eqb w a) && (ltb (get_or ds w 255) k || not (marked held 0 w)))
+        let tail = and_right (leb (get_or cs w 255) k) (not (eqb w a) && (ltb (get_or cs w 255) k || not (in_set held w))) q in
+        and_both (leb (get_or ds w 255) k) (not (eqb w a) && (ltb (get_or ds w 255) k || not (in_set held w)))
         (le-leb (get_or ds w 255) k (omega (
           arith,
           never_more w ne,
-          leb-true (get_or cs w 255) k (and_left (leb (get_or cs w 255) k) (not (eqb w a) && (ltb (get_or cs w 255) k || not (marked held 0 w))) q),
+          leb-true (get_or cs w 255) k (and_left (leb (get_or cs w 255) k) (not (eqb w a) && (ltb (get_or cs w 255) k || not (in_set held w))) q),
         )))
-        (and_both (not (eqb w a)) (ltb (get_or ds w 255) k || not (marked held 0 w))
-        (and_left (not (eqb w a)) (ltb (get_or cs w 255) k || not (marked held 0 w)) tail)
-        (less (or_cases (ltb (get_or cs w 255) k) (not (marked held 0 w)) (and_right (not (eqb w a)) (ltb (get_or cs w 255) k || not (marked held 0 w)) tail))))
+        (and_both (not (eqb w a)) (ltb (get_or ds w 255) k || not (in_set held w))
+        (and_left (not (eqb w a)) (ltb (get_or cs w 255) k || not (in_set held w)) tail)
+        (less (or_cases (ltb (get_or cs w 255) k) (not (in_set held w)) (and_right (not (eqb w a)) (ltb (get_or cs w 255) k || not (in_set held w)) tail))))
       where
-        less : (ltb (get_or cs w 255) k ≡ true) ⊎ (not (marked held 0 w) ≡ true) → (ltb (get_or ds w 255) k || not (marked held 0 w)) ≡ true
+        less : (ltb (get_or cs w 255) k ≡ true) ⊎ (not (in_set held w) ≡ true) → (ltb (get_or ds w 255) k || not (in_set held w)) ≡ true
         less (inl h) =
-            or_left (ltb (get_or ds w 255) k) (not (marked held 0 w))
+            or_left (ltb (get_or ds w 255) k) (not (in_set held w))
             (lt-ltb (get_or ds w 255) k (omega (arith, never_more w ne, ltb-true (get_or cs w 255) k h)))
-        less (inr h) = or_right (ltb (get_or ds w 255) k) (not (marked held 0 w)) h
+        less (inr h) = or_right (ltb (get_or ds w 255) k) (not (in_set held w)) h
 
     due_same : (w : ℕ) → get_or ds w 255 ≡ get_or cs w 255 → is_due k a held cs w ≡ is_due k a held ds w
     unfolding is_due
@@ -251,18 +250,18 @@ module _ (links held : List ℕ) (k a : ℕ) (stay cs due : List ℕ) (s : Sound
         or_no (is_due k a held cs w) false refl
         ∙ due_same w (after_other w ne ∙ cond_false (left cs w && linked (graph_of links) v w) (get_or cs w 255 - 1) (get_or cs w 255) q)
 
-    due_after : (w : ℕ) → w < max_radios → (eqb v w ≡ true) ⊎ (eqb v w ≡ false) → marked new 0 w ≡ is_due k a held ds w
+    due_after : (w : ℕ) → w < max_radios → (eqb v w ≡ true) ⊎ (eqb v w ≡ false) → in_set new w ≡ is_due k a held ds w
     due_after w lw (inl q) =
-        subst (λ (x : ℕ). marked new 0 x ≡ is_due k a held ds x) (eqb-true v w q)
-        (lower.due_after v lv ∙ rw (out_of v lv, eq-eqb v v refl, own_gone) (sym due_own_after))
+        subst (λ (x : ℕ). in_set new x ≡ is_due k a held ds x) (eqb-true v w q)
+        (lower.due_after v lv ∙ rw (out v, eq-eqb v v refl, own_gone) (sym due_own_after))
     due_after w lw (inr q) =
         let ne : w ≡ v → ⊥ = λ e. eqb-false v w q (sym e) in
         lower.due_after w lw
-        ∙ rw (out_of w lw, q, touched w ne, h.due_is w lw) (due_other_after w ne (left cs w && linked (graph_of links) v w) refl)
+        ∙ rw (out w, q, touched w ne, h.due_is w lw) (due_other_after w ne (left cs w && linked (graph_of links) v w) refl)
 
     -- ---- what is held stays, or is taken with fewer than k
 
-    kept_after : (w : ℕ) → marked held 0 w ≡ true
+    kept_after : (w : ℕ) → in_set held w ≡ true
         → (stays (graph_of links) k cs w ≡ true) ⊎ ((128 ≤ get_or cs w 255) × (get_or cs w 255 < 128 + k))
         → (stays (graph_of links) k ds w ≡ true) ⊎ ((128 ≤ get_or ds w 255) × (get_or ds w 255 < 128 + k))
     kept_after w on (inr (p, q)) = let e = same_gone in inr (omega arith, omega arith)
@@ -282,7 +281,7 @@ module _ (links held : List ℕ) (k a : ℕ) (stay cs due : List ℕ) (s : Sound
         at (inl h) z = inl (stays_above (graph_of links) k ds w h)
         at (inr h) (inl z) =
             let e = eqb-true w v z in
-            let few = own_short (subst (λ (x : ℕ). marked held 0 x ≡ true) e on) in
+            let few = own_short (subst (λ (x : ℕ). in_set held x ≡ true) e on) in
             let is : get_or ds w 255 ≡ 128 + get_or cs v 255 = ap (λ (x : ℕ). get_or ds x 255) e ∙ own_after in
             inr (omega arith, omega arith)
         at (inr h) (inr z) =
@@ -293,10 +292,8 @@ module _ (links held : List ℕ) (k a : ℕ) (stay cs due : List ℕ) (s : Sound
       peeling = peeling_takes (graph_of links) s.order (links_valid links s) k a cs ds v h.peeling own_left not_low_end own_low taken;
       low = h.low;
       long = lower.long ∙ own_long;
-      due_long = lower.due_long ∙ ap length out ∙ length_put_bit false 0 v due ∙ h.due_long;
       due_is = λ w lw. due_after w lw (bool_cases (eqb v w));
       kept = λ w lw on. kept_after w on (h.kept w lw on);
-      stay_long = ap length out_stay ∙ length_take_out v stay ∙ h.stay_long;
       stay_has = λ w q. let was = taken_still (graph_of links) cs ds v own_left taken w q in stay_other w was.1 ∙ h.stay_has w was.0;
     }
 
@@ -305,54 +302,29 @@ module _ (links held : List ℕ) (k a : ℕ) (stay cs due : List ℕ) (s : Sound
 
 -- ---- who is due first
 
-module _ (due : List ℕ) (long : length due ≡ row_bytes) (v : ℕ) (e : v ≡ head_or max_radios (row_listed due 0)) where
-  whole : row_listed due 0 ≡ neighbours_of due 0
-  whole = row_listed_whole due 0 (omega (arith, long))
-
-  first : v ≡ head_or max_radios (neighbours_of due 0)
-  first = e ∙ ap (head_or max_radios) whole
-
-  pub first_due : v < max_radios → marked due 0 v ≡ true
-  first_due l = rw first (in_neighbours_of due 0 (head_or max_radios (neighbours_of due 0)) (head_or_below max_radios (neighbours_of due 0) (omega
-      (arith, first)))).1
-
-  pub none_before : (w : ℕ) → w < v → w < max_radios → marked due 0 w ≡ false
-  none_before w l lw = not_marked (bool_cases (marked due 0 w))
-    where
-      not_marked : (marked due 0 w ≡ true) ⊎ (marked due 0 w ≡ false) → marked due 0 w ≡ false
-      not_marked (inr q) = q
-      not_marked (inl q) =
-          let there : In w (neighbours_of due 0) = member_in w (neighbours_of due 0) (member_neighbours_of due 0 w lw ∙ q) in
-          absurd (omega (arith, first, head_or_lowest max_radios w (neighbours_of due 0) (ascending_neighbours_of due 0) there))
-
-  -- the lowest is one that may be next
-  pub next_first : NextDue due v
-  next_first = record { some = first_due; none = λ past w lw. none_before w (omega arith) lw }
-
 -- the lowest bit of what is left of word k of the set when another word masks it
-pub early_due : (due : List ℕ) → ((j : ℕ) → get_or due j 0 < 256) → length due ≡ row_bytes → (k x y : ℕ) → k < 8 → x ≡ word_of due k
-    → (bit_and x y ≡ 0 → ⊥) → marked due 0 (64 * k + count_trailing_zeros 64 (bit_and x y)) ≡ true
-early_due due bytes long k x y h e some = lowest (lowest_bit (bit_and x y) some (omega (arith, and_le_l x y, small)))
+pub early_due : (due : List ℕ) (k x y : ℕ) → k < 8 → x < 2 ^ 64 → x ≡ get_or due k 0 → (bit_and x y ≡ 0 → ⊥)
+    → EarlyDue due (Some (64 * k + count_trailing_zeros 64 (bit_and x y)))
+early_due due k x y h small e some = lowest (lowest_bit (bit_and x y) some (omega (arith, and_le_l x y, small)))
   where
-    word : row_word 8 due (row_bytes * 0 + 8 * k) ≡ x
-    word =
-        let at : row_bytes * 0 + 8 * k ≡ 8 * k = omega arith in
-        ap (row_word 8 due) at ∙ sym (word_of_whole due k (omega arith)) ∙ sym e
-
-    small : x < 2 ^ 64
-    small = omega (arith, word, word_at_less due bytes (row_bytes * 0 + 8 * k) 8)
-
     lowest : (count_trailing_zeros 64 (bit_and x y) < 64) × (digit (bit_and x y) (count_trailing_zeros 64 (bit_and x y)) ≡ true)
-        → marked due 0 (64 * k + count_trailing_zeros 64 (bit_and x y)) ≡ true
+        → EarlyDue due (Some (64 * k + count_trailing_zeros 64 (bit_and x y)))
     lowest (less, on) =
-        let m = count_trailing_zeros 64 (bit_and x y) in
-        marked_word due bytes 0 k m less ∙ ap (λ (z : ℕ). digit z m) word ∙ and_left (digit x m) (digit y m) (sym (digit_and x y m) ∙ on)
+        let m = count_trailing_zeros 64 (bit_and x y) in (
+          omega arith,
+          member_word due k m less ∙ ap (λ (z : ℕ). digit z m) (sym e) ∙ and_left (digit x m) (digit y m) (sym (digit_and x y m) ∙ on),
+        )
+
+-- the lowest is one that may be next
+pub next_first : (due : List ℕ) (v : Option ℕ) → v ≡ first_in (common due due) → NextDue due v
+next_first due None e = lowest_none due e
+next_first due (Some v) e = let low = lowest_some due e in (low.0, low.1)
 
 -- ---- the whole peel
 
-due_again : (k a : ℕ) (held cs : List ℕ) (w : ℕ) → leb (get_or cs w 255) k ≡ true → (w ≡ a → ⊥) → marked held 0 w ≡ false → is_due k a held cs w ≡ true
+due_again : (k a : ℕ) (held cs : List ℕ) (w : ℕ) → leb (get_or cs w 255) k ≡ true → (w ≡ a → ⊥) → in_set held w ≡ false → is_due k a held cs w ≡ true
 unfolding is_due
-due_again k a held cs w q ne out = rw (q, ne_eqb w a ne) (or_right (ltb (get_or cs w 255) k) (not (marked held 0 w)) (rw out))
+due_again k a held cs w q ne out = rw (q, ne_eqb w a ne) (or_right (ltb (get_or cs w 255) k) (not (in_set held w)) (rw out))
 
 due_short_again : (k a : ℕ) (held cs : List ℕ) (w : ℕ) → get_or cs w 255 < k → (w ≡ a → ⊥) → is_due k a held cs w ≡ true
 unfolding is_due
@@ -369,58 +341,34 @@ all_stay w l =
     ap (λ (x : ℕ). digit x (w % 64)) (get_or-replicate 8 (w / 64) 18446744073709551615 0 (omega arith))
     ∙ all_in (digit 18446744073709551615) (range 0 64) full_bits (w % 64) (in_range 0 64 (w % 64) (omega arith) (omega arith))
 
--- r and b are left so far, a has enough neighbours that stay, and v is to be taken next
-pub record PeelingOn (links held : List ℕ) (k a r b : ℕ) (stay cs due : List ℕ) (v : ℕ) : Type 0 where
+-- r and b are left so far, and a has enough neighbours that stay
+pub record PeelingOn (links held : List ℕ) (k a r b : ℕ) (stay cs due : List ℕ) : Type 0 where
   pub state : PeelState links held k a stay cs due
   pub there : left cs r ≡ true
   pub stop_there : left cs b ≡ true
   pub fits : k ≤ get_or cs a 255
-  pub next : NextDue due v
 
 module _ (links held : List ℕ) (k a r b : ℕ) (cs due : List ℕ) where
-  pub peel_starts : (v : ℕ) → length due ≡ row_bytes → Due k a held cs due → PeelBegin links held k a r b cs → NextDue due v
-      → PeelingOn links held k a r b (replicate 8 18446744073709551615) cs due v
-  peel_starts v long d h e = record {
+  pub peel_starts : Due k a held cs due → PeelBegin links held k a r b cs → PeelingOn links held k a r b (replicate 8 18446744073709551615) cs due
+  peel_starts d h = record {
     state = record {
       peeling = h.base.peeling;
       low = h.base.low;
       long = h.base.long;
-      due_long = long;
       due_is = d;
       kept = h.kept;
-      stay_long = length-replicate {A = ℕ} 8 18446744073709551615;
       stay_has = λ w q. all_stay w (inside_left cs w h.base.long q);
     };
     there = h.base.there;
     stop_there = h.stop_there;
     fits = h.base.fits;
-    next = e;
   }
 
   module _ (stay : List ℕ) (h : PeelState links held k a stay cs due) where
-    stopped : (gone_of k a r cs ≡ true) ⊎ (left cs b ≡ false) → PeelEnd links held k a r b cs false
-    stopped e = record {
-      peeling = h.peeling;
-      long = h.long;
-      kept = h.kept;
-      base = λ no. never false no refl;
-      stop_left = λ no. never false no refl;
-      held_fit = λ no. never false no refl;
-      full = λ no. never false no refl;
-      ended = λ no. e;
-    }
-
-    pub peel_over : (gone_of k a r cs || not (left cs b)) ≡ true → PeelEnd links held k a r b cs false
-    peel_over q = stopped (at (or_cases (gone_of k a r cs) (not (left cs b)) q))
-      where
-        at : (gone_of k a r cs ≡ true) ⊎ (not (left cs b) ≡ true) → (gone_of k a r cs ≡ true) ⊎ (left cs b ≡ false)
-        at (inl e) = inl e
-        at (inr e) = inr (not-true (left cs b) e)
-
     -- it goes on
-    pub peel_on : (v : ℕ) → (gone_of k a r cs || not (left cs b)) ≡ false → NextDue due v → PeelingOn links held k a r b stay cs due v
+    pub peel_on : (gone_of k a r cs || not (left cs b)) ≡ false → PeelingOn links held k a r b stay cs due
     unfolding gone_of
-    peel_on v q e =
+    peel_on q =
         let both = or_none (gone_of k a r cs) (not (left cs b)) q in
         let own = or_none (not (left cs r)) (ltb (get_or cs a 255) k) both.0 in
         record {
@@ -428,7 +376,6 @@ module _ (links held : List ℕ) (k a r b : ℕ) (cs due : List ℕ) where
           there = not-false (left cs r) own.0;
           stop_there = not-false (left cs b) both.1;
           fits = ltb-false (get_or cs a 255) k own.1;
-          next = e;
         }
       where
         or_none : (x y : Bool) → (x || y) ≡ false → (x ≡ false) × (y ≡ false)
@@ -436,8 +383,8 @@ module _ (links held : List ℕ) (k a r b : ℕ) (cs due : List ℕ) where
         or_none false y z = (refl, z)
 
   -- nothing is due
-  pub peel_done : (stay : List ℕ) (v : ℕ) → max_radios ≤ v → PeelingOn links held k a r b stay cs due v → PeelEnd links held k a r b cs true
-  peel_done stay v past h = record {
+  pub peel_done : (stay : List ℕ) → NextDue due None → PeelingOn links held k a r b stay cs due → PeelEnd links held k a r b cs true
+  peel_done stay none h = record {
     peeling = h.state.peeling;
     long = h.state.long;
     kept = h.state.kept;
@@ -451,13 +398,13 @@ module _ (links held : List ℕ) (k a r b : ℕ) (cs due : List ℕ) where
       none_due : (w : ℕ) → left cs w ≡ true → is_due k a held cs w ≡ true → ⊥
       none_due w l q =
           let small : w < max_radios = inside_left cs w h.state.long l in
-          never (is_due k a held cs w) q (sym (h.state.due_is w small) ∙ h.next.none past w small)
+          never (is_due k a held cs w) q (sym (h.state.due_is w small) ∙ none w small)
 
       fit : (w : ℕ) → left cs w ≡ true → (w ≡ a → ⊥) → (ltb (get_or cs w 255) k ≡ true) ⊎ (ltb (get_or cs w 255) k ≡ false) → k ≤ get_or cs w 255
       fit w l ne (inr q) = ltb-false (get_or cs w 255) k q
       fit w l ne (inl q) = absurd (none_due w l (due_short_again k a held cs w (ltb-true (get_or cs w 255) k q) ne))
 
-      more : (w : ℕ) → left cs w ≡ true → (w ≡ a → ⊥) → marked held 0 w ≡ false → (leb (get_or cs w 255) k ≡ true) ⊎ (leb (get_or cs w 255) k ≡ false)
+      more : (w : ℕ) → left cs w ≡ true → (w ≡ a → ⊥) → in_set held w ≡ false → (leb (get_or cs w 255) k ≡ true) ⊎ (leb (get_or cs w 255) k ≡ false)
           → k < get_or cs w 255
       more w l ne out (inr q) = leb-false (get_or cs w 255) k q
       more w l ne out (inl q) = absurd (none_due w l (due_again k a held cs w q ne out))

@@ -5,7 +5,7 @@
 use Rattle.std.specs.Prelude.{◌≡◌, ◌/◌, ◌≤◌, ◌<◌}
 use Rattle.lists.specs.Kit.{sym, ap, subst, ◌∙◌, Bool, true, false, not, List, [], ℕ, arith, ltb, leb, length, get_or, lt-ltb, le-ltb, le-leb}
 use Rattle.lists.specs.Kit.{lt-leb, not-true, not-false}
-use Rattle.mesh.specs.{Limits.{max_radios, max_neighbours, row_bytes}, Tables.{Tables, marked, graph_in}, Sound.{sound}, Graph.{link_of, neighbours_in}}
+use Rattle.mesh.specs.{Limits.{max_neighbours, row_bytes}, Tables.{Tables, marked, graph_in}, Sound.{sound}, Graph.{link_of, neighbours_in}}
 use Rattle.calls.{specs.Questions.{lengths_of, radio_refusal}, specs.Lift.{lifting, first_pair, is_lifted}, specs.LiftOutcome.{pair}}
 use Rattle.calls.{specs.CallContracts.{LiftContract}, proofs.ChainLaws.{SiteGood, site_zero}, proofs.LiftOutcome.{lift_refused, lift_unanswered, lift_answered}}
 use Rattle.rows.specs.Rows.{row_count}
@@ -14,6 +14,7 @@ use Rattle.soundness.{proofs.SoundSite.{site_good_fits}}
 use Rattle.conditions.specs.Conditions.{Placed}
 use Rattle.lifting.specs.Tight.{first_end}
 use Rattle.lift.specs.{Counters.{room_left}, Peels.{graph_of}, Tries.{SearchSite}, Search.{is_free, SearchPlaces, place_in, may_lift}}
+use Rattle.rows.specs.Sets.{in_set}
 
 -- ---- is_free
 
@@ -30,21 +31,21 @@ module _ (k : ℕ) (ts ns : List ℕ) (v : ℕ) where
 
 module _ (a : ℕ) (ts ps fs ks : List ℕ) (c : ℕ) where
   abbrev begins : Bool
-  begins = marked ks 0 (first_end (place_in ps) a c)
+  begins = in_set ks (first_end (place_in ps) a c)
 
   pub lift_low : c ≤ a → false ≡ may_lift a ts ps fs ks c
   unfolding may_lift
   lift_low h = rw (le-ltb a c h)
 
-  pub lift_full : (t : Bool) → a < c → t ≡ marked fs 0 c → not t ≡ true → false ≡ may_lift a ts ps fs ks c
+  pub lift_full : (t : Bool) → a < c → t ≡ in_set fs c → not t ≡ true → false ≡ may_lift a ts ps fs ks c
   unfolding may_lift
   lift_full t h e q = rw (lt-ltb a c h, sym e ∙ not-true t q)
 
-  pub lift_other : (t u : Bool) → a < c → t ≡ marked fs 0 c → not t ≡ false → u ≡ begins → not u ≡ true → false ≡ may_lift a ts ps fs ks c
+  pub lift_other : (t u : Bool) → a < c → t ≡ in_set fs c → not t ≡ false → u ≡ begins → not u ≡ true → false ≡ may_lift a ts ps fs ks c
   unfolding may_lift
   lift_other t u h e q f p = rw (lt-ltb a c h, sym e ∙ not-false t q, sym f ∙ not-true u p)
 
-  pub lift_test : (t u w : Bool) → a < c → t ≡ marked fs 0 c → not t ≡ false → u ≡ begins → not u ≡ false → w ≡ marked ts a c → not w ≡ may_lift a ts ps fs ks c
+  pub lift_test : (t u w : Bool) → a < c → t ≡ in_set fs c → not t ≡ false → u ≡ begins → not u ≡ false → w ≡ marked ts a c → not w ≡ may_lift a ts ps fs ks c
   unfolding may_lift
   lift_test t u w h e q f p m = rw (lt-ltb a c h, sym e ∙ not-false t q, sym f ∙ not-false u p, m)
 
@@ -76,13 +77,11 @@ module _ (n v : ℕ) (t : Tables) (places not_lower : List ℕ) (q : ℕ) (asked
     is_sound = subst (λ (m : ℕ). fits_sound m t ≡ true) rows (site_good_fits n t true good)
 
     -- what the search reads
-    pub search_ready : max_radios ≤ length places → max_radios ≤ length not_lower
-        → SearchSite t.links t.numbers not_lower × SearchPlaces t.links t.numbers places
-    search_ready room counts_room = (
+    pub search_ready : SearchSite t.links t.numbers not_lower × SearchPlaces t.links t.numbers places
+    search_ready = (
       record {
         order = t.order;
         is_sound = is_sound;
-        not_lower_long = omega (arith, asked_radios, good.lent.most);
         counted = λ w l. counts_neighbours_in n t good.is_sound good.lent.most not_lower (asked.counts none) w (omega (arith, asked_radios))
             ∙ ap (λ (m : ℕ). neighbours_in (graph_in m t.links) w (λ u. leb (get_or t.numbers w 0) (get_or t.numbers u 0))) rows;
       },
@@ -90,7 +89,6 @@ module _ (n v : ℕ) (t : Tables) (places not_lower : List ℕ) (q : ℕ) (asked
         order = t.order;
         is_sound = is_sound;
         placed = subst (λ (m : ℕ). Placed m t.order places) rows (asked.placed none);
-        long = omega (arith, asked_radios, good.lent.most);
       },
     )
 

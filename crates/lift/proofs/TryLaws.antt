@@ -1,16 +1,17 @@
--- The leaves of a pair tried, as laws of counters and rows.
---   counter_start, stop, ruled_out   what each test of the code says of them
---   Starting    the counters of the radios below v stand
+-- The leaves of a pair tried, as laws of counters and sets.
+--   counter_start, ruled_out   what each test of the code says of them
 --   Ruling      the radios below i are ruled out or stay
 --   held_at     a set of one radio
 use Rattle.std.specs.Prelude.{◌≡◌, ◌⊎◌, ◌&&◌, ◌+◌, ◌≤◌, ◌<◌}
-use Rattle.lists.{specs.Kit.{refl, sym, ap, subst, ◌∙◌, inl, inr, Bool, true, false, not, cond, List, ℕ, arith, ltb, eqb}}
-use Rattle.lists.{specs.Kit.{length, get_or, set, replicate, length-set, length-replicate, get_or-set_same, get_or-set_other, eqb-true, eqb-false, eq-eqb, ne_eqb}}
+use Rattle.lists.{specs.Kit.{refl, ap, subst, ◌∙◌, inl, inr, Bool, true, false, not, cond, List, ℕ, arith, ltb, eqb}}
+use Rattle.lists.{specs.Kit.{length, get_or, replicate, length-replicate, eqb-true, eqb-false, eq-eqb, ne_eqb}}
 use Rattle.lists.{specs.Kit.{ltb-true, lt-ltb, le-ltb}, proofs.Tests.{bool_cases, iff_eq}, proofs.Parts.{get_d_any}}
-use Rattle.mesh.{specs.Limits.{max_radios, row_bytes}, specs.Tables.{marked, put_bit, byte_at}, proofs.Tables.Laws.{marked_replicate, marked_put_bit}}
-use Rattle.mesh.{proofs.Tables.Laws.{length_put_bit}}
+use Rattle.mesh.{specs.Limits.{max_radios}}
 use Rattle.lift.proofs.CounterLaws.{rules_above, rules_left, rules_taken}
-use Rattle.lift.specs.Tries.{counter_start, Started, ruled_out, RuledOut}
+use Rattle.lift.specs.Tries.{counter_start, ruled_out}
+use Rattle.rows.specs.Sets.{in_set, take_out, put_in}
+use Rattle.lift.proofs.SetLaws.{in_taken}
+use Rattle.rows.proofs.SetLaws.{in_set_zeros, in_put_in}
 
 -- ---- the counters before the peel
 
@@ -27,40 +28,7 @@ module _ (k : ℕ) (ns hs : List ℕ) where
   unfolding counter_start
   start_own v l e = rw (lt-ltb v (length ns) l, eq-eqb (get_or ns v 0) k e)
 
-  -- the counters of the radios below v stand
-  pub record Starting (old : List ℕ) (v : ℕ) (cs : List ℕ) : Type 0 where
-    pub long : length cs ≡ length old
-    pub low : v ≤ max_radios
-    pub is : (w : ℕ) → w < v → get_or cs w 255 ≡ counter_start k ns hs w
-
-  module _ (old : List ℕ) (room : length old ≡ max_radios) where
-    pub starting_none : Starting old 0 old
-    starting_none = record { long = refl; low = omega arith; is = λ w l. absurd (omega arith) }
-
-    pub starting_turn : (v x : ℕ) (cs : List ℕ) → v < max_radios → x ≡ counter_start k ns hs v → Starting old v cs → Starting old (v + 1) (set cs v x)
-    starting_turn v x cs l e h = record {
-      long = length-set cs v x ∙ h.long;
-      low = omega arith;
-      is = λ w lw. at w lw (bool_cases (eqb w v));
-    }
-      where
-        at : (w : ℕ) → w < v + 1 → (eqb w v ≡ true) ⊎ (eqb w v ≡ false) → get_or (set cs v x) w 255 ≡ counter_start k ns hs w
-        at w lw (inl q) =
-            subst (λ (y : ℕ). get_or (set cs v x) y 255 ≡ counter_start k ns hs y) (sym (eqb-true w v q))
-            (get_or-set_same cs v x 255 (omega (arith, h.long, room)) ∙ e)
-        at w lw (inr q) =
-            let ne : w ≡ v → ⊥ = eqb-false w v q in get_or-set_other cs v w x 255 ne ∙ h.is w (omega arith)
-
-    pub starting_end : (v : ℕ) (cs : List ℕ) → max_radios ≤ v → Starting old v cs → Started k ns hs cs
-    starting_end v cs l h = λ w lw. h.is w (omega arith)
-
 -- ---- tests of entries
-
-pub stop_own : (ns : List ℕ) (b r k : ℕ) → get_or ns b 0 ≡ k → b ≡ cond (eqb (get_or ns b 0) k) b r
-stop_own ns b r k e = rw (eq-eqb (get_or ns b 0) k e)
-
-pub stop_other : (ns : List ℕ) (b r k : ℕ) → (get_or ns b 0 ≡ k → ⊥) → r ≡ cond (eqb (get_or ns b 0) k) b r
-stop_other ns b r k ne = rw (ne_eqb (get_or ns b 0) k ne)
 
 module _ (k : ℕ) (gone : Bool) (ns cs : List ℕ) (c : ℕ) (l : c < length cs) where
   pub ruled_above : k < get_or ns c 0 → gone ≡ ruled_out k gone ns cs c
@@ -79,68 +47,48 @@ module _ (k : ℕ) (gone : Bool) (ns cs : List ℕ) (c : ℕ) (l : c < length cs
 -- ---- radios ruled out
 
 -- the radios below i are ruled out or stay
-pub record Ruling (k : ℕ) (gone : Bool) (ns cs old : List ℕ) (i : ℕ) (new : List ℕ) : Type 0 where
-  pub long : length new ≡ length old
-  pub is : (c : ℕ) → c < max_radios → marked new 0 c ≡ (marked old 0 c && not (ltb c i && ruled_out k gone ns cs c))
+abbrev pub Ruling : (k : ℕ) → (gone : Bool) → (ns cs old : List ℕ) → (i : ℕ) → (new : List ℕ) → Type 0
+Ruling k gone ns cs old i new = (c : ℕ) → c < max_radios → in_set new c ≡ (in_set old c && not (ltb c i && ruled_out k gone ns cs c))
 
-module _ (k : ℕ) (gone : Bool) (ns cs old : List ℕ) (room : length old ≡ row_bytes) where
-  pub ruling_none : Ruling k gone ns cs old 0 old
-  ruling_none = record { long = refl; is = λ c l. rw (le-ltb c 0 (omega arith)) (sym (whole (marked old 0 c))) }
-    where
-      whole : (b : Bool) → (b && true) ≡ b
-      whole true = refl
-      whole false = refl
+module _ (k : ℕ) (gone : Bool) (ns cs old : List ℕ) where
+  module _ (i : ℕ) (now : List ℕ) (h : Ruling k gone ns cs old i now) where
+    further : (c : ℕ) → (i ≡ c → ⊥) → ltb c i ≡ ltb c (i + 1)
+    further c ne =
+        iff_eq (ltb c i) (ltb c (i + 1)) (λ q. lt-ltb c (i + 1) (omega (arith, ltb-true c i q)))
+        (λ q. let less = ltb-true c (i + 1) q in lt-ltb c i (omega arith))
 
-  pub ruling_turn : (i : ℕ) (t : Bool) (now next : List ℕ) → i < max_radios → t ≡ ruled_out k gone ns cs i → next ≡ cond t (put_bit false 0 i now) now
-      → Ruling k gone ns cs old i now → Ruling k gone ns cs old (i + 1) next
-  unfolding byte_at
-  ruling_turn i t now next l test e h = record {
-    long = ap length e ∙ long_put t ∙ h.long;
-    is = λ c lc. ap (λ (xs : List ℕ). marked xs 0 c) e ∙ put c lc t ∙ at c lc (bool_cases (eqb i c));
-  }
-    where
-      long_put : (u : Bool) → length (cond u (put_bit false 0 i now) now) ≡ length now
-      long_put true = length_put_bit false 0 i now
-      long_put false = refl
+    pub ruling_in : (next : List ℕ) → i < max_radios → length next ≡ 8 → next ≡ take_out i now → ruled_out k gone ns cs i ≡ true
+        → Ruling k gone ns cs old (i + 1) next
+    ruling_in next l long e on = λ c lc. in_taken i now next l long e c ∙ at c lc (bool_cases (eqb i c))
+      where
+        none : (m : Bool) → false ≡ (m && false)
+        none true = refl
+        none false = refl
 
-      put : (c : ℕ) → c < max_radios → (u : Bool) → marked (cond u (put_bit false 0 i now) now) 0 c ≡ cond (u && eqb i c) false (marked now 0 c)
-      put c lc true = marked_put_bit false 0 i now 0 c l lc (omega (arith, h.long, room))
-      put c lc false = refl
+        at : (c : ℕ) → c < max_radios → (eqb i c ≡ true) ⊎ (eqb i c ≡ false)
+            → cond (eqb i c) false (in_set now c) ≡ (in_set old c && not (ltb c (i + 1) && ruled_out k gone ns cs c))
+        at c lc (inl q) =
+            subst (λ (x : ℕ). cond (eqb i x) false (in_set now x) ≡ (in_set old x && not (ltb x (i + 1) && ruled_out k gone ns cs x))) (eqb-true i c q)
+            (rw (eq-eqb i i refl, lt-ltb i (i + 1) (omega arith), on) (none (in_set old i)))
+        at c lc (inr q) = rw (q, ← further c (eqb-false i c q)) (h c lc)
 
-      fit : (u m : Bool) → cond (u && true) false (m && true) ≡ (m && not u)
-      fit true true = refl
-      fit true false = refl
-      fit false true = refl
-      fit false false = refl
-
-      other : (u m : Bool) → cond (u && false) false m ≡ m
-      other true m = refl
-      other false m = refl
-
-      further : (c : ℕ) → (i ≡ c → ⊥) → ltb c i ≡ ltb c (i + 1)
-      further c ne =
-          iff_eq (ltb c i) (ltb c (i + 1)) (λ q. lt-ltb c (i + 1) (omega (arith, ltb-true c i q)))
-          (λ q. let less = ltb-true c (i + 1) q in lt-ltb c i (omega arith))
-
-      at : (c : ℕ) → c < max_radios → (eqb i c ≡ true) ⊎ (eqb i c ≡ false)
-          → cond (t && eqb i c) false (marked now 0 c) ≡ (marked old 0 c && not (ltb c (i + 1) && ruled_out k gone ns cs c))
-      at c lc (inl q) =
-          subst (λ (x : ℕ). cond (t && eqb i x) false (marked now 0 x) ≡ (marked old 0 x && not (ltb x (i + 1) && ruled_out k gone ns cs x))) (eqb-true i c q)
-          (rw (eq-eqb i i refl, h.is i l, le-ltb i i (omega arith), lt-ltb i (i + 1) (omega arith), ← test) (fit t (marked old 0 i)))
-      at c lc (inr q) = rw (q, ← further c (eqb-false i c q)) (other t (marked now 0 c) ∙ h.is c lc)
-
-  pub ruling_end : (i : ℕ) (new : List ℕ) → i ≡ length ns → Ruling k gone ns cs old i new → RuledOut k gone ns cs old new
-  ruling_end i new e h = record { long = h.long; is = rw (← e) h.is }
+    pub ruling_out : ruled_out k gone ns cs i ≡ false → Ruling k gone ns cs old (i + 1) now
+    ruling_out off = λ c lc. h c lc ∙ at c (bool_cases (eqb i c))
+      where
+        at : (c : ℕ) → (eqb i c ≡ true) ⊎ (eqb i c ≡ false)
+            → (in_set old c && not (ltb c i && ruled_out k gone ns cs c)) ≡ (in_set old c && not (ltb c (i + 1) && ruled_out k gone ns cs c))
+        at c (inl q) =
+            subst (λ (x : ℕ). (in_set old x && not (ltb x i && ruled_out k gone ns cs x)) ≡ (in_set old x && not (ltb x (i + 1) && ruled_out k gone ns cs x)))
+            (eqb-true i c q) (rw (off, le-ltb i i (omega arith), lt-ltb i (i + 1) (omega arith)) refl)
+        at c (inr q) = rw (← further c (eqb-false i c q)) refl
 
 -- ---- one radio held
 
-module _ (b : ℕ) (small : b < max_radios) (held : List ℕ) (put : held ≡ put_bit true 0 b (replicate row_bytes 0)) where
-  pub held_at : (w : ℕ) → w < max_radios → marked held 0 w ≡ eqb b w
-  unfolding byte_at
+module _ (b : ℕ) (small : b < max_radios) (held : List ℕ) (put : held ≡ put_in b (replicate 8 0)) where
+  pub held_at : (w : ℕ) → w < max_radios → in_set held w ≡ eqb b w
   held_at w lw =
-      ap (λ (xs : List ℕ). marked xs 0 w) put
-      ∙ marked_put_bit true 0 b (replicate row_bytes 0) 0 w small lw (omega (arith, length-replicate {A = ℕ} row_bytes 0))
-      ∙ rw (marked_replicate row_bytes 0 w (omega arith)) (same (eqb b w))
+      ap (λ (xs : List ℕ). in_set xs w) put ∙ in_put_in b w (replicate 8 0) (omega (arith, length-replicate {A = ℕ} 8 0))
+      ∙ rw (in_set_zeros 8 w) (same (eqb b w))
     where
       same : (t : Bool) → cond t true false ≡ t
       same true = refl

@@ -7,21 +7,23 @@
 use Rattle.std.specs.Prelude.{◌≡◌, ◌⊎◌, ◌&&◌, ◌||◌, ◌+◌, ◌/◌, ◌≤◌, ◌<◌}
 use Rattle.lists.{specs.Kit.{refl, sym, ap, subst, ◌∙◌, inl, inr, Bool, true, false, not, cond, and-false, List, ℕ}}
 use Rattle.lists.{specs.Kit.{min, arith, le_antisymm, ltb, leb, eqb, length, get_or, replicate, List·getD-eq-default, eqb-true, eqb-false, eq-eqb, ne_eqb}}
-use Rattle.lists.{specs.Kit.{ltb-true, ltb-false, lt-ltb}, specs.Lists.{count, range, head_or}, proofs.Tests.{bool_cases, never, and_left}}
+use Rattle.lists.{specs.Kit.{ltb-true, ltb-false, lt-ltb}, specs.Lists.{count, range}, proofs.Tests.{bool_cases, never, and_left}}
 use Rattle.lists.{proofs.Range.{in_range, range_in}, proofs.Count.{count_less, count_mono}}
 use Rattle.mesh.{specs.Limits.{max_radios, max_neighbours, row_bytes}, specs.Graph.{Graph, link_of, neighbours_in}, specs.Cores.{number}}
-use Rattle.mesh.{specs.Levels.{lower_level}, specs.Tables.{tables, marked, put_bit, byte_at, graph_in}, specs.Valid.{Valid}}
+use Rattle.mesh.{specs.Levels.{lower_level}, specs.Tables.{tables, graph_in}, specs.Valid.{Valid}}
 use Rattle.mesh.{proofs.GraphLaws.{neighbours_in_subset, degree_in}, proofs.Cores.Certificate.{core_enough}, proofs.Cores.Peeling.{number_core}}
-use Rattle.mesh.{proofs.Tables.Laws.{marked_put_bit, length_put_bit}}
 use Rattle.calls.specs.{Questions.{can_switch, has_room}, Lift.{lifts}}
 use Rattle.soundness.proofs.SoundSite.{number_entry}
 use Rattle.lifting.{specs.Peeling.{left, stays, Peeling}, specs.Search.{candidate}, proofs.Peeling.{below_left, stays_above, stays_left, stays_cases}}
 use Rattle.lifting.{proofs.Peeling.{peeling_starts}, proofs.Pairs.{candidate_allowed, radio_refutes, few_refutes, low_refutes, peeling_lifts}}
 use Rattle.lifting.{proofs.Search.{untried_next}}
-use Rattle.rows.specs.Rows.{row_listed}
 use Rattle.lift.specs.{Peels.{graph_of, SoundLinks, gone_of, PeelBegin, PeelEnd}, Counters.{rules_out}, Tries.{SearchSite, Started, ruled_out}}
 use Rattle.lift.specs.{Tries.{RuledOut, Trying, Settling, SettledAt, Settled, Tried}}
-use Rattle.lift.proofs.{PeelSteps.{links_site, links_valid, first_due, none_before, inside_left}, TryLaws.{start_past, start_other, start_own, held_at}}
+use Rattle.lift.proofs.{PeelSteps.{links_site, links_valid, inside_left}, TryLaws.{start_past, start_other, start_own, held_at}}
+use Rattle.rows.specs.Sets.{in_set, take_out, put_in, common}
+use Rattle.rows.specs.Rows.{first_in}
+use Rattle.std.specs.Prelude.{Option, None, Some}
+use Rattle.lift.proofs.SetLaws.{in_taken, lowest_none, lowest_some}
 
 -- the lower number of a candidate is the level
 pub candidate_level : (g : Graph) (k a c : ℕ) → candidate g k a c ≡ true → min (number g a) (number g c) ≡ k
@@ -192,26 +194,25 @@ module _ (links numbers not_lower : List ℕ) (s : SearchSite links numbers not_
       -- what is not ruled out is as untried as before
       module _ (gone : Bool) (is : gone ≡ true → gone_of k a r cs ≡ true) (old new : List ℕ) (try : Trying links r a old)
           (ruled : RuledOut k gone numbers cs old new) where
-        pub still_untried : (c : ℕ) → c < max_radios → marked new 0 c ≡ true → marked old 0 c ≡ true
-        still_untried c lc q = and_left (marked old 0 c) (not (ltb c (length numbers) && ruled_out k gone numbers cs c)) (sym (ruled.is c lc) ∙ q)
+        pub still_untried : (c : ℕ) → c < max_radios → in_set new c ≡ true → in_set old c ≡ true
+        still_untried c lc q = and_left (in_set old c) (not (ltb c (length numbers) && ruled_out k gone numbers cs c)) (sym (ruled c lc) ∙ q)
 
         pub ruled_trying : Trying links r a new
         ruled_trying = record {
-          long = ruled.long ∙ try.long;
           candidates = λ c lc q. try.candidates c lc (still_untried c lc q);
-          rest = untried_next g r a (marked old 0) (marked new 0) try.rest (λ c ac lc q. out c lc q (bool_cases (marked old 0 c)));
+          rest = untried_next g r a (in_set old) (in_set new) try.rest (λ c ac lc q. out c lc q (bool_cases (in_set old c)));
         }
           where
-            out : (c : ℕ) → c < g.n → marked new 0 c ≡ false → (marked old 0 c ≡ true) ⊎ (marked old 0 c ≡ false)
-                → (marked old 0 c ≡ false) ⊎ (lifts g r (link_of a c) ≡ false)
+            out : (c : ℕ) → c < g.n → in_set new c ≡ false → (in_set old c ≡ true) ⊎ (in_set old c ≡ false)
+                → (in_set old c ≡ false) ⊎ (lifts g r (link_of a c) ≡ false)
             out c lc q (inr o) = inl o
             out c lc q (inl o) =
                 let small : c < max_radios = omega (arith, lc, graph_radios, site_small) in
-                inr (ruled_refuted gone is c (omega (arith, lc, graph_radios)) (ruled_passed (marked old 0 c) (ltb c (length numbers))
-                (ruled_out k gone numbers cs c) o (sym (ruled.is c small) ∙ q)))
+                inr (ruled_refuted gone is c (omega (arith, lc, graph_radios)) (ruled_passed (in_set old c) (ltb c (length numbers))
+                (ruled_out k gone numbers cs c) o (sym (ruled c small) ∙ q)))
 
-        pub ruled_fewer : count (marked new 0) (range 0 max_radios) ≤ count (marked old 0) (range 0 max_radios)
-        ruled_fewer = count_mono (marked new 0) (marked old 0) (range 0 max_radios) (λ c i q. still_untried c (omega (arith, range_in 0 max_radios c i)) q)
+        pub ruled_fewer : count (in_set new) (range 0 max_radios) ≤ count (in_set old) (range 0 max_radios)
+        ruled_fewer = count_mono (in_set new) (in_set old) (range 0 max_radios) (λ c i q. still_untried c (omega (arith, range_in 0 max_radios c i)) q)
 
     -- ---- the peel with all untried radios held
 
@@ -224,13 +225,10 @@ module _ (links numbers not_lower : List ℕ) (s : SearchSite links numbers not_
           at (inl q) = q
           at (inr q) = rw q
 
-      pub settled_none : x ≡ false → Trying links r a untried → Settled links k r a untried cs max_radios
-      settled_none e try = record {
-        some = λ l. absurd (omega arith);
-        none = λ l c ac lc. at c ac lc (bool_cases (marked untried 0 c));
-      }
+      pub settled_none : x ≡ false → Trying links r a untried → Settled links k r a untried cs None
+      settled_none e try = λ c ac lc. at c ac lc (bool_cases (in_set untried c))
         where
-          at : (c : ℕ) → a < c → c < g.n → (marked untried 0 c ≡ true) ⊎ (marked untried 0 c ≡ false) → lifts g r (link_of a c) ≡ false
+          at : (c : ℕ) → a < c → c < g.n → (in_set untried c ≡ true) ⊎ (in_set untried c ≡ false) → lifts g r (link_of a c) ≡ false
           at c ac lc (inr q) = try.rest c ac lc q
           at c ac lc (inl q) =
               kept_refutes a cs end.peeling (is_gone e) c (end.kept c (omega (arith, lc, graph_radios, site_small)) q)
@@ -239,7 +237,7 @@ module _ (links numbers not_lower : List ℕ) (s : SearchSite links numbers not_
         next : Trying links r a new
         next = ruled_trying a cs end.peeling false (λ q. never false q refl) untried new try ruled
 
-        stay : (c : ℕ) → c < max_radios → marked new 0 c ≡ true → stays g k cs c ≡ true
+        stay : (c : ℕ) → c < max_radios → in_set new c ≡ true → stays g k cs c ≡ true
         unfolding ruled_out rules_out stays left
         stay c lc q = at (end.kept c lc (still_untried a cs end.peeling false (λ z. never false z refl) untried new try ruled c lc q))
             (bool_cases (ltb k (get_or numbers c 0) || left cs c))
@@ -253,23 +251,26 @@ module _ (links numbers not_lower : List ℕ) (s : SearchSite links numbers not_
             at (inr h) (inl z) = subst (λ (y : ℕ). (ltb k y || left cs c) ≡ true) (number_is c radio) z
             at (inr (l, m)) (inr z) =
                 let out : ruled_out k false numbers cs c ≡ true = rw z (lt-ltb (get_or cs c 255) (128 + k) m) in
-                never (marked new 0 c) q (ruled.is c lc ∙ rw (lt-ltb c (length numbers) radio, out) (and-false (marked untried 0 c)))
+                never (in_set new c) q (ruled c lc ∙ rw (lt-ltb c (length numbers) radio, out) (and-false (in_set untried c)))
 
-        pub settled_some : (b : ℕ) → b ≡ head_or max_radios (row_listed new 0) → Settled links k r a new cs b
-        settled_some b f = record {
-          some = λ l. record { trying = next; base = end.base e; stay = stay; first = f };
-          none = λ l c ac lc. next.rest c ac lc (none_before new next.long b f c (omega (arith, l, lc, graph_radios, site_small)) (omega
-              (arith, lc, graph_radios, site_small)));
-        }
+        pub settled_first : (b : Option ℕ) → b ≡ first_in (common new new) → Settled links k r a new cs b
+        settled_first None f =
+            λ c ac lc. next.rest c ac lc (lowest_none new f c (omega (arith, lc, graph_radios, site_small)))
+        settled_first (Some b) f =
+            let low = lowest_some new f in
+            record { trying = next; base = end.base e; stay = stay; small = low.0; there = low.1; lowest = low.2 }
 
     -- ---- the pair lifts the radio, or it does not
 
-    module _ (a b : ℕ) (old base : List ℕ) (small : b < max_radios) (set : SettledAt links k r a old base b) where
+    module _ (a b : ℕ) (old base : List ℕ) (set : SettledAt links k r a old base b) where
+      small : b < max_radios
+      small = set.small
+
       try : Trying links r a old
       try = set.trying
 
-      on : marked old 0 b ≡ true
-      on = first_due old try.long b set.first small
+      on : in_set old b ≡ true
+      on = set.there
 
       own : (a < b) × (b < g.n) × (candidate g (number g r) a b ≡ true)
       own = try.candidates b small on
@@ -280,7 +281,7 @@ module _ (links numbers not_lower : List ℕ) (s : SearchSite links numbers not_
       pub settled_small : a < max_radios
       settled_small = omega (arith, own.0)
 
-      module _ (held : List ℕ) (put : held ≡ put_bit true 0 b (replicate row_bytes 0)) (stop : ℕ) (is_stop : stop ≡ cond (eqb (get_or numbers b 0) k) b r) where
+      module _ (held : List ℕ) (put : held ≡ put_in b (replicate 8 0)) (stop : ℕ) (is_stop : stop ≡ cond (eqb (get_or numbers b 0) k) b r) where
         -- counters are a copy of the base
         pub pair_begin : (cs : List ℕ) → cs ≡ base → PeelBegin links held k a r stop cs
         pair_begin cs e = rw e (record {
@@ -298,10 +299,10 @@ module _ (links numbers not_lower : List ℕ) (s : SearchSite links numbers not_
             at (inr q) = rw q set.base.there
 
         module _ (cs : List ℕ) (x : Bool) (end : PeelEnd links held k a r stop cs x) where
-          held_b : marked held 0 b ≡ true
+          held_b : in_set held b ≡ true
           held_b = held_at b small held put b small ∙ eq-eqb b b refl
 
-          not_held : (w : ℕ) → left cs w ≡ true → (w ≡ b → ⊥) → marked held 0 w ≡ false
+          not_held : (w : ℕ) → left cs w ≡ true → (w ≡ b → ⊥) → in_set held w ≡ false
           not_held w l ne = held_at b small held put w (inside_left cs w end.long l) ∙ ne_eqb b w (λ e. ne (sym e))
 
           b_other : b ≡ a → ⊥
@@ -347,28 +348,27 @@ module _ (links numbers not_lower : List ℕ) (s : SearchSite links numbers not_
                       radio_refutes g s.order valid k r a b lr_graph level_is cs end.peeling gone h
 
           module _ (failed : x ≡ false) (t : Bool) (test : t ≡ gone_of k a r cs) (mid new : List ℕ) (ruled : RuledOut k t numbers cs old mid)
-              (out : new ≡ put_bit false 0 b mid) where
+              (long : length new ≡ 8) (out : new ≡ take_out b mid) where
             middle : Trying links r a mid
             middle = ruled_trying a cs end.peeling t (λ q. sym test ∙ q) old mid try ruled
 
-            new_at : (c : ℕ) → c < max_radios → marked new 0 c ≡ cond (eqb b c) false (marked mid 0 c)
-            unfolding byte_at
-            new_at c lc = ap (λ (xs : List ℕ). marked xs 0 c) out ∙ marked_put_bit false 0 b mid 0 c small lc (omega (arith, middle.long))
+            new_at : (c : ℕ) → c < max_radios → in_set new c ≡ cond (eqb b c) false (in_set mid c)
+            new_at c lc = in_taken b mid new small long out c
 
-            still_mid : (c : ℕ) → c < max_radios → marked new 0 c ≡ true → marked mid 0 c ≡ true
+            still_mid : (c : ℕ) → c < max_radios → in_set new c ≡ true → in_set mid c ≡ true
             still_mid c lc q = go (bool_cases (eqb b c))
               where
-                go : (eqb b c ≡ true) ⊎ (eqb b c ≡ false) → marked mid 0 c ≡ true
+                go : (eqb b c ≡ true) ⊎ (eqb b c ≡ false) → in_set mid c ≡ true
                 go (inl e) = never true refl (sym q ∙ new_at c lc ∙ rw e)
                 go (inr e) = sym (new_at c lc ∙ rw e) ∙ q
 
-            still_old : (c : ℕ) → c < max_radios → marked new 0 c ≡ true → marked old 0 c ≡ true
+            still_old : (c : ℕ) → c < max_radios → in_set new c ≡ true → in_set old c ≡ true
             still_old c lc q = still_untried a cs end.peeling t (λ z. sym test ∙ z) old mid try ruled c lc (still_mid c lc q)
 
-            gone_refuted : (c : ℕ) → c < g.n → marked new 0 c ≡ false → (marked mid 0 c ≡ false) ⊎ (lifts g r (link_of a c) ≡ false)
+            gone_refuted : (c : ℕ) → c < g.n → in_set new c ≡ false → (in_set mid c ≡ false) ⊎ (lifts g r (link_of a c) ≡ false)
             gone_refuted c lc q = go (bool_cases (eqb b c))
               where
-                go : (eqb b c ≡ true) ⊎ (eqb b c ≡ false) → (marked mid 0 c ≡ false) ⊎ (lifts g r (link_of a c) ≡ false)
+                go : (eqb b c ≡ true) ⊎ (eqb b c ≡ false) → (in_set mid c ≡ false) ⊎ (lifts g r (link_of a c) ≡ false)
                 go (inl e) = inr (subst (λ (y : ℕ). lifts g r (link_of a y) ≡ false) (eqb-true b c e) (own_refuted failed))
                 go (inr e) = inl (sym (new_at c (omega (arith, lc, graph_radios, site_small)) ∙ rw e) ∙ q)
 
@@ -376,12 +376,11 @@ module _ (links numbers not_lower : List ℕ) (s : SearchSite links numbers not_
             tried_not = record {
               does = λ e. never false e refl;
               next = λ e. record {
-                long = ap length out ∙ length_put_bit false 0 b mid ∙ middle.long;
                 candidates = λ c lc q. middle.candidates c lc (still_mid c lc q);
-                rest = untried_next g r a (marked mid 0) (marked new 0) middle.rest (λ c ac lc q. gone_refuted c lc q);
+                rest = untried_next g r a (in_set mid) (in_set new) middle.rest (λ c ac lc q. gone_refuted c lc q);
               };
               still = λ e. still_old;
               fewer = λ e.
-                  count_less (marked new 0) (marked old 0) b (range 0 max_radios) (in_range 0 max_radios b (omega arith) (omega arith))
+                  count_less (in_set new) (in_set old) b (range 0 max_radios) (in_range 0 max_radios b (omega arith) (omega arith))
                   (new_at b small ∙ rw (eq-eqb b b refl)) on (λ c i q. still_old c (omega (arith, range_in 0 max_radios c i)) q);
             }

@@ -1,4 +1,4 @@
--- A pair tried: what its functions do to the counters and to the row of untried radios.
+-- A pair tried: what its functions do to the counters and to the set of untried radios.
 --   SearchSite        sound tables and the not-lower counts that the check found
 --   counter_start      the counter of v before the peel
 --   Started            the counters before the peel
@@ -11,20 +11,19 @@
 --   Settled            what the peel with all untried radios held comes back with
 --   Tried              what trying a pair comes back with
 -- Definitions only.
-use Rattle.std.specs.Prelude.{◌≡◌, ◌&&◌, ◌/◌, ◌≤◌, ◌<◌}
-use Rattle.lists.specs.{Kit.{Bool, true, false, not, cond, List, ℕ, ltb, leb, eqb, length, get_or}, Lists.{count, range, head_or}}
-use Rattle.mesh.specs.{Limits.{max_radios, row_bytes}, Graph.{link_of, neighbours_in}, Cores.{number}, Tables.{tables, marked}}
+use Rattle.std.specs.Prelude.{Option, None, Some, ◌≡◌, ◌&&◌, ◌/◌, ◌<◌}
+use Rattle.lists.specs.{Kit.{Bool, true, false, not, cond, List, ℕ, ltb, leb, eqb, length, get_or}, Lists.{count, range}}
+use Rattle.mesh.specs.{Limits.{max_radios, row_bytes}, Graph.{link_of, neighbours_in}, Cores.{number}, Tables.{tables}}
 use Rattle.calls.specs.Lift.{lifts}
 use Rattle.soundness.specs.Checks.{fits_sound}
 use Rattle.lifting.specs.{Peeling.{stays}, Search.{candidate, Untried}}
-use Rattle.rows.specs.Rows.{row_listed}
+use Rattle.rows.specs.Sets.{in_set}
 use Rattle.lift.specs.{Counters.{rules_out}, Peels.{graph_of, Kept, Base}}
 
 -- the order is the one of the tables
 pub record SearchSite (links numbers not_lower : List ℕ) : Type 0 where
   pub order : List ℕ
   pub is_sound : fits_sound (length links / row_bytes) (tables links numbers order) ≡ true
-  pub not_lower_long : length numbers ≤ length not_lower
   pub counted : (v : ℕ) → v < length numbers → get_or not_lower v 0 ≡ neighbours_in (graph_of links) v (λ w. leb (get_or numbers v 0) (get_or numbers w 0))
 
 -- not_lower are counts that the check found
@@ -43,16 +42,14 @@ unfoldable pub ruled_out : (k : ℕ) → (gone : Bool) → (numbers counters : L
 ruled_out k gone ns cs c = rules_out k gone (get_or ns c 0) (get_or cs c 255)
 
 -- old before, new after
-pub record RuledOut (k : ℕ) (gone : Bool) (numbers counters old new : List ℕ) : Type 0 where
-  pub long : length new ≡ length old
-  pub is : (c : ℕ) → c < max_radios → marked new 0 c ≡ (marked old 0 c && not (ltb c (length numbers) && ruled_out k gone numbers counters c))
+abbrev pub RuledOut : (k : ℕ) → (gone : Bool) → (numbers counters old new : List ℕ) → Type 0
+RuledOut k gone ns cs old new = (c : ℕ) → c < max_radios → in_set new c ≡ (in_set old c && not (ltb c (length ns) && ruled_out k gone ns cs c))
 
 pub record Trying (links : List ℕ) (r a : ℕ) (untried : List ℕ) : Type 0 where
-  pub long : length untried ≡ row_bytes
   pub candidates :
-      (c : ℕ) → c < max_radios → marked untried 0 c ≡ true →
+      (c : ℕ) → c < max_radios → in_set untried c ≡ true →
       (a < c) × (c < (graph_of links).n) × (candidate (graph_of links) (number (graph_of links) r) a c ≡ true)
-  pub rest : Untried (graph_of links) r a (marked untried 0)
+  pub rest : Untried (graph_of links) r a (in_set untried)
 
 pub record Settling (links : List ℕ) (k a r : ℕ) (untried cs : List ℕ) : Type 0 where
   pub base : Base links k a r cs
@@ -61,17 +58,19 @@ pub record Settling (links : List ℕ) (k a r : ℕ) (untried cs : List ℕ) : T
 pub record SettledAt (links : List ℕ) (k r a : ℕ) (untried cs : List ℕ) (b : ℕ) : Type 0 where
   pub trying : Trying links r a untried
   pub base : Base links k a r cs
-  pub stay : (c : ℕ) → c < max_radios → marked untried 0 c ≡ true → stays (graph_of links) k cs c ≡ true
-  pub first : b ≡ head_or max_radios (row_listed untried 0)
+  pub stay : (c : ℕ) → c < max_radios → in_set untried c ≡ true → stays (graph_of links) k cs c ≡ true
+  pub small : b < max_radios
+  pub there : in_set untried b ≡ true
+  pub lowest : (c : ℕ) → c < b → in_set untried c ≡ false
 
--- b is 512 where no pair of a lifts r
-pub record Settled (links : List ℕ) (k r a : ℕ) (untried cs : List ℕ) (b : ℕ) : Type 0 where
-  pub some : b < max_radios → SettledAt links k r a untried cs b
-  pub none : max_radios ≤ b → (c : ℕ) → a < c → c < (graph_of links).n → lifts (graph_of links) r (link_of a c) ≡ false
+-- none where no pair of a lifts r
+abbrev pub Settled : (links : List ℕ) → (k r a : ℕ) → (untried cs : List ℕ) → Option ℕ → Type 0
+Settled links k r a untried cs None = (c : ℕ) → a < c → c < (graph_of links).n → lifts (graph_of links) r (link_of a c) ≡ false
+Settled links k r a untried cs (Some b) = SettledAt links k r a untried cs b
 
 -- old before, new after
 pub record Tried (links : List ℕ) (r a b : ℕ) (old new : List ℕ) (found : Bool) : Type 0 where
   pub does : found ≡ true → lifts (graph_of links) r (link_of a b) ≡ true
   pub next : found ≡ false → Trying links r a new
-  pub still : found ≡ false → (c : ℕ) → c < max_radios → marked new 0 c ≡ true → marked old 0 c ≡ true
-  pub fewer : found ≡ false → count (marked new 0) (range 0 max_radios) < count (marked old 0) (range 0 max_radios)
+  pub still : found ≡ false → (c : ℕ) → c < max_radios → in_set new c ≡ true → in_set old c ≡ true
+  pub fewer : found ≡ false → count (in_set new) (range 0 max_radios) < count (in_set old) (range 0 max_radios)

@@ -11,7 +11,8 @@ use Rattle.mesh.{specs.Limits.{max_radios, max_neighbours}, specs.Graph.{Graph, 
 use Rattle.mesh.{specs.Cores.{Group, number, numbers}, specs.Levels.{changed, step_of}, specs.Tables.{Tables, graph_in}, proofs.Cores.Peeling.{number_core}}
 use Rattle.mesh.{proofs.Cores.Peeling.{length_numbers, get_d_numbers}, proofs.Links.Call.{unchanged_number}, proofs.Links.Laws.{link_by_one, link_valid}}
 use Rattle.mesh.{specs.Valid.{Valid, smaller, larger}}
-use Rattle.calls.specs.{Switches.{switch, switched}, Outcomes.{reply, linked_with}, declared.Reply.{Reply}}
+use Rattle.std.specs.Prelude.{Ok}
+use Rattle.calls.specs.{Answers.{link_reply}, Switches.{switch, switched}, Outcomes.{reply, linked_with}, declared.Change.{Change}}
 use Rattle.tables.{specs.Steps.{stepped, all_stepped}, proofs.StepLaws.{length_all_stepped, get_d_all_stepped_other, get_d_all_stepped_listed}}
 use Rattle.plan.specs.{Plans.{Planned, Applicable, plan_of}, Planned.{changed_part}}
 use Rattle.links.specs.Changes.{in_order, counted_step, PlanFits, Applied}
@@ -124,9 +125,9 @@ module _ (up : Bool) (n a b : ℕ) (t : Tables) (answer : List ℕ) (ok : Applic
   unfolding graph_in
   fits_answer = take_all (length answer) cs (omega (arith, ok.room, length_changed up a b g))
 
-  -- what is applied of the plan, r the reply, v the tables after, x the answer table after
-  pub applied_accepted : (r : Reply) (v : Tables) (x : List ℕ) → Applied up a b start size taken stretch t answer r v x
-      → linked_with r v x ≡ linked_with (reply 0 (step_of up cs) (length cs)) (switched n (switch up a b) t) (overwrite cs answer)
+  -- what is applied of the plan, r what it changed, v the tables after, x the answer table after
+  pub applied_accepted : (r : Change) (v : Tables) (x : List ℕ) → Applied up a b start size taken stretch t answer r v x
+      → linked_with (link_reply (Ok r)) v x ≡ linked_with (reply 0 (step_of up cs) (length cs)) (switched n (switch up a b) t) (overwrite cs answer)
   unfolding switched
   applied_accepted r v x d =
       let many : r.count ≡ length cs = d.count ∙ ap length in_order_planned in
@@ -136,4 +137,4 @@ module _ (up : Bool) (n a b : ℕ) (t : Tables) (answer : List ℕ) (ok : Applic
       let front : take r.count x ≡ cs = ap₂ take many listed ∙ take_overwrite cs answer in
       let numbered : v.numbers ≡ numbers (relinked up a b g) =
       d.numbers ∙ rw (front, way, ok.numbered) (numbers_stepped up a b g t.order ok.valid ok.allowed) in
-      rw (d.number, way, many, d.links, numbered, d.order ∙ plan.laid, listed)
+      rw (way, many, d.links, numbered, d.order ∙ plan.laid, listed)

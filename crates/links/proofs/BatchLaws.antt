@@ -1,9 +1,8 @@
 -- A batch meets its contract, on plain values: its questions, its loop, the call.
-use Rattle.std.specs.Prelude.{◌≡◌, ◌∷◌, ◌+◌, ◌*◌, ◌%◌, ◌≤◌, ◌<◌}
+use Rattle.std.specs.Prelude.{◌≡◌, ◌∷◌, ◌+◌, ◌*◌, ◌/◌, ◌%◌, ◌^◌, ◌≤◌, ◌<◌}
 use Rattle.lists.specs.Kit.{refl, sym, ap, subst, ◌∙◌, true, List, ℕ, suc, arith, length, get_or, drop, drop_of_length-le}
 use Rattle.lists.specs.Kit.{drop-cons, eqb-true}
-use mir.{Syntax.{w32, w64}, Val.{Fits}}
-use Rattle.mesh.specs.{Limits.{max_radios}, Tables.{Tables}, Sound.{sound}}
+use Rattle.mesh.specs.{Tables.{Tables}, Sound.{sound}}
 use Rattle.calls.{specs.Questions.{lengths_of}, specs.Batches.{list_length, batch_refusal}, specs.Outcomes.{tabled, value, links_taken}}
 use Rattle.calls.{specs.Outcomes.{batch_outcome}, specs.CallContracts.{BatchContract}, specs.declared.Value.{Value}, proofs.ChainLaws.{site_zero}}
 use Rattle.calls.{proofs.ContractLaws.{by_accepted, by_refused}, proofs.Batches.{BatchLeft, batch_first, batch_next, batch_ended, batch_halted, batch_few}}
@@ -11,56 +10,35 @@ use Rattle.soundness.specs.Checks.{Asked}
 use Rattle.links.specs.Steps.{Prepared, Stepped}
 use Rattle.links.proofs.StepLaws.{fits_good, prepared_asked}
 
--- ---- tables that are prepared keep their lengths
-
--- p and q are the lengths of the places before and after
-pub record SameLengths (t : Tables) (p : ℕ) (hs : List ℕ) (u : Tables) (q : ℕ) (is : List ℕ) : Type 0 where
-  pub links : length u.links ≡ length t.links
-  pub numbers : length u.numbers ≡ length t.numbers
-  pub order : length u.order ≡ length t.order
-  pub places : q ≡ p
-  pub not_lower : length is ≡ length hs
-
-pub same_lengths : {n : ℕ} {t : Tables} {ps hs : List ℕ} {u : Tables} {qs is : List ℕ} → Prepared n t ps hs → Prepared n u qs is → SameLengths t (length ps) hs
-    u (length qs) is
-unfolding lengths_of
-same_lengths {n} {t} {ps} {hs} {u} {qs} {is} k j =
-    let s = (fits_good n t k.good).lent.lengths in
-    let o = (fits_good n u j.good).lent.lengths in
-    record {
-      links = o.links ∙ sym s.links;
-      numbers = o.numbers ∙ sym s.numbers;
-      order = o.order ∙ sym s.order;
-      places = j.places_length ∙ sym k.places_length;
-      not_lower = j.not_lower_length ∙ sym k.not_lower_length;
-    }
-
 -- ---- the loop
 
--- `done` links of the list xs are up, which brought the tables t to u, and the next one stands at place `at`
-pub record Batching (n : ℕ) (xs : List ℕ) (t u : Tables) (places not_lower : List ℕ) (done at : ℕ) : Type 0 where
+-- `done` links of the list xs are up, which brought the tables t to u
+pub record Batching (n : ℕ) (xs : List ℕ) (t u : Tables) (places not_lower : List ℕ) (done : ℕ) : Type 0 where
   pub prepared : Prepared n u places not_lower
-  pub left : BatchLeft n xs t done (drop at xs) u
-  pub place : at ≡ 2 * done
-  pub inside : at ≤ length xs
+  pub left : BatchLeft n xs t done (drop (2 * done) xs) u
 
-pub batching_none : (n : ℕ) (xs : List ℕ) {t : Tables} {places not_lower : List ℕ} → Prepared n t places not_lower → Batching n xs t t places not_lower 0 0
-batching_none n xs {t} k = record { prepared = k; left = batch_first n xs t; place = refl; inside = omega arith }
+pub batching_none : (n : ℕ) (xs : List ℕ) {t : Tables} {places not_lower : List ℕ} → Prepared n t places not_lower → Batching n xs t t places not_lower 0
+batching_none n xs {t} k = record { prepared = k; left = batch_first n xs t }
 
-module _ {n : ℕ} {xs : List ℕ} {t u : Tables} {places not_lower : List ℕ} {done at : ℕ} (b : Batching n xs t u places not_lower done at) where
-  pub batching_fits : Fits w32 (done + 1)
-  batching_fits = record { fits = omega (arith, batch_few (drop at xs) b.left (fits_good n u b.prepared.good)) }
+module _ {n : ℕ} {xs : List ℕ} {t u : Tables} {places not_lower : List ℕ} {done : ℕ} (b : Batching n xs t u places not_lower done) where
+  abbrev at : ℕ
+  at = 2 * done
 
-  pub batching_place : Fits w64 (at + 2)
-  batching_place = record { fits = omega (arith, b.place, batch_few (drop at xs) b.left (fits_good n u b.prepared.good)) }
+  pub batching_few : done + 1 < 2 ^ 32
+  batching_few = omega (arith, batch_few (drop at xs) b.left (fits_good n u b.prepared.good))
 
-  pub batching_end : length xs ≤ at → tabled (value 0 done) u ≡ links_taken n xs t
-  batching_end l = batch_ended (subst (λ (ys : List ℕ). BatchLeft n xs t done ys u) (drop_of_length-le xs l) b.left)
+  pub batching_end : list_length (length xs) ≡ true → done ≡ length xs / 2 → tabled (value 0 (length xs / 2)) u ≡ links_taken n xs t
+  unfolding list_length
+  batching_end even e =
+      let all : length xs ≤ at = omega (arith, e, eqb-true (length xs % 2) 0 even) in
+      rw (← e) (batch_ended (subst (λ (ys : List ℕ). BatchLeft n xs t done ys u) (drop_of_length-le xs all) b.left))
 
-  module _ (even : list_length (length xs) ≡ true) (l : at < length xs) where
+  module _ (h : done < length xs / 2) where
+    l : at < length xs
+    l = omega arith
+
     pub batching_pair : at + 1 < length xs
-    unfolding list_length
-    batching_pair = omega (arith, eqb-true (length xs % 2) 0 even, b.place)
+    batching_pair = omega arith
 
     rest : drop at xs ≡ get_or xs at 0 ∷ get_or xs (at + 1) 0 ∷ drop (at + 2) xs
     rest =
@@ -72,14 +50,14 @@ module _ {n : ℕ} {xs : List ℕ} {t u : Tables} {places not_lower : List ℕ} 
     next = subst (λ (ys : List ℕ). BatchLeft n xs t done ys u) rest b.left
 
     module _ (r : ℕ) (v : Tables) (qs is : List ℕ) (d : Stepped true n (get_or xs at 0) (get_or xs (at + 1) 0) u r v qs is) where
-      pub batching_turn : r ≡ 0 → Batching n xs t v qs is (done + 1) (at + 2)
+      pub batching_turn : r ≡ 0 → Batching n xs t v qs is (done + 1)
       batching_turn z = record {
         prepared = d.prepared;
         left =
-            subst (λ (o : Tables). BatchLeft n xs t (done + 1) (drop (at + 2) xs) o) (sym (d.done z))
-            (batch_next (get_or xs at 0) (get_or xs (at + 1) 0) (drop (at + 2) xs) next (fits_good n u b.prepared.good) (sym d.number ∙ z));
-        place = omega (arith, b.place);
-        inside = omega (arith, batching_pair);
+            let q : at + 2 ≡ 2 * (done + 1) = omega arith in
+            subst (λ (j : ℕ). BatchLeft n xs t (done + 1) (drop j xs) v) q
+            (subst (λ (o : Tables). BatchLeft n xs t (done + 1) (drop (at + 2) xs) o) (sym (d.done z))
+            (batch_next (get_or xs at 0) (get_or xs (at + 1) 0) (drop (at + 2) xs) next (fits_good n u b.prepared.good) (sym d.number ∙ z)));
       }
 
       pub batching_halt : (r ≡ 0 → ⊥) → tabled (value r done) v ≡ links_taken n xs t
@@ -102,9 +80,9 @@ module _ (n : ℕ) (xs : List ℕ) (t : Tables) (ps hs : List ℕ) (q : ℕ) (as
   batch_refused h0 = by_refused R _ _ (λ z. h0 (number_is ∙ z)) (rw number_is)
 
   module _ (zero : q ≡ 0) where
-    pub batch_ready : length ps ≡ max_radios → length hs ≡ max_radios → Prepared n t ps hs × (list_length (length xs) ≡ true)
-    batch_ready lp lh = (
-      prepared_asked n t (list_length (length xs)) ps hs q asked zero lp lh,
+    pub batch_ready : Prepared n t ps hs × (list_length (length xs) ≡ true)
+    batch_ready = (
+      prepared_asked n t (list_length (length xs)) ps hs q asked zero,
       (site_zero n (lengths_of t) (list_length (length xs)) (sound n t) 0 (sym asked.number ∙ zero)).0.lent.further,
     )
 

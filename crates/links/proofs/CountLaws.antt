@@ -1,28 +1,20 @@
 -- The not-lower counts after a link: the loops that count radios anew, and which radios keep theirs.
--- In order: a counted list, a listed row, radios put into a set, the touched radios, counts anew, of a word, of a set.
+-- In order: a listed row, radios put into a set, the touched radios, counts anew, of a word, of a set.
 use Rattle.std.specs.Prelude.{◌≡◌, ◌⊎◌, ◌||◌, ◌∷◌, ◌++◌, ◌+◌, ◌*◌, ◌-◌, ◌/◌, ◌%◌, ◌^◌, ◌≤◌, ◌<◌}
 use Rattle.lists.{specs.Kit.{refl, sym, ap, subst, ◌∙◌, inl, inr, Bool, true, false, cond, or-false, List, [], ℕ, suc}}
 use Rattle.lists.{specs.Kit.{min, arith, add-one, bit_and, and_le_l, count_trailing_zeros, leb, eqb, length, get_or, set, take, drop}}
-use Rattle.lists.{specs.Kit.{replicate, length-set, drop_of_length-le, length-take-le, get_or-take, get_or-set_same, get_or-set_other, drop-cons, eqb-true}}
-use Rattle.lists.{specs.Kit.{eqb-false, eq-eqb}, specs.Facts.{folded}, specs.Lists.{range, count, filter, member, overwrite, In}, proofs.Tests.{bool_cases}}
+use Rattle.lists.{specs.Kit.{replicate, length-set, drop_of_length-le, get_or-set_same, get_or-set_other, drop-cons, eqb-true}}
+use Rattle.lists.{specs.Kit.{eqb-false, eq-eqb}, specs.Facts.{folded}, specs.Lists.{range, count, filter, member, overwrite, In, EntriesBelow}}
+use Rattle.lists.{proofs.Tests.{bool_cases}}
 use Rattle.lists.{proofs.Tests.{or_cases, or_left, or_right}, proofs.Member.{in_get_d, get_d_of_in, member_in, in_member, member_append, in_left, in_right}}
-use Rattle.lists.{proofs.Member.{in_cases}, proofs.Filter.{in_filter, member_filter, filter_ext}, proofs.Range.{in_range}, proofs.Loops.{CountedFrom}}
-use Rattle.lists.{proofs.Loops.{counted_turn, folded_append, length_folded}}
-use mir.Val.{bool_byte}
+use Rattle.lists.{proofs.Member.{in_cases}, proofs.Filter.{in_filter, member_filter, filter_ext}, proofs.Range.{in_range}}
+use Rattle.lists.{proofs.Loops.{folded_append, length_folded}}
 use Rattle.mesh.specs.{Limits.{max_radios, max_neighbours, row_bytes}, Tables.{digit}}
 use Rattle.rows.{specs.Rows.{neighbours_of, row_listed, row_count, set_bits}, proofs.RowListLaws.{row_listed_fits}, proofs.RowWords.{row_listed_whole}}
-use Rattle.rows.{proofs.RowWords.{words_from, words_end}, proofs.WordLaws.{set_bits_nothing, set_bits_lowest}, specs.Sets.{in_set, put_in, RowJoined}}
+use Rattle.rows.{proofs.RowWords.{words_from, words_end}, proofs.WordLaws.{set_bits_nothing, set_bits_lowest}, specs.Sets.{in_set, put_in, members, RowJoined}}
 use Rattle.rows.{proofs.SetLaws.{in_set_zeros, in_put_in, length_put_in}}
 use Rattle.conditions.specs.Conditions.{high_count}
-use Rattle.links.specs.Steps.{around, all_around, Joined, set_radios, touched, recounted, RowsKnown}
-
--- ---- a counted list
-
--- the list is the front of a longer one
-pub counted_front : (f : ℕ → Bool) (list : List ℕ) (k n i : ℕ) → k ≤ length list → i < k → CountedFrom f (take k list) n i
-    → CountedFrom f (take k list) (n + bool_byte (f (get_or list i 0))) (i + 1)
-counted_front f list k n i room l h =
-    rw (← get_or-take k list i 0 l) (counted_turn f (take k list) n i (omega (arith, length-take-le k list room)) h)
+use Rattle.links.specs.Steps.{around, all_around, Joined, touched, recounted, RowsKnown}
 
 -- ---- a listed row
 
@@ -41,20 +33,23 @@ module _ (n : ℕ) (ts : List ℕ) (v r : ℕ) (old new : List ℕ) (whole : row
   pub near_many : r ≤ max_neighbours
   near_many = omega (arith, all.0, ap length (row_listed_whole ts v whole), few)
 
-  pub near_radios : length new ≡ length old → ((w : ℕ) → In w (neighbours_of ts v) → w < n) → (i : ℕ) → i < r → get_or new i 0 < n
-  near_radios long h i l =
-      h (get_or new i 0)
-      (subst (In (get_or new i 0)) near_listed
-      (rw (← get_or-take r new i 0 l) (in_get_d (take r new) i (omega (arith, near_many, length-take-le r new (omega (arith, near_many, long, room)))))))
+  pub near_radios : ((w : ℕ) → In w (neighbours_of ts v) → w < n) → EntriesBelow n (take r new)
+  near_radios h i l = h (get_or (take r new) i 0) (subst (In (get_or (take r new) i 0)) near_listed (in_get_d (take r new) i l))
 
 -- as the code names its values: a row of known rows
 pub near_asked : (n : ℕ) (ts : List ℕ) {ns : List ℕ} (v r : ℕ) (old new : List ℕ) → RowsKnown n ts ns → v < n → length old ≡ max_neighbours
     → r ≡ min (length old) (row_count max_neighbours ts v) → new ≡ overwrite (take (min (length old) (suc max_neighbours)) (row_listed ts v)) old
-    → length new ≡ length old → (r ≤ length new) × (r ≤ max_neighbours) × ((i : ℕ) → i < r → get_or new i 0 < n)
-near_asked n ts v r old new k l room e f long =
-    let whole : row_bytes * v + row_bytes ≤ length ts = omega (arith, k.links_length) in
-    let many = near_many n ts v r old new whole (k.few v l) room e f in
-    (omega (arith, many, long, room), many, near_radios n ts v r old new whole (k.few v l) room e f long (λ w i. k.radios v w l i))
+    → (length (take r new) ≤ max_neighbours) × EntriesBelow n (take r new)
+near_asked n ts v r old new k l room e f =
+    let whole : row_bytes * v + row_bytes ≤ length ts = omega (arith, k.links_length) in (
+      omega (arith, ap length (near_listed n ts v r old new whole (k.few v l) room e f), k.few v l),
+      near_radios n ts v r old new whole (k.few v l) room e f (λ w i. k.radios v w l i),
+    )
+
+pub near_fits : (n : ℕ) (ts : List ℕ) {ns : List ℕ} (v r : ℕ) (old new : List ℕ) → RowsKnown n ts ns → v < n → length old ≡ max_neighbours
+    → r ≡ min (length old) (row_count max_neighbours ts v) → new ≡ overwrite (take (min (length old) (suc max_neighbours)) (row_listed ts v)) old
+    → r ≤ max_neighbours
+near_fits n ts v r old new k l room e f = near_many n ts v r old new (omega (arith, k.links_length)) (k.few v l) room e f
 
 pub high_listed : (n : ℕ) (ts ns : List ℕ) (v r : ℕ) (old new : List ℕ) → RowsKnown n ts ns → v < n → length old ≡ max_neighbours
     → r ≡ min (length old) (row_count max_neighbours ts v) → new ≡ overwrite (take (min (length old) (suc max_neighbours)) (row_listed ts v)) old
@@ -66,19 +61,16 @@ high_listed n ts ns v r old new k l room e f q h =
 -- ---- radios put into a set
 
 -- a radio and its row
-pub joined_around : (ts : List ℕ) (v : ℕ) (s0 s1 s2 : List ℕ) → row_bytes * v + row_bytes ≤ length ts → v < max_radios → length s0 ≡ 8 → s1 ≡ put_in v s0
-    → RowJoined ts v s1 s2 → length s2 ≡ length s1 → Joined (around ts v) s0 s2
+pub joined_around : (ts : List ℕ) (v : ℕ) (s0 s1 s2 : List ℕ) → row_bytes * v + row_bytes ≤ length ts → v < max_radios → s1 ≡ put_in v s0
+    → length s1 ≡ 8 → RowJoined ts v s1 s2 → Joined (around ts v) s0 s2
 unfolding member
-joined_around ts v s0 s1 s2 whole l long e j same = record {
-  long = same ∙ long1;
+joined_around ts v s0 s1 s2 whole l e long j = record {
   has = λ w.
       j.bits w
-      ∙ rw (row_listed_whole ts v whole, e, in_put_in v w s0 (omega (arith, long))) (go (eqb v w) (in_set s0 w) (member w (neighbours_of ts v)));
+      ∙ rw (row_listed_whole ts v whole, e, in_put_in v w s0 (omega (arith, long, ap length e, length_put_in v s0)))
+      (go (eqb v w) (in_set s0 w) (member w (neighbours_of ts v)));
 }
   where
-    long1 : length s1 ≡ 8
-    long1 = ap length e ∙ length_put_in v s0 ∙ long
-
     go : (t x y : Bool) → (cond t true x || y) ≡ (x || (t || y))
     go true true y = refl
     go true false y = refl
@@ -93,22 +85,20 @@ or_assoc false y z = refl
 module _ (ts xs old : List ℕ) where
   abbrev pub Joining : (i : ℕ) → (now : List ℕ) → Type 0
   Joining i now =
-      (i ≤ length xs) × (length now ≡ 8)
-      × ((w : ℕ) → (in_set now w || member w (all_around ts (drop i xs))) ≡ (in_set old w || member w (all_around ts xs)))
+      (i ≤ length xs) × ((w : ℕ) → (in_set now w || member w (all_around ts (drop i xs))) ≡ (in_set old w || member w (all_around ts xs)))
 
-  pub joining_none : length old ≡ 8 → Joining 0 old
-  joining_none long = (omega arith, long, λ w. refl)
+  pub joining_none : Joining 0 old
+  joining_none = (omega arith, λ w. refl)
 
   pub joining_turn : (i v : ℕ) (now new : List ℕ) → i < length xs → v ≡ get_or xs i 0 → Joined (around ts v) now new → Joining i now → Joining (i + 1) new
   unfolding all_around
   joining_turn i v now new l e j h = (
     omega arith,
-    j.long,
     λ w.
         rw (j.has w) (or_assoc (in_set now w) (member w (around ts v)) (member w (all_around ts (drop (i + 1) xs))))
         ∙ ap (λ (t : Bool). in_set now w || t) (sym (member_append w (around ts v) (all_around ts (drop (i + 1) xs))))
         ∙ ap (λ (ys : List ℕ). in_set now w || member w (all_around ts ys)) (sym cut)
-        ∙ h.2 w,
+        ∙ h.1 w,
   )
     where
       cut : drop i xs ≡ v ∷ drop (i + 1) xs
@@ -117,8 +107,7 @@ module _ (ts xs old : List ℕ) where
   pub joining_end : (i : ℕ) (now : List ℕ) → length xs ≤ i → Joining i now → Joined (all_around ts xs) old now
   unfolding all_around member
   joining_end i now l h = record {
-    long = h.1;
-    has = λ w. sym (or-false (in_set now w)) ∙ ap (λ (ys : List ℕ). in_set now w || member w (all_around ts ys)) (sym (drop_of_length-le xs l)) ∙ h.2 w;
+    has = λ w. sym (or-false (in_set now w)) ∙ ap (λ (ys : List ℕ). in_set now w || member w (all_around ts ys)) (sym (drop_of_length-le xs l)) ∙ h.1 w;
   }
 
 -- ---- the touched radios
@@ -174,14 +163,12 @@ module _ (a b : ℕ) (cs ts : List ℕ) where
 
   -- the set as the code makes it, in three steps
   module _ (s1 s2 s3 : List ℕ) (la : a < max_radios) (lb : b < max_radios) (e1 : Joined (all_around ts cs) (replicate 8 0) s1) (e2 : s2 ≡ put_in a s1)
-      (e3 : s3 ≡ put_in b s2) where
-    long2 : length s2 ≡ 8
-    long2 = ap length e2 ∙ length_put_in a s1 ∙ e1.long
-
+      (long : length s2 ≡ 8) (e3 : s3 ≡ put_in b s2) where
     touched_set : (w : ℕ) → in_set s3 w ≡ is_touched w
     touched_set w =
-        ap (λ (s : List ℕ). in_set s w) e3 ∙ in_put_in b w s2 (omega (arith, long2))
-        ∙ ap (cond (eqb b w) true) (ap (λ (s : List ℕ). in_set s w) e2 ∙ in_put_in a w s1 (omega (arith, e1.long)) ∙ ap (cond (eqb a w) true) inner)
+        ap (λ (s : List ℕ). in_set s w) e3 ∙ in_put_in b w s2 (omega (arith, long))
+        ∙ ap (cond (eqb b w) true)
+        (ap (λ (s : List ℕ). in_set s w) e2 ∙ in_put_in a w s1 (omega (arith, long, ap length e2, length_put_in a s1)) ∙ ap (cond (eqb a w) true) inner)
         ∙ go (eqb b w) (eqb a w) (member w (all_around ts cs))
       where
         inner : in_set s1 w ≡ member w (all_around ts cs)
@@ -192,8 +179,8 @@ module _ (a b : ℕ) (cs ts : List ℕ) where
         go false true x = refl
         go false false x = refl
 
-    pub touched_listed : set_radios s3 ≡ touched a b cs ts
-    unfolding set_radios touched
+    pub touched_listed : members s3 ≡ touched a b cs ts
+    unfolding members touched
     touched_listed = filter_ext (in_set s3) is_touched (range 0 max_radios) (λ w i. touched_set w)
 
 -- ---- counts anew
@@ -286,17 +273,17 @@ radios_from ws j = filter (in_set ws) (range (64 * j) (max_radios - 64 * j))
 
 module _ (n : ℕ) (ts ns ws old : List ℕ) where
   abbrev pub SetRecounting : (j : ℕ) → (not_lower : List ℕ) → Type 0
-  SetRecounting j now = (j ≤ 8) × Recounting n ts ns (set_radios ws) old (radios_from ws j) now
+  SetRecounting j now = (j ≤ 8) × Recounting n ts ns (members ws) old (radios_from ws j) now
 
-  pub set_none : ((v : ℕ) → In v (set_radios ws) → v < n) → SetRecounting 0 old
-  unfolding set_radios
-  set_none h = (omega arith, recounting_none n ts ns (set_radios ws) old h)
+  pub set_none : ((v : ℕ) → In v (members ws) → v < n) → SetRecounting 0 old
+  unfolding members
+  set_none h = (omega arith, recounting_none n ts ns (members ws) old h)
 
   module _ (j : ℕ) (now : List ℕ) (l : j < 8) (h : SetRecounting j now) where
     abbrev bits : List ℕ
     bits = set_bits 64 (64 * j) (get_or ws j 0)
 
-    set_next : Recounting n ts ns (set_radios ws) old (bits ++ radios_from ws (j + 1)) now
+    set_next : Recounting n ts ns (members ws) old (bits ++ radios_from ws (j + 1)) now
     unfolding in_set
     set_next = rw (words_from (in_set ws) j (get_or ws j 0) l tells) at h.1
       where
@@ -310,10 +297,10 @@ module _ (n : ℕ) (ts ns ws old : List ℕ) where
     bits_known v i = set_next.known v (in_left v bits (radios_from ws (j + 1)) i)
 
     pub set_turn : (new : List ℕ) → new ≡ recounted ts ns bits now → SetRecounting (j + 1) new
-    set_turn new e = (omega arith, recounting_part n ts ns (set_radios ws) old bits (radios_from ws (j + 1)) now new e set_next)
+    set_turn new e = (omega arith, recounting_part n ts ns (members ws) old bits (radios_from ws (j + 1)) now new e set_next)
 
-  pub set_end : (j : ℕ) (now : List ℕ) → 8 ≤ j → SetRecounting j now → now ≡ recounted ts ns (set_radios ws) old
-  set_end j now l h = recounting_end n ts ns (set_radios ws) old (radios_from ws j) now (words_end (in_set ws) j l) h.1
+  pub set_end : (j : ℕ) (now : List ℕ) → 8 ≤ j → SetRecounting j now → now ≡ recounted ts ns (members ws) old
+  set_end j now l h = recounting_end n ts ns (members ws) old (radios_from ws j) now (words_end (in_set ws) j l) h.1
 
 -- ---- what the functions want
 

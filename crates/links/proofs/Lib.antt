@@ -10,7 +10,7 @@ pub mod StepLaws
 -- a batch
 pub mod BatchLaws
 -- Laws of a plan that is applied.
--- a set of radios kept as one row; the stretch and the step; a plan that fits
+-- a set that radios are put into; the stretch and the step; a plan that fits
 pub mod Marking
 pub mod ChangeLaws
 -- Asking and committing meet their contracts, on plain values.

@@ -1,5 +1,4 @@
 -- What applying a plan writes.
---   all_marked xs ts     the row 0 of ts with the bit of each radio of xs set: a set of radios is kept as one row
 --   in_order xs          the radios of the list xs, ascending, each once
 --   counted_step up k    document 01's step, by the count of changed radios
 --   PlanFits            the stretch and the order are long enough for a plan
@@ -8,15 +7,12 @@
 --   Applied              the same, and what is listed and told
 -- Laws are in proofs/ChangeLaws.antt and proofs/Marking.antt. Definitions only.
 use Rattle.std.specs.Prelude.{◌≡◌, ◌+◌, ◌≤◌}
-use Rattle.lists.specs.{Kit.{Bool, true, cond, List, ℕ, zero, suc, ℤ, pos, negsuc, length, take, paste}, Facts.{folded}}
+use Rattle.lists.specs.Kit.{Bool, cond, List, ℕ, zero, suc, ℤ, pos, negsuc, length, take, paste}
 use Rattle.lists.specs.{Lists.{range, filter, member, overwrite}}
-use Rattle.mesh.specs.{Limits.{max_radios}, Tables.{Tables, put_bit, put_link}}
-use Rattle.calls.specs.declared.Reply.{Reply}
+use Rattle.mesh.specs.{Limits.{max_radios}, Tables.{Tables, put_link}}
+use Rattle.calls.specs.declared.Change.{Change}
 use Rattle.tables.specs.Steps.{all_stepped}
 use Rattle.plan.specs.Planned.{changed_part}
-
-unfoldable pub all_marked : (radios : List ℕ) → (row : List ℕ) → List ℕ
-all_marked vs ts = folded (λ v now. put_bit true 0 v now) vs ts
 
 unfoldable pub in_order : (radios : List ℕ) → List ℕ
 in_order xs = filter (λ v. member v xs) (range 0 max_radios)
@@ -31,8 +27,7 @@ pub record PlanFits (start size taken stretch order : ℕ) : Type 0 where
   pub long : size ≤ stretch
   pub fits : start + size ≤ order
 
-pub record Reported (up : Bool) (size taken : ℕ) (stretch answer : List ℕ) (r : Reply) (x : List ℕ) : Type 0 where
-  pub number : r.number ≡ 0
+pub record Reported (up : Bool) (size taken : ℕ) (stretch answer : List ℕ) (r : Change) (x : List ℕ) : Type 0 where
   pub count : r.count ≡ length (in_order (changed_part up taken size stretch))
   pub step : r.step ≡ counted_step up r.count
   pub answer_is : x ≡ overwrite (take (length answer) (in_order (changed_part up taken size stretch))) answer
@@ -44,8 +39,8 @@ pub record PlanPut (up : Bool) (a b start size : ℕ) (stretch listed : List ℕ
   pub order : v.order ≡ paste t.order start stretch size
 
 -- the two link bits, the numbers of the changed radios, the stretch of the order, the answer table's front
-pub record Applied (up : Bool) (a b start size taken : ℕ) (stretch : List ℕ) (t : Tables) (answer : List ℕ) (r : Reply) (v : Tables) (x : List ℕ) : Type 0 where
-  pub number : r.number ≡ 0
+pub record Applied (up : Bool) (a b start size taken : ℕ) (stretch : List ℕ) (t : Tables) (answer : List ℕ) (r : Change) (v : Tables)
+    (x : List ℕ) : Type 0 where
   pub count : r.count ≡ length (in_order (changed_part up taken size stretch))
   pub step : r.step ≡ counted_step up r.count
   pub links : v.links ≡ put_link up a b t.links

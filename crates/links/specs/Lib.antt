@@ -4,3 +4,5 @@ pub mod Steps
 pub mod Changes
 -- What committing holds a proposal against.
 pub mod Proposed
+-- What a batch answers.
+pub mod Batched

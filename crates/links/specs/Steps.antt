@@ -8,7 +8,6 @@
 --   around ts v      the radio v and its neighbours
 --   all_around       some radios and their neighbours
 --   Joined           a set with some radios put in
---   set_radios ws    the radios of the set ws, ascending
 --   touched          both ends, the changed radios and their neighbours, ascending: the radios whose not_lower count may differ
 --   recounted        the not-lower counts, some radios counted anew
 --   RowsKnown       rows that can be counted
@@ -24,11 +23,8 @@ use Rattle.soundness.specs.Checks.{fits_sound}
 
 -- ---- one link
 
--- places and not_lower have room for as many radios as a site may have
 pub record Prepared (n : ℕ) (t : Tables) (places not_lower : List ℕ) : Type 0 where
   pub good : fits_sound n t ≡ true
-  pub places_length : length places ≡ max_radios
-  pub not_lower_length : length not_lower ≡ max_radios
   pub placed : Placed n t.order places
   pub counted : NotLower n t.links t.numbers not_lower
 
@@ -70,11 +66,7 @@ all_around ts (v ∷ vs) = around ts v ++ all_around ts vs
 
 -- ws before, us after
 pub record Joined (radios ws us : List ℕ) : Type 0 where
-  pub long : length us ≡ 8
   pub has : (w : ℕ) → in_set us w ≡ (in_set ws w || member w radios)
-
-unfoldable pub set_radios : (words : List ℕ) → List ℕ
-set_radios ws = filter (in_set ws) (range 0 max_radios)
 
 unfoldable pub touched : (a b : ℕ) → (changed links : List ℕ) → List ℕ
 touched a b cs ts = filter (λ w. eqb b w || (eqb a w || member w (all_around ts cs))) (range 0 max_radios)

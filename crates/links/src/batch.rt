@@ -6,75 +6,86 @@ ghost use Rattle.calls.specs.Batches.{list_length};
 ghost use Rattle.calls.specs.Outcomes.{tabled, links_taken};
 ghost use Rattle.calls.specs.CallContracts.{BatchContract};
 ghost use Rattle.links.specs.Steps.{Prepared};
+ghost use Rattle.links.specs.Batched.{batch_reply};
 
 use super::step;
-use calls::Value;
-use mesh::Site;
+use calls::{Refusal, Value};
+use mesh::Lent;
+use soundness::Found;
 
-// Takes the links of the list, two entries each, up one by one: the number of the first that is refused by 4 to 7, or 0, and the count of
-// links done, which remain. Places and not-lower counts are the tables', before and after.
+// Why a batch stopped, and how many links were done before.
+#[derive(Clone, Copy)]
+pub struct Stopped {
+    pub refusal: Refusal,
+    pub done: u32,
+}
+
+// The answer of a batch, in its form for C: its number, and the count of links done, which stands beside a refusal too.
+pub fn reply(answer: Result<u32, Stopped>) -> Value
+    ensures { result ≡ batch_reply answer }
+{
+    match answer {
+        Ok(done) => Value {
+            number: 0,
+            value: done,
+        },
+        Err(stopped) => Value {
+            number: u32::from(stopped.refusal),
+            value: stopped.done,
+        },
+    }
+}
+
+// Takes the links of the list, two entries each, up one by one, and stops at the first that is refused by 4 to 7: the count of links done,
+// which remain. What is found of the tables is told of them before and after.
 fn take_links(
     n: u32,
     list: &[u16],
     links: &mut [u8],
     numbers: &mut [u8],
     order: &mut [u16],
-    places: &mut [u16; Site::RADIOS as usize],
-    not_lower: &mut [u8; Site::RADIOS as usize],
-) -> Value
-    requires { Prepared n (lent links.old numbers.old order.old) places.old not_lower.old × (list_length (length list.now) ≡ true) }
-    ensures { tabled result (lent links.new numbers.new order.new)
+    found: &mut Found,
+) -> Result<u32, Stopped>
+    requires { Prepared n (lent links.old numbers.old order.old) found.old.places found.old.not_lower × (list_length (length list.now) ≡ true) }
+    ensures { tabled (batch_reply result) (lent links.new numbers.new order.new)
         ≡ links_taken n list.now (lent links.old numbers.old order.old) }
 {
-    let mut done: u32 = 0;
-    let mut at: usize = 0;
-    while at < list.len() {
-        let number = step::step(
-            true,
-            n,
-            list[at] as u32,
-            list[at + 1] as u32,
-            links,
-            numbers,
-            order,
-            places,
-            not_lower,
-        );
-        if number != 0 {
-            return Value {
-                number,
-                value: done,
-            };
+    let many = list.len() / 2;
+    for i in 0..many {
+        let at = 2 * i;
+        let a = list[at] as u32;
+        let b = list[at + 1] as u32;
+        if let Err(refusal) = step::step(true, n, a, b, links, numbers, order, found) {
+            return Err(Stopped {
+                refusal,
+                done: i as u32,
+            });
         }
-        done += 1;
-        at += 2;
     }
-    Value {
-        number: 0,
-        value: done,
-    }
+    Ok(many as u32)
 }
 
-// Takes the links of the list, two entries each, up one by one, and stops at the first that is refused by 4 to 7: its number, with the count
-// of links done, which remain; number 0 where none is. Refused by 1 to 3, before any link, the value is 0 and every table keeps its
-// content.
-pub fn batch(n: u32, links: &mut [u8], numbers: &mut [u8], order: &mut [u16], list: &[u16]) -> Value
-    ensures { BatchContract n list.now (lent links.old numbers.old order.old) result
+// Takes the links of the list, two entries each, up one by one, and stops at the first that is refused by 4 to 7: the count of links done,
+// which remain. Refused by 1 to 3, before any link, the count is 0 and every table keeps its content.
+pub fn batch(
+    n: u32,
+    links: &mut [u8],
+    numbers: &mut [u8],
+    order: &mut [u16],
+    list: &[u16],
+) -> Result<u32, Stopped>
+    ensures { BatchContract n list.now (lent links.old numbers.old order.old) (batch_reply result)
         (lent links.new numbers.new order.new) }
 {
-    let mut places = [0u16; Site::RADIOS as usize];
-    let mut not_lower = [0u8; Site::RADIOS as usize];
-    let number = soundness::asked(
-        n,
+    let t = Lent {
+        radios: n,
         links,
         numbers,
         order,
-        list.len() % 2 == 0,
-        &mut places,
-        &mut not_lower,
-    );
-    if number != 0 {
-        return Value { number, value: 0 };
+    };
+    let mut found = Found::new();
+    if let Err(refusal) = soundness::asked(&t, list.len() % 2 == 0, &mut found) {
+        return Err(Stopped { refusal, done: 0 });
     }
-    take_links(n, list, links, numbers, order, &mut places, &mut not_lower)
+    take_links(n, list, links, numbers, order, &mut found)
 }

@@ -5,11 +5,15 @@ ghost use Rattle.lists.specs.Kit.{ℕ, length, get_or};
 ghost use Rattle.lists.specs.Lists.{range};
 ghost use Rattle.mesh.specs.Limits.{max_radios};
 ghost use Rattle.mesh.specs.Lent.{lent};
+ghost use Rattle.calls.specs.Answers.{call_number};
 ghost use Rattle.links.specs.Steps.{Prepared, StepReady, ChangedBy, Carried, Stepped, places_put};
 
-use super::{apply, counts};
-use mesh::Site;
+use super::apply::{Switch, apply};
+use super::counts;
+use calls::Refusal;
+use mesh::{Lent, Site};
 use plan::{decision, end_questions};
+use soundness::Found;
 
 // What a link changed: so many numbers, and of the order at most `size` entries from `start` on.
 #[derive(Clone, Copy)]
@@ -19,8 +23,8 @@ struct Outcome {
     size: usize,
 }
 
-// Takes the link a-b up or down: writes the tables, and the changed radios in front of `changed`, ascending. Places and not-lower counts are
-// left as they were.
+// Takes the link a-b up or down: writes the tables, and the changed radios in front of `changed`, ascending. What is found of the tables is
+// left as it was.
 fn change(
     up: bool,
     a: u32,
@@ -28,31 +32,32 @@ fn change(
     links: &mut [u8],
     numbers: &mut [u8],
     order: &mut [u16],
-    places: &[u16; Site::RADIOS as usize],
-    not_lower: &[u8; Site::RADIOS as usize],
+    found: &Found,
     changed: &mut [u16; Site::RADIOS as usize],
 ) -> Outcome
-    requires ready { StepReady up (length order.old) a b (lent links.old numbers.old order.old) places.now not_lower.now }
-    requires room { length changed.old ≡ max_radios }
+    requires { StepReady up (length order.old) a b (lent links.old numbers.old order.old) found.now.places found.now.not_lower }
     ensures { ChangedBy up (length order.old) a b (lent links.old numbers.old order.old)
         (lent links.new numbers.new order.new) result.count changed.new result.start result.size }
 {
-    let mut counters = *not_lower;
-    let mut stretch = [0u16; Site::RADIOS as usize];
-    let plan = decision::plan_link(
-        up,
-        a,
-        b,
+    let t = Lent {
+        radios: order.len() as u32,
         links,
         numbers,
         order,
-        places,
-        &mut counters,
-        &mut stretch,
-    );
-    let reply = apply::apply(up, a, b, plan, &stretch, links, numbers, order, changed);
+    };
+    let mut counters = found.not_lower;
+    let mut stretch = [0u16; Site::RADIOS as usize];
+    let plan = decision::plan_link(up, a, b, &t, &found.places, &mut counters, &mut stretch);
+    let switch = Switch {
+        up,
+        a,
+        b,
+        plan,
+        stretch: &stretch,
+    };
+    let made = apply(&switch, links, numbers, order, changed);
     Outcome {
-        count: reply.count,
+        count: made.count,
         start: plan.start,
         size: plan.size,
     }
@@ -64,16 +69,14 @@ fn put_places(order: &[u16], start: usize, size: usize, places: &mut [u16; Site:
         ((p : ℕ) → p < length order.now → get_or order.now p 0 < max_radios) }
     ensures { places.new ≡ places_put order.now (range start size) places.old }
 {
-    let mut i: usize = 0;
-    while i < size {
+    for i in 0..size {
         let p = start + i;
         places[order[p] as usize] = p as u16;
-        i += 1;
     }
 }
 
-// Takes the link a-b up, by questions 4 to 7, or down, by 4 to 6, and comes back with their number. Places and not-lower counts are the later
-// tables' then. Refused, every table keeps its content.
+// Takes the link a-b up, by questions 4 to 7, or down, by 4 to 6. What is found is told of the later tables then. Refused, every table keeps
+// its content.
 pub fn step(
     up: bool,
     n: u32,
@@ -82,38 +85,19 @@ pub fn step(
     links: &mut [u8],
     numbers: &mut [u8],
     order: &mut [u16],
-    places: &mut [u16; Site::RADIOS as usize],
-    not_lower: &mut [u8; Site::RADIOS as usize],
-) -> u32
-    requires { Prepared n (lent links.old numbers.old order.old) places.old not_lower.old }
-    ensures { Stepped up n a b (lent links.old numbers.old order.old) result
-        (lent links.new numbers.new order.new) places.new not_lower.new }
+    found: &mut Found,
+) -> Result<(), Refusal>
+    requires { Prepared n (lent links.old numbers.old order.old) found.old.places found.old.not_lower }
+    ensures { Stepped up n a b (lent links.old numbers.old order.old) (call_number result)
+        (lent links.new numbers.new order.new) found.new.places found.new.not_lower }
 {
-    let number = end_questions::ends_refusal(up, n, a, b, links);
-    if number != 0 {
-        return number;
+    if let Err(refusal) = end_questions::ask_ends(up, n, a, b, links) {
+        return Err(refusal);
     }
     let mut changed = [0u16; Site::RADIOS as usize];
-    let made = change(
-        up,
-        a,
-        b,
-        links,
-        numbers,
-        order,
-        places,
-        not_lower,
-        &mut changed,
-    );
-    put_places(order, made.start, made.size, places);
-    counts::renew(
-        a,
-        b,
-        made.count as usize,
-        &changed,
-        links,
-        numbers,
-        not_lower,
-    );
-    0
+    let made = change(up, a, b, links, numbers, order, found, &mut changed);
+    put_places(order, made.start, made.size, &mut found.places);
+    let list = &changed[..made.count as usize];
+    counts::renew(a, b, list, links, numbers, &mut found.not_lower);
+    Ok(())
 }

@@ -139,10 +139,10 @@ get_d_append_zeros [] k j = get_d_zeros k j
 get_d_append_zeros (x ∷ xs) k zero = refl
 get_d_append_zeros (x ∷ xs) k (suc j) = get_d_append_zeros xs k j
 
-pub take_min : (k : ℕ) (s : List ℕ) → take (min k (length s)) s ≡ take k s
+pub take_min : {X : Type 0} (k : ℕ) (s : List X) → take (min k (length s)) s ≡ take k s
 take_min zero s = ap (λ n. take n s) (zero-min (length s))
 take_min (suc k) [] = take-nil (min (suc k) 0)
-take_min (suc k) (x ∷ s) = ap (λ n. take n (x ∷ s)) (suc-min-suc k (length s)) ∙ ap {B = List ℕ} (λ t. x ∷ t) (take_min k s)
+take_min {X} (suc k) (x ∷ s) = ap (λ n. take n (x ∷ s)) (suc-min-suc k (length s)) ∙ ap {B = List X} (λ t. x ∷ t) (take_min k s)
 
 -- the pieces of a text are its bytes
 pub drop_first : (text : List ℕ) (i : ℕ) → i < length text → drop i text ≡ (get_or text i 0 ∷ []) ++ drop (i + 1) text

@@ -6,11 +6,11 @@
 --   returned, return_absent     coming back; 18
 use Rattle.std.specs.Prelude.{◌≡◌, ◌⊎◌, ◌&&◌, ◌||◌, ◌∷◌, ◌++◌, ◌+◌, ◌*◌, ◌-◌, ◌≤◌, ◌<◌}
 use Rattle.lists.{specs.Kit.{refl, sym, ap, ap₂, subst, ◌∙◌, inl, inr, Bool, true, false, List, [], ℕ, suc}}
-use Rattle.lists.{specs.Kit.{arith, ltb, leb, eqb, length, take, drop, replicate, length-drop, drop-drop, take_all, length-take-le, eqb-true}}
-use Rattle.lists.{specs.Kit.{leb-true, leb-false, lt-ltb, le-ltb}, proofs.Parts.{take_drop_take}, proofs.Tests.{never, bool_cases, trichotomy}}
+use Rattle.lists.{specs.Kit.{arith, ltb, leb, length, take, drop, replicate, length-drop, drop-drop, take_all, length-take-le}}
+use Rattle.lists.{specs.Kit.{leb-true, leb-false, lt-ltb, le-ltb}, proofs.Parts.{take_drop_take}, proofs.Tests.{bool_cases}}
 use Rattle.mesh.{specs.Limits.{size_good}, specs.Tables.{Tables, graph_in}, specs.Sound.{sound}, specs.Image.{image_of, is_image}, specs.Marks.{name_bytes}}
-use Rattle.mesh.{specs.Marks.{place_bytes, places, store_bytes, image_size, image_in, place_of, marks_in, store_of, has_mark, found, with_mark, place_at}}
-use Rattle.mesh.{specs.MarkPlaces.{rank, heads, moved_up, moved_down}, proofs.Images.Of.{length_image_of}, proofs.Images.Tables.{is_image_sound}}
+use Rattle.mesh.{specs.Marks.{place_bytes, places, image_size, image_in, place_of, marks_in, store_of, has_mark, found, with_mark, place_at}}
+use Rattle.mesh.{specs.MarkPlaces.{rank, moved_up, moved_down}, proofs.Images.Of.{length_image_of}, proofs.Images.Tables.{is_image_sound}}
 use Rattle.mesh.{proofs.Marks.Laws.{Sized, rising_sized, PlaceMark, place_mark, image_fits, length_is_image}, proofs.Marks.Ranks.{rank_most, ranked, found_at}}
 use Rattle.mesh.{proofs.Marks.Ranks.{with_at, with_new, without_at}, proofs.Marks.Rules.{mark_at}, proofs.Marks.Bytes.{replaced, inserted, taken_out}}
 use Rattle.calls.{specs.Questions.{ask, Lengths, lengths_of, site_lengths, site_refusal, lent_refusal, image_length}, specs.Outcomes.{read_outcome}}
@@ -59,26 +59,9 @@ asked_good : (n : ℕ) (l : Lengths) (sound : Bool) (x bs : List ℕ) → mark_r
 unfolding mark_refusal
 asked_good n l sound x bs p = (ask_zero 16 (marks_good n x bs) 0 (site_zero n l (store_length bs) sound (ask 17 (marks_good n x bs) 0) p).1).0
 
-differ : (a b : ℕ) → (a ≡ b → ⊥) → (a < b) ⊎ (b < a)
-differ a b h = go (trichotomy a b)
-  where
-    go : (a < b) ⊎ ((a ≡ b) ⊎ (b < a)) → (a < b) ⊎ (b < a)
-    go (inl l) = inl l
-    go (inr (inl e)) = absurd (h e)
-    go (inr (inr l)) = inr l
-
-nothing : (x : List ℕ) → heads x [] ≡ false
-unfolding heads
-nothing x = refl
-
-pub record Spotted (size used first : ℕ) : Type 0 where
-  pub long : size ≡ store_bytes
-  pub few : used ≤ places
-  pub low : first ≤ used
-
-module _ (n : ℕ) (x : List ℕ) (t : Tables) (bs : List ℕ) (q : ℕ) (e : q ≡ mark_refusal n (lengths_of t) (sound n t) x bs 0) (z : q ≡ 0) where
+module _ (n : ℕ) (x : List ℕ) (t : Tables) (bs : List ℕ) (e : 0 ≡ mark_refusal n (lengths_of t) (sound n t) x bs 0) where
   asked : MarkAsked n (lengths_of t) (sound n t) x bs
-  asked = (mark_zero n (lengths_of t) (sound n t) x bs 0 (sym e ∙ z)).0
+  asked = (mark_zero n (lengths_of t) (sound n t) x bs 0 (sym e)).0
 
   abbrev image : List ℕ
   image = image_of (graph_in n t.links) t.order
@@ -90,7 +73,7 @@ module _ (n : ℕ) (x : List ℕ) (t : Tables) (bs : List ℕ) (q : ℕ) (e : q 
   unfolding mark_refusal
   further later =
       site_yes n (lengths_of t) (store_length bs) (sound n t) (ask 17 (marks_good n x bs) later) asked.site
-      ∙ ask_yes 17 (marks_good n x bs) later (asked_good n (lengths_of t) (sound n t) x bs (sym e ∙ z))
+      ∙ ask_yes 17 (marks_good n x bs) later (asked_good n (lengths_of t) (sound n t) x bs (sym e))
 
   image_good : is_image n image ≡ true
   image_good = is_image_sound n t asked.site.lent.most asked.site.is_sound
@@ -115,38 +98,11 @@ module _ (n : ℕ) (x : List ℕ) (t : Tables) (bs : List ℕ) (q : ℕ) (e : q 
   -- ---- the spot of the name
 
   module _ (used first : ℕ) (there : Bool) (spot : Located bs x used first there) where
-    store_long : eqb (length bs) store_bytes ≡ true
-    unfolding store_length
-    store_long = asked.site.lent.further
-
     there_is : there ≡ has_mark x marks
     there_is = spot.found ∙ sym (ranked n x [] marks asked.store.marks.rising)
 
     are_sized : Sized marks
     are_sized = rising_sized n [] marks asked.store.marks.rising
-
-    few : used ≤ places
-    few = omega (arith, spot.counted, asked.store.marks.few)
-
-    -- the sizes that the code computes with
-    pub spotted : Spotted (length bs) used first
-    spotted = record { long = eqb-true (length bs) store_bytes store_long; few = few; low = omega (arith, spot.counted, spot.ranked, rank_most n x marks) }
-
-    -- a new name finds a place
-    pub room : (used ≡ places → ⊥) → used < places
-    room m = go (differ used places m)
-      where
-        go : (used < places) ⊎ (places < used) → used < places
-        go (inl l) = l
-        go (inr l) = absurd (omega (arith, few))
-
-    -- a name that is there is one of the used places
-    pub below : there ≡ true → first < used
-    below h = go (drop (rank x marks) marks) refl (sym (ranked n x [] marks asked.store.marks.rising) ∙ sym there_is ∙ h)
-      where
-        go : (rest : List (List ℕ)) → drop (rank x marks) marks ≡ rest → heads x (drop (rank x marks) marks) ≡ true → first < used
-        go [] f k = never (heads x []) (ap (heads x) (sym f) ∙ k) (nothing x)
-        go (p ∷ rest) f k = omega (arith, spot.counted, spot.ranked, length-drop (rank x marks) marks, ap length f)
 
     -- ---- setting
 
@@ -159,7 +115,7 @@ module _ (n : ℕ) (x : List ℕ) (t : Tables) (bs : List ℕ) (q : ℕ) (e : q 
     set_again h cs f =
         let p = place_of x image in
         let there' : has_mark x marks ≡ true = sym there_is ∙ h in
-        let l : rank x marks < length marks = omega (arith, below h, spot.counted, spot.ranked) in
+        let l : rank x marks < length marks = omega (arith, spot.less h, spot.counted, spot.ranked) in
         set_by (ap (λ (b : Bool). b || ltb (length marks) places) there') cs
         (f ∙ ap (λ (j : ℕ). take (place_bytes * j) bs ++ (p ++ drop (place_bytes * j + place_bytes) bs)) spot.ranked
         ∙ ap (λ (os : List ℕ). take (place_bytes * rank x marks) os ++ (p ++ drop (place_bytes * rank x marks + place_bytes) os)) asked.store.whole
@@ -187,7 +143,7 @@ module _ (n : ℕ) (x : List ℕ) (t : Tables) (bs : List ℕ) (q : ℕ) (e : q 
     set_new h m cs f =
         let p = place_of x image in
         let none : has_mark x marks ≡ false = sym there_is ∙ h in
-        let less : length marks < places = omega (arith, room m, spot.counted) in
+        let less : length marks < places = omega (arith, m, spot.few, spot.counted) in
         set_by (ap₂ {C = Bool} (λ a b. a || b) none (lt-ltb (length marks) places less)) cs
         (f ∙ ap₂ {C = List ℕ} (λ j k. take (place_bytes * j) (moved_up bs (place_bytes * j) (place_bytes * k)) ++
         (p ++ drop (place_bytes * j + place_bytes) (moved_up bs (place_bytes * j) (place_bytes * k)))) spot.ranked spot.counted
@@ -226,8 +182,8 @@ module _ (n : ℕ) (x : List ℕ) (t : Tables) (bs : List ℕ) (q : ℕ) (e : q 
         cs ≡ put_place (moved_down bs (place_bytes * (first + 1)) (place_bytes * used)) (used - 1) (replicate w 0) → RemoveContract n x t bs 0 cs
     unfolding RemoveContract remove_outcome store_outcome put_place
     removed h w cs g f =
-        let l : rank x marks < length marks = omega (arith, below h, spot.counted, spot.ranked) in
-        let k : length marks ≡ suc (used - 1) = omega (arith, below h, spot.counted) in
+        let l : rank x marks < length marks = omega (arith, spot.less h, spot.counted, spot.ranked) in
+        let k : length marks ≡ suc (used - 1) = omega (arith, spot.less h, spot.counted) in
         let i : first + 1 ≡ suc (rank x marks) = omega (arith, spot.ranked) in
         by_accepted _ _ (a_mark h) (ap (listing 0)
         (f
@@ -244,7 +200,7 @@ module _ (n : ℕ) (x : List ℕ) (t : Tables) (bs : List ℕ) (q : ℕ) (e : q 
     mark_found : there ≡ true → found x marks ≡ place_at bs first
     mark_found h =
         found_at n x [] marks asked.store.marks.rising (sym there_is ∙ h)
-        ∙ mark_at bs (rank x marks) (omega (arith, below h, spot.counted, spot.ranked)) ∙ ap (place_at bs) (sym spot.ranked)
+        ∙ mark_at bs (rank x marks) (omega (arith, spot.less h, spot.counted, spot.ranked)) ∙ ap (place_at bs) (sym spot.ranked)
 
     module _ (h : there ≡ true) (s : ℕ) (size : s ≡ image_size n
         (drop name_bytes (take (place_bytes * first + place_bytes - place_bytes * first) (drop (place_bytes * first) bs)))) where
@@ -266,7 +222,7 @@ module _ (n : ℕ) (x : List ℕ) (t : Tables) (bs : List ℕ) (q : ℕ) (e : q 
       unfolding place_at
       place_long =
           length-take-le place_bytes (drop (place_bytes * first) bs)
-          (omega (arith, length-drop (place_bytes * first) bs, eqb-true (length bs) store_bytes (store_long), below h, few))
+          (omega (arith, length-drop (place_bytes * first) bs, spot.long, spot.less h, spot.few))
 
       is_good : is_image n (take s (drop name_bytes (place_at bs first))) ≡ true
       unfolding is_marked

@@ -130,9 +130,6 @@ or_zero a b = go (bool_cases (eqb a 0)) (bool_cases (eqb b 0))
 abbrev pub Joining : (bytes : List ℕ) → (joined i : ℕ) → Type 0
 Joining bs x i = is_zeros bs ≡ (eqb x 0 && is_zeros (drop i bs))
 
-pub joining_none : (bs : List ℕ) → Joining bs 0 0
-joining_none bs = refl
-
 pub joining_turn : (bs : List ℕ) (x i : ℕ) → Joining bs x i → i < length bs → Joining bs (bit_or x (get_or bs i 0)) (i + 1)
 unfolding is_zeros all
 joining_turn bs x i e l =

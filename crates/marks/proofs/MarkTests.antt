@@ -63,10 +63,10 @@ module _ (n : ℕ) (p : List ℕ) (s : ℕ) (good : size_good n ≡ true) (size 
             i))
         go (inr i) = mark_parts ∙ ap (λ (t : Bool). t && is_zeros (drop (name_bytes + s) p)) i
 
-    pub image_and_zeros : (r : ℕ) (z : Bool) → r ≡ alone_refusal n image → r ≡ 0
+    pub image_and_zeros : (z : Bool) → 0 ≡ alone_refusal n image
         → z ≡ is_zeros (take (length p - (name_bytes + s)) (drop (name_bytes + s) p)) → z ≡ is_mark n p
     unfolding alone_refusal
-    image_and_zeros r z e f g =
-        let i = (image_zero n image (sym (ask_yes 1 (size_good n) (image_refusal n image) good) ∙ sym e ∙ f)).1 in
+    image_and_zeros z e g =
+        let i = (image_zero n image (sym (ask_yes 1 (size_good n) (image_refusal n image) good) ∙ sym e)).1 in
         g ∙ ap is_zeros (rest_part p (name_bytes + s))
         ∙ sym (mark_parts ∙ ap (λ (t : Bool). t && is_zeros (drop (name_bytes + s) p)) i)

@@ -140,9 +140,6 @@ moving_up_turn bs now from to (suc j) h m l =
       is = up_turn bs now j to m.high h m.is;
     })
 
-pub moving_up_end : (bs now : List ℕ) (from to i : ℕ) → MovingUp bs now from to i → i ≤ from → now ≡ moved_up bs from to
-moving_up_end bs now from to i m l = let e : i ≡ from = omega (arith, m.low) in m.is ∙ ap (λ (k : ℕ). moved_up bs k to) e
-
 pub record MovingDown (bs now : List ℕ) (from to i : ℕ) : Type 0 where
   pub low : from ≤ i
   pub high : i ≤ to
@@ -157,6 +154,3 @@ moving_down_turn bs now from to i p h m l = record {
   long = simp length-set m.long;
   is = down_turn bs now from i p m.low (omega arith) m.is;
 }
-
-pub moving_down_end : (bs now : List ℕ) (from to i : ℕ) → MovingDown bs now from to i → to ≤ i → now ≡ moved_down bs from to
-moving_down_end bs now from to i m l = let e : i ≡ to = omega (arith, m.high) in m.is ∙ ap (moved_down bs from) e

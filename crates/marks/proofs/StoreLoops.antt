@@ -9,6 +9,8 @@ use Rattle.calls.{specs.Questions.{ask, Lengths, site_refusal}, specs.Marks.{sto
 use Rattle.calls.{proofs.ChainLaws.{SiteGood, site_zero, site_yes, site_stops}}
 use Rattle.marks.specs.Store.{last_name, Counted, Located}
 use Rattle.marks.proofs.Left.{rest_part}
+use Rattle.std.specs.Prelude.{◌⊎◌, ◌↔◌, IsTrue}
+use Rattle.lists.{specs.Kit.{subst, inl, inr}, proofs.All.{same_refl, same_eq}, proofs.Tests.{bool_cases, never}}
 
 -- ---- counting used places
 
@@ -170,12 +172,6 @@ pub record Ranking (bs x : List ℕ) (i : ℕ) : Type 0 where
   pub low : i ≤ length (marks_in bs)
   pub left : rank x (marks_in bs) ≡ i + rank x (drop i (marks_in bs))
 
-pub ranking_none : (bs x : List ℕ) → Ranking bs x 0
-ranking_none bs x = record { low = omega arith; left = zero_plus (rank x (marks_in bs)) }
-  where
-    zero_plus : (k : ℕ) → k ≡ 0 + k
-    zero_plus k = omega arith
-
 module _ (bs x : List ℕ) (i : ℕ) (f : Ranking bs x i) (l : i < length (marks_in bs)) (r : Bool)
     (r_is : r ≡ before (take (place_bytes * i + name_bytes - place_bytes * i) (drop (place_bytes * i) bs)) x) where
   name_is : before (name_in (place_at bs i)) x ≡ r
@@ -205,49 +201,69 @@ ranking_end bs x i k f e l =
 
 -- ---- the spot of a name
 
-module _ (bs x : List ℕ) (k r : ℕ) (count : Counted bs k) (r_is : r ≡ rank x (marks_in bs)) where
-  located : (t : Bool) → t ≡ heads x (drop r (marks_in bs)) → Located bs x k r t
-  located t e =
-      record { counted = count.counted; ranked = r_is; found = e ∙ ap (λ (j : ℕ). heads x (drop j (marks_in bs))) r_is }
+-- whether two lists are the same, by a test that says whether they are equal
+same_is : (t : Bool) (xs ys : List ℕ) → IsTrue t ↔ (xs ≡ ys) → t ≡ same xs ys
+same_is true xs ys e = sym (subst (λ (zs : List ℕ). same xs zs ≡ true) (e.0 refl) (same_refl xs))
+same_is false xs ys e = go (bool_cases (same xs ys))
+  where
+    go : (same xs ys ≡ true) ⊎ (same xs ys ≡ false) → false ≡ same xs ys
+    go (inl q) = never false (e.1 (same_eq xs ys q)) refl
+    go (inr q) = sym q
+
+module _ (bs x : List ℕ) (k r : ℕ) (count : Counted bs k) (r_is : r ≡ rank x (marks_in bs)) (low : r ≤ k) where
+  located : (t : Bool) → (t ≡ true → r < k) → t ≡ heads x (drop r (marks_in bs)) → Located bs x k r t
+  located t less e = record {
+    long = count.long;
+    few = count.few;
+    low = low;
+    less = less;
+    counted = count.counted;
+    ranked = r_is;
+    found = e ∙ ap (λ (j : ℕ). heads x (drop j (marks_in bs))) r_is;
+  }
 
   pub located_end : r ≡ k → Located bs x k r false
   unfolding heads
   located_end h =
       let l : length (marks_in bs) ≤ r = omega (arith, count.counted) in
-      located false (sym (ap (heads x) (drop_of_length-le (marks_in bs) l)))
+      located false (λ no. never true refl (sym no)) (sym (ap (heads x) (drop_of_length-le (marks_in bs) l)))
 
-  pub located_at : (t : Bool) → t ≡ same (take (place_bytes * r + name_bytes - place_bytes * r) (drop (place_bytes * r) bs)) x → r < k → Located bs x k r t
+  pub located_at : (t : Bool) → IsTrue t ↔ (take (place_bytes * r + name_bytes - place_bytes * r) (drop (place_bytes * r) bs) ≡ x) → (r ≡ k → ⊥)
+      → Located bs x k r t
   unfolding heads
   located_at t e h =
-      located t (e ∙ ap (λ (y : List ℕ). same y x) (rising_parts bs r ∙ sym (name_of_place bs r))
-      ∙ sym (ap (heads x) (from_mark bs r (omega (arith, count.counted)))))
+      located t (λ yes. omega (arith, low, h))
+      (same_is t (take (place_bytes * r + name_bytes - place_bytes * r) (drop (place_bytes * r) bs)) x e
+      ∙ ap (λ (y : List ℕ). same y x) (rising_parts bs r ∙ sym (name_of_place bs r))
+      ∙ sym (ap (heads x) (from_mark bs r (omega (arith, low, h, count.counted)))))
 
 -- ---- questions 1, 2, 3 and 17
 
-module _ (n : ℕ) (l : Lengths) (sound : Bool) (x bs : List ℕ) (q : ℕ) (e : q ≡ site_refusal n l (store_length bs) sound 0) where
-  pub refused_site : (q ≡ 0 → ⊥) → q ≡ mark_refusal n l sound x bs 0
-  unfolding mark_refusal
-  refused_site h = e ∙ sym (site_stops n l (store_length bs) sound (ask 17 (marks_good n x bs) 0) (λ z. h (e ∙ z)))
+pub refused_site : (n : ℕ) (l : Lengths) (sound : Bool) (x bs : List ℕ) (q : ℕ) → q ≡ site_refusal n l (store_length bs) sound 0 → (q ≡ 0 → ⊥)
+    → q ≡ mark_refusal n l sound x bs 0
+unfolding mark_refusal
+refused_site n l sound x bs q e h = e ∙ sym (site_stops n l (store_length bs) sound (ask 17 (marks_good n x bs) 0) (λ z. h (e ∙ z)))
 
-  pub site_is_good : q ≡ 0 → SiteGood n l (store_length bs) sound
-  site_is_good h = (site_zero n l (store_length bs) sound 0 (sym e ∙ h)).0
+module _ (n : ℕ) (l : Lengths) (sound : Bool) (x bs : List ℕ) (e : 0 ≡ site_refusal n l (store_length bs) sound 0) where
+  pub site_is_good : SiteGood n l (store_length bs) sound
+  site_is_good = (site_zero n l (store_length bs) sound 0 (sym e)).0
 
   -- 17
-  asked_17 : q ≡ 0 → (t : Bool) → marks_good n x bs ≡ t → ask 17 t 0 ≡ mark_refusal n l sound x bs 0
+  asked_17 : (t : Bool) → marks_good n x bs ≡ t → ask 17 t 0 ≡ mark_refusal n l sound x bs 0
   unfolding mark_refusal
-  asked_17 h t f = sym (ap (λ (b : Bool). ask 17 b 0) f) ∙ sym (site_yes n l (store_length bs) sound (ask 17 (marks_good n x bs) 0) (site_is_good h))
+  asked_17 t f = sym (ap (λ (b : Bool). ask 17 b 0) f) ∙ sym (site_yes n l (store_length bs) sound (ask 17 (marks_good n x bs) 0) site_is_good)
 
-  pub not_store : q ≡ 0 → is_store n bs ≡ false → 17 ≡ mark_refusal n l sound x bs 0
+  pub not_store : is_store n bs ≡ false → 17 ≡ mark_refusal n l sound x bs 0
   unfolding marks_good ask
-  not_store h f = asked_17 h false (ap (λ (b : Bool). b && is_name x) f)
+  not_store f = asked_17 false (ap (λ (b : Bool). b && is_name x) f)
 
-  pub not_named : q ≡ 0 → is_store n bs ≡ true → is_name x ≡ false → 17 ≡ mark_refusal n l sound x bs 0
+  pub not_named : is_store n bs ≡ true → is_name x ≡ false → 17 ≡ mark_refusal n l sound x bs 0
   unfolding marks_good ask
-  not_named h f g = asked_17 h false (ap₂ {C = Bool} (λ b d. b && d) f g)
+  not_named f g = asked_17 false (ap₂ {C = Bool} (λ b d. b && d) f g)
 
-  pub all_good : q ≡ 0 → is_store n bs ≡ true → is_name x ≡ true → 0 ≡ mark_refusal n l sound x bs 0
+  pub all_good : is_store n bs ≡ true → is_name x ≡ true → 0 ≡ mark_refusal n l sound x bs 0
   unfolding marks_good ask
-  all_good h f g = asked_17 h true (ap₂ {C = Bool} (λ b d. b && d) f g)
+  all_good f g = asked_17 true (ap₂ {C = Bool} (λ b d. b && d) f g)
 
 pub good_size : (n : ℕ) (l : Lengths) (others sound : Bool) → SiteGood n l others sound → size_good n ≡ true
 good_size n l others sound g = true_size_good n g.lent.least g.lent.most

@@ -24,12 +24,10 @@ fn is_alphanumeric(c: u8) -> bool
 fn is_padded(name: &[u8]) -> bool
     ensures { result ≡ alphanumerics_then_spaces name.now }
 {
-    let mut i: usize = 0;
-    while i < name.len() {
+    for i in 0..name.len() {
         if !is_alphanumeric(name[i]) {
             return zeros::are_all(&name[i..], 32);
         }
-        i += 1;
     }
     true
 }
@@ -51,8 +49,7 @@ pub fn is_name(name: &[u8]) -> bool
 pub fn is_before(a: &[u8], b: &[u8]) -> bool
     ensures { result ≡ before a.now b.now }
 {
-    let mut i: usize = 0;
-    while i < a.len() {
+    for i in 0..a.len() {
         if b.len() <= i {
             return false;
         }
@@ -64,7 +61,6 @@ pub fn is_before(a: &[u8], b: &[u8]) -> bool
         if x != y {
             return false;
         }
-        i += 1;
     }
-    i < b.len()
+    a.len() < b.len()
 }

@@ -34,7 +34,7 @@ pub(crate) fn is_mark(n: u32, place: &[u8]) -> bool
     if PLACE < end {
         return false;
     }
-    if reader::refusal(n, &place[NAME..end]) != 0 {
+    if let Err(_) = reader::ask(n, &place[NAME..end]) {
         return false;
     }
     zeros::are_zeros(&place[end..])

@@ -11,9 +11,7 @@ pub(crate) fn move_up(kept: &mut [u8], from: usize, to: usize)
     requires { (from ≤ to) × (to + place_bytes ≤ length kept.old) }
     ensures { kept.new ≡ moved_up kept.old from to }
 {
-    let mut i: usize = to;
-    while from < i {
-        i -= 1;
+    for i in (from..to).rev() {
         kept[i + PLACE] = kept[i];
     }
 }
@@ -23,9 +21,7 @@ pub(crate) fn move_down(kept: &mut [u8], from: usize, to: usize)
     requires { (place_bytes ≤ from) × (from ≤ to) × (to ≤ length kept.old) }
     ensures { kept.new ≡ moved_down kept.old from to }
 {
-    let mut i: usize = from;
-    while i < to {
+    for i in from..to {
         kept[i - PLACE] = kept[i];
-        i += 1;
     }
 }

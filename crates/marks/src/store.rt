@@ -2,17 +2,18 @@
 ghost use Rattle.std.specs.Prelude.{◌≡◌, ◌≤◌, ◌<◌};
 ghost use Rattle.lists.specs.Kit.{true, length};
 ghost use Rattle.mesh.specs.Limits.{size_good};
-ghost use Rattle.mesh.specs.Lent.{lent};
+ghost use Rattle.mesh.specs.Lent.{read_of};
 ghost use Rattle.mesh.specs.Sound.{sound};
 ghost use Rattle.mesh.specs.Marks.{places, store_bytes, before, name_at, marks_in, is_store};
 ghost use Rattle.mesh.specs.MarkPlaces.{rank};
-ghost use Rattle.calls.specs.Questions.{lengths_of};
+ghost use Rattle.calls.specs.{Answers.{call_number}, Questions.{lengths_of}};
 ghost use Rattle.calls.specs.Marks.{mark_refusal};
-ghost use Rattle.marks.specs.Store.{last_name, Counted, Located};
+ghost use Rattle.marks.specs.Store.{last_name, Counted, Located, SpotFound};
 
 use super::places::{NAME, PLACE};
 use super::{names, places, zeros};
 use calls::Refusal;
+use mesh::Lent;
 use tables::fill;
 
 pub const PLACES: usize = 8;
@@ -24,14 +25,12 @@ fn count_used(store: &[u8]) -> usize
     requires { length store.now ≡ store_bytes }
     ensures { Counted store.now result }
 {
-    let mut i: usize = 0;
-    while i < PLACES {
+    for i in 0..PLACES {
         let at = PLACE * i;
         let end = at + PLACE;
         if zeros::are_zeros(&store[at..end]) {
             return i;
         }
-        i += 1;
     }
     PLACES
 }
@@ -56,8 +55,7 @@ fn is_store(n: u32, store: &[u8], k: usize) -> bool
     requires { (size_good n ≡ true) × Counted store.now k }
     ensures { result ≡ is_store n store.now }
 {
-    let mut i: usize = 0;
-    while i < k {
+    for i in 0..k {
         let at = PLACE * i;
         let end = at + PLACE;
         if !places::is_mark(n, &store[at..end]) {
@@ -66,7 +64,6 @@ fn is_store(n: u32, store: &[u8], k: usize) -> bool
         if !is_rising(store, i) {
             return false;
         }
-        i += 1;
     }
     let rest = PLACE * k;
     zeros::are_zeros(&store[rest..])
@@ -77,49 +74,32 @@ fn rank_of(store: &[u8], k: usize, name: &[u8]) -> usize
     requires { Counted store.now k }
     ensures { (result ≡ rank name.now (marks_in store.now)) × (result ≤ k) }
 {
-    let mut i: usize = 0;
-    while i < k {
+    for i in 0..k {
         let at = PLACE * i;
         let end = at + NAME;
         if !names::is_before(&store[at..end], name) {
             return i;
         }
-        i += 1;
     }
     k
 }
 
-// What questions 1, 2, 3 and 17 come to, and where the number is 0 the spot of a name: how many places are used, how many names stand before
-// it, and whether the next one is the name.
+// Where a name stands: how many places are used, how many names stand before it, and whether the next one is the name.
 #[derive(Clone, Copy)]
 pub struct Spot {
-    pub number: u32,
     pub used: usize,
     pub rank: usize,
     pub there: bool,
 }
 
-// No spot is looked for.
-fn refused(number: u32) -> Spot
-    ensures { result.number ≡ number }
-{
-    Spot {
-        number,
-        used: 0,
-        rank: 0,
-        there: false,
-    }
-}
-
 // Finds the spot of the name.
 fn locate(store: &[u8], used: usize, name: &[u8]) -> Spot
     requires { Counted store.now used }
-    ensures { (result.number ≡ 0) × Located store.now name.now result.used result.rank result.there }
+    ensures { Located store.now name.now result.used result.rank result.there }
 {
     let rank = rank_of(store, used, name);
     if rank == used {
         return Spot {
-            number: 0,
             used,
             rank,
             there: false,
@@ -127,38 +107,28 @@ fn locate(store: &[u8], used: usize, name: &[u8]) -> Spot
     }
     let at = PLACE * rank;
     let end = at + NAME;
-    let there = fill::same8(&store[at..end], name);
     Spot {
-        number: 0,
         used,
         rank,
-        there,
+        there: fill::is_same(&store[at..end], name),
     }
 }
 
-// Questions 1, 2, 3 and 17 of a call on marks, and the spot of the name.
-pub fn spot_of(
-    n: u32,
-    links: &[u8],
-    numbers: &[u8],
-    order: &[u16],
-    name: &[u8],
-    store: &[u8],
-) -> Spot
-    ensures asked { result.number ≡ mark_refusal n (lengths_of (lent links.now numbers.now order.now))
-        (sound n (lent links.now numbers.now order.now)) name.now store.now 0 }
-    ensures located { result.number ≡ 0 → Located store.now name.now result.used result.rank result.there }
+// The spot of the name. Refused by questions 1, 2, 3 and 17 of a call on marks.
+pub fn spot_of(t: &Lent, name: &[u8], store: &[u8]) -> Result<Spot, Refusal>
+    ensures asked { call_number result ≡ mark_refusal t.now.radios (lengths_of (read_of t.now)) (sound t.now.radios (read_of t.now))
+        name.now store.now 0 }
+    ensures located { SpotFound store.now name.now result }
 {
-    let number = soundness::refusal(n, links, numbers, order, store.len() == STORE);
-    if number != 0 {
-        return refused(number);
+    if let Err(refusal) = soundness::ask(t, store.len() == STORE) {
+        return Err(refusal);
     }
     let used = count_used(store);
-    if !is_store(n, store, used) {
-        return refused(Refusal::MARK);
+    if !is_store(t.radios, store, used) {
+        return Err(Refusal::Mark);
     }
     if !names::is_name(name) {
-        return refused(Refusal::MARK);
+        return Err(Refusal::Mark);
     }
-    locate(store, used, name)
+    Ok(locate(store, used, name))
 }

@@ -8,12 +8,10 @@ ghost use Rattle.mesh.specs.Marks.{is_zeros};
 pub fn are_all(bytes: &[u8], x: u8) -> bool
     ensures { result ≡ all (λ (d : ℕ). eqb d x) bytes.now }
 {
-    let mut i: usize = 0;
-    while i < bytes.len() {
-        if bytes[i] != x {
+    for d in bytes {
+        if *d != x {
             return false;
         }
-        i += 1;
     }
     true
 }
@@ -23,10 +21,8 @@ fn join_zeros(bytes: &[u8]) -> bool
     ensures { result ≡ is_zeros bytes.now }
 {
     let mut joined: u8 = 0;
-    let mut i: usize = 0;
-    while i < bytes.len() {
-        joined = joined | bytes[i];
-        i += 1;
+    for d in bytes {
+        joined = joined | *d;
     }
     joined == 0
 }

@@ -1,8 +1,9 @@
-// What a site is: its description with the three limits, and the record of a shell tree's node.
+// What a site is: its description with the three limits, its tables as a call is lent them to read, and the record of a shell tree's node.
 // The definitions of document 01 are in specs/, their theory in proofs/. Nothing is refused here: there is no call.
 #![tactic(auto)]
 
-ghost use Rattle.std.specs.Prelude.{◌≡◌};
+ghost use Rattle.std.specs.Prelude.{◌≡◌, ◌<◌};
+ghost use Rattle.lists.specs.Kit.{ℕ, get_or};
 ghost use Rattle.mesh.specs.Limits.{max_radios, max_neighbours, row_bytes};
 
 // The description of a site: how many radios it has.
@@ -45,6 +46,18 @@ impl Site {
     {
         Site::ROW_BYTES
     }
+}
+
+// Links, numbers and order of so many radios, as a call is lent them to read. What their entries may be is said of every such struct.
+#[derive(Clone, Copy)]
+pub struct Lent<'a> {
+    pub radios: u32,
+    pub links: &'a [u8],
+    pub numbers: &'a [u8],
+    pub order: &'a [u16],
+    ghost link_bytes: { (i : ℕ) → get_or links.now i 0 < 256 },
+    ghost number_bytes: { (i : ℕ) → get_or numbers.now i 0 < 256 },
+    ghost order_entries: { (i : ℕ) → get_or order.now i 0 < 65536 },
 }
 
 // A node of the shell tree.

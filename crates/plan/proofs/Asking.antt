@@ -82,6 +82,10 @@ module _ (up : Bool) (n a b : ℕ) (t : Tables) (w : ℕ) (ps hs : List ℕ) (q 
     unfolding lengths_of
     ends_room = (good.lent.most, good.lent.lengths.links, right.rows)
 
+    pub asked_order : length t.order ≡ n
+    unfolding lengths_of
+    asked_order = good.lent.lengths.order
+
     pub asked_ends : ends_refusal max_neighbours up n a b g ≡ R
     asked_ends = sym (site_later_yes n (lengths_of t) (answer_length n w) (sound n t) q asked.number _ zero)
 

@@ -6,7 +6,7 @@ use Rattle.calls.specs.Questions.{lengths_of, answer_length, ends_refusal}
 use Rattle.soundness.specs.Checks.{Asked}
 use Rattle.calls.specs.Chains.{link_refusal}
 use Rattle.plan.specs.{Plans.{Ready, Planned, plan_of}, Asked.{PlanContract}}
-use Rattle.plan.proofs.Asking.{asked_no, asked_ends, asked_ready}
+use Rattle.plan.proofs.Asking.{asked_no, asked_order, asked_ends, asked_ready}
 
 -- ---- the plan: q is the number of questions 1 to 3, r that of 4 to 7
 
@@ -25,20 +25,20 @@ module _ (up : Bool) (n a b : ℕ) (t : Tables) (w : ℕ) (before ps hs : List �
     pub plan_refused_ends : (r ≡ 0 → ⊥) → PlanContract up n a b t w before r 0 0 0 before
     plan_refused_ends h = refused r number_is h
 
-    module _ (lp : max_radios ≤ length ps) (lh : max_radios ≤ length hs) (yes : r ≡ 0) where
-      ready : Ready up n a b t ps hs
-      ready = asked_ready up n a b t w ps hs q asked zero lp lh (sym ends ∙ yes)
-
+    module _ (yes : r ≡ 0) where
       -- the order is as long as the site has radios
-      pub plan_ready : Ready up (length t.order) a b t ps hs
-      plan_ready = subst (λ (k : ℕ). Ready up k a b t ps hs) (sym ready.order_length) ready
+      pub plan_ready : max_radios ≤ length ps → max_radios ≤ length hs → Ready up (length t.order) a b t ps hs
+      plan_ready lp lh =
+          subst (λ (k : ℕ). Ready up k a b t ps hs) (sym (asked_order up n a b t w ps hs q asked zero))
+          (asked_ready up n a b t w ps hs q asked zero lp lh (sym ends ∙ yes))
 
       pub plan_made : (start size taken : ℕ) (stretch : List ℕ) → Planned up a b (graph_in (length t.order) t.links) t.order (plan_of start size taken)
           stretch
           → PlanContract up n a b t w before r start size taken stretch
       plan_made start size taken stretch d = record {
         number = number_is;
-        planned = λ z. subst (λ (k : ℕ). Planned up a b (graph_in k t.links) t.order (plan_of start size taken) stretch) ready.order_length d;
+        planned = λ z. subst (λ (k : ℕ). Planned up a b (graph_in k t.links) t.order (plan_of start size taken) stretch)
+            (asked_order up n a b t w ps hs q asked zero) d;
         refused = λ h. absurd (h yes);
       }
 

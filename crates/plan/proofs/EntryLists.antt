@@ -85,9 +85,6 @@ pub record SetEntries (words : List ℕ) (first : ℕ) (tail : List ℕ) (taken 
   pub listing : EntriesListing first tail taken old (set_places words) (places_from words k) at list
 
 module _ (ws : List ℕ) (first : ℕ) (tail : List ℕ) (taken : ℕ) (old : List ℕ) where
-  pub set_entries_none : Stands first (length tail) (set_places ws) → SetEntries ws first tail taken old taken 0 old
-  set_entries_none h = record { low = omega arith; few = omega arith; listing = entries_none first tail taken old (set_places ws) h }
-
   module _ (at k : ℕ) (list : List ℕ) (l : k < 8) (h : SetEntries ws first tail taken old at k list) where
     word_digit : (m : ℕ) → m < 64 → in_set ws (64 * k + m) ≡ digit (get_or ws k 0) m
     unfolding in_set

@@ -119,14 +119,15 @@ module _ {a b : ℕ} {ts ns os ps cs : List ℕ} (r : Ready false (length os) a 
     pub fall_release : Releasable ns ps k near cs
     fall_release = ends_releasable k call.3
 
-    pub fall_peel : (cs1 fs1 : List ℕ) (room : ℕ) → cs1 ≡ released ns k near cs → fs1 ≡ places_released ns ps k m near cs (replicate 8 0) → length os ≤ room
-        → PeelReady (call_of w x y k m) ts ns os ps cs1 fs1 room
-    fall_peel cs1 fs1 room ec ef l =
+    pub fall_peel : (cs1 fs1 : List ℕ) → cs1 ≡ released ns k near cs → fs1 ≡ places_released ns ps k m near cs (replicate 8 0)
+        → PeelReady (call_of w x y k m) ts ns os ps cs1 fs1
+    fall_peel cs1 fs1 ec ef =
         rw (ec, ef, call.0, call.1, call.2)
         (turning_ready r k call.3 m _ _ (turning k call.3 m (call.4 ∙ ap (λ (z : ℕ). z - 1) (sym call.3)) (replicate 8 0)
-        (length-replicate {A = ℕ} 8 0) (λ q lq. in_set_zeros 8 q)) room l)
+        (length-replicate {A = ℕ} 8 0) (λ q lq. in_set_zeros 8 q)))
 
     pub fall_unmoved : (taken : ℕ) (cs2 list1 : List ℕ) → PeelDone (call_of w x y k m) ts ns os taken cs2 list1 → length list1 ≡ max_radios → taken ≡ 0
-        → Planned false a b g os (plan_of 0 0 taken) list1
+        → Planned false a b g os (plan_of 0 0 0) list1
     fall_unmoved taken cs2 list1 done room z =
-        plan_unmoved r w x y k m taken cs2 list1 call.0 call.1 call.2 (call.3 ∙ level_is r) (call.4 ∙ ap (bound false) (level_is r)) done room z refl
+        rw z at
+        (plan_unmoved r w x y k m taken cs2 list1 call.0 call.1 call.2 (call.3 ∙ level_is r) (call.4 ∙ ap (bound false) (level_is r)) done room z refl)

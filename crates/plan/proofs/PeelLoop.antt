@@ -1,32 +1,29 @@
--- The loop of the peel, as its invariant: the entries written so far are taken, and p is the lowest place that fits.
-use Rattle.std.specs.Prelude.{◌≡◌, ◌⊎◌, ◌∷◌, ◌++◌, ◌+◌, ◌/◌, ◌%◌, ◌≤◌, ◌<◌}
+-- The loop of the peel, as its invariant: the entries written so far are taken. A turn takes the radio at p, the lowest place that fits.
+use Rattle.std.specs.Prelude.{None, Some, ◌≡◌, ◌⊎◌, ◌∷◌, ◌++◌, ◌+◌, ◌/◌, ◌%◌, ◌≤◌, ◌<◌}
 use Rattle.lists.{specs.Kit.{refl, sym, ap, ◌∙◌, inl, inr, Bool, true, false, not, cond, List, [], ℕ, arith}}
 use Rattle.lists.{specs.Kit.{add-one, eqb, length, get_or, set, take, replicate, length-set, length-replicate, get_or-replicate, length-take-le, take-suc-set}}
 use Rattle.lists.{specs.Kit.{eqb-true, eqb-false}, specs.Lists.{head_or, member, all, range, In}, proofs.All.{all_in}, proofs.Tests.{bool_cases, never}}
 use Rattle.lists.{proofs.Member.{in_left, in_right, in_cases, member_in, in_member, not_member}, proofs.Range.{in_range}}
 use Rattle.mesh.specs.{Limits.{max_radios}, Tables.{digit, marked, put_link}}
-use Rattle.rows.{specs.Sets.{in_set, take_out}, proofs.SetLaws.{length_take_out}}
+use Rattle.rows.{specs.Rows.{first_in}, specs.Sets.{in_set, take_out}, proofs.SetLaws.{length_take_out}, proofs.FirstLaws.{common_none, common_some}}
 use Rattle.rows.{proofs.SetLaws.{in_take_out}}
 use Rattle.plan.specs.{Turns.{released, places_released, near_left, Releasable, RowReady}, Places.{level_start, level_size}, Peels.{linked_after}}
 use Rattle.plan.specs.{Peels.{Turning, LeftSet, PeelReady, PeelDone, stretch_at}}
-use Rattle.plan.proofs.{TurnLoops.{length_released}, LevelLaws.{first_marked_least}, PeelTurns.{turns_end, taken_below, taken_room}}
+use Rattle.plan.proofs.{LevelLaws.{first_marked_least}, PeelTurns.{turns_end, taken_below, taken_room}}
 use Rattle.plan.proofs.{PeelTurns.{left_releasable, left_turns}}
 use Rattle.plan.specs.Turns.{call_of}
 use Rattle.rows.specs.Sets.{common}
 
-pub record PeelFrom (up : Bool) (a b k m : ℕ) (links numbers order places cs0 fs0 list0 cs fs list : List ℕ) (taken p : ℕ) : Type 0 where
-  pub long_counters : length cs ≡ length cs0
-  pub long_fits : length fs ≡ length fs0
-  pub long_list : length list ≡ length list0
+pub record PeelFrom (up : Bool) (a b k m : ℕ) (links numbers order places cs fs list : List ℕ) (taken : ℕ) : Type 0 where
+  pub long_list : length list ≡ max_radios
   pub room : taken ≤ level_size numbers k
-  pub next : p ≡ head_or max_radios (common fs fs)
   pub turning : Turning (linked_after up a b (length order) links) m order places (stretch_at (level_start numbers k) (level_size numbers k))
       (take taken list) cs fs
 
 -- a set of what is not taken
-abbrev pub MaskedFrom : (up : Bool) → (a b k m : ℕ) → (links numbers order places cs0 fs0 list0 left cs fs list : List ℕ) → (taken p : ℕ) → Type 0
-MaskedFrom up a b k m links ns os ps cs0 fs0 list0 left cs fs list taken p =
-    PeelFrom up a b k m links ns os ps cs0 fs0 list0 cs fs list taken p × LeftSet (take taken list) left
+abbrev pub MaskedFrom : (up : Bool) → (a b k m : ℕ) → (links numbers order places left cs fs list : List ℕ) → (taken : ℕ) → Type 0
+MaskedFrom up a b k m links ns os ps left cs fs list taken =
+    PeelFrom up a b k m links ns os ps cs fs list taken × LeftSet (take taken list) left
 
 -- ---- what is not taken, as a set
 
@@ -64,41 +61,44 @@ left_set_more {taken} {left} v l h = record {
             out (inr (inl q)) = eqb-false v w e q
             out (inr (inr q)) = q
 
-module _ {up : Bool} {a b k m : ℕ} {links ns os ps cs0 fs0 list0 : List ℕ}
-    (ready : PeelReady (call_of up a b k m) links ns os ps cs0 fs0 (length list0)) where
-  peel_none : (p : ℕ) → p ≡ head_or max_radios (common fs0 fs0) → PeelFrom up a b k m links ns os ps cs0 fs0 list0 cs0 fs0 list0 0 p
-  peel_none p e = record {
-    long_counters = refl;
-    long_fits = refl;
-    long_list = refl;
+module _ {up : Bool} {a b k m : ℕ} {links ns os ps cs0 fs0 : List ℕ}
+    (ready : PeelReady (call_of up a b k m) links ns os ps cs0 fs0) where
+  peel_none : (list : List ℕ) → length list ≡ max_radios → PeelFrom up a b k m links ns os ps cs0 fs0 list 0
+  peel_none list e = record {
+    long_list = e;
     room = omega arith;
-    next = e;
     turning = ready.turning;
   }
 
-  pub masked_none : (p : ℕ) → p ≡ head_or max_radios (common fs0 fs0)
-      → MaskedFrom up a b k m links ns os ps cs0 fs0 list0 (replicate 8 18446744073709551615) cs0 fs0 list0 0 p
-  masked_none p e = (peel_none p e, left_set_none)
+  pub masked_none : (list : List ℕ) → length list ≡ max_radios
+      → MaskedFrom up a b k m links ns os ps (replicate 8 18446744073709551615) cs0 fs0 list 0
+  masked_none list e = (peel_none list e, left_set_none)
 
-  module _ {cs fs list : List ℕ} {taken p : ℕ} (h : PeelFrom up a b k m links ns os ps cs0 fs0 list0 cs fs list taken p) where
+  module _ {cs fs list : List ℕ} {taken : ℕ} (h : PeelFrom up a b k m links ns os ps cs fs list taken) where
     long_taken : length (take taken list) ≡ taken
-    long_taken = length-take-le taken list (omega (arith, h.room, ready.list_long, h.long_list))
+    long_taken = length-take-le taken list (omega (arith, h.room, ready.level.fits, ready.level.small, h.long_list))
 
-    module _ (some : p < max_radios) where
+    module _ {p : ℕ} (found : Some p ≡ first_in (common fs fs)) where
+      some : p < max_radios
+      some = (common_some fs fs found).0
+
+      next : p ≡ head_or max_radios (common fs fs)
+      next = sym (common_some fs fs found).1
+
       abbrev v : ℕ
       v = get_or os p 0
 
       pub peel_below : p < length os
-      peel_below = taken_below ready.level m h.turning p h.next some
+      peel_below = taken_below ready.level m h.turning p next some
 
       pub peel_room : taken < level_size ns k
-      peel_room = omega (arith, taken_room ready.level m h.turning p h.next some, long_taken)
+      peel_room = omega (arith, taken_room ready.level m h.turning p next some, long_taken)
 
       pub peel_few : taken < max_radios
       peel_few = omega (arith, peel_room, ready.level.fits, ready.level.small)
 
       peel_write : taken < length list
-      peel_write = omega (arith, peel_room, ready.list_long, h.long_list)
+      peel_write = omega (arith, peel_few, h.long_list)
 
       v_below : v < length os
       v_below = ready.level.radios p peel_below
@@ -118,21 +118,18 @@ module _ {up : Bool} {a b k m : ℕ} {links ns os ps cs0 fs0 list0 : List ℕ}
       }
 
       -- one radio more, with what its turn released
-      peel_turn : (near cs1 fs1 : List ℕ) (p1 : ℕ)
+      peel_turn : (near cs1 fs1 : List ℕ)
           → Turning (linked_after up a b (length os) links) m os ps (stretch_at (level_start ns k) (level_size ns k)) (take taken list ++ (v ∷ []))
           (released ns k near cs) (places_released ns ps k m near cs (take_out p fs))
-          → cs1 ≡ released ns k near cs → fs1 ≡ places_released ns ps k m near cs (take_out p fs) → p1 ≡ head_or max_radios (common fs1 fs1)
-          → PeelFrom up a b k m links ns os ps cs0 fs0 list0 cs1 fs1 (set list taken v) (taken + 1) p1
-      peel_turn near cs1 fs1 p1 more ec ef e =
+          → cs1 ≡ released ns k near cs → fs1 ≡ places_released ns ps k m near cs (take_out p fs)
+          → PeelFrom up a b k m links ns os ps cs1 fs1 (set list taken v) (taken + 1)
+      peel_turn near cs1 fs1 more ec ef =
           let turned : Turning (linked_after up a b (length os) links) m os ps (stretch_at (level_start ns k) (level_size ns k))
           (take (taken + 1) (set list taken v)) cs1 fs1 =
           rw (written, ec, ef) more in
           record {
-            long_counters = ap length ec ∙ length_released ns k near cs ∙ h.long_counters;
-            long_fits = turned.fits_long ∙ sym ready.turning.fits_long;
             long_list = length-set list taken v ∙ h.long_list;
             room = omega (arith, peel_room);
-            next = e;
             turning = turned;
           }
 
@@ -143,16 +140,19 @@ module _ {up : Bool} {a b k m : ℕ} {links ns os ps cs0 fs0 list0 : List ℕ}
         less_set = left_set_more v (omega (arith, v_below, ready.level.small)) is
 
         pub masked_releasable : Releasable ns ps k (near_left (put_link up a b links) v left) cs
-        masked_releasable = left_releasable ready.level m h.turning p h.next some (put_link up a b links) row_marks left is
+        masked_releasable = left_releasable ready.level m h.turning p next some (put_link up a b links) row_marks left is
 
-        pub masked_turn : (left1 cs1 fs1 : List ℕ) (p1 : ℕ) → left1 ≡ take_out v left → cs1 ≡ released ns k (near_left (put_link up a b links) v left) cs
+        pub masked_turn : (left1 cs1 fs1 : List ℕ) → left1 ≡ take_out v left → cs1 ≡ released ns k (near_left (put_link up a b links) v left) cs
             → fs1 ≡ places_released ns ps k m (near_left (put_link up a b links) v left) cs (take_out p fs)
-            → p1 ≡ head_or max_radios (common fs1 fs1) → MaskedFrom up a b k m links ns os ps cs0 fs0 list0 left1 cs1 fs1 (set list taken v) (taken + 1) p1
-        masked_turn left1 cs1 fs1 p1 el ec ef e = (
-          peel_turn (near_left (put_link up a b links) v left) cs1 fs1 p1
-              (left_turns ready.level m h.turning p h.next some (put_link up a b links) row_marks left is) ec ef e,
+            → MaskedFrom up a b k m links ns os ps left1 cs1 fs1 (set list taken v) (taken + 1)
+        masked_turn left1 cs1 fs1 el ec ef = (
+          peel_turn (near_left (put_link up a b links) v left) cs1 fs1
+              (left_turns ready.level m h.turning p next some (put_link up a b links) row_marks left is) ec ef,
           rw (written, el) less_set,
         )
 
-    pub peel_end : max_radios ≤ p → PeelDone (call_of up a b k m) links ns os taken cs list
-    peel_end l = record { fits = h.room; peels = turns_end ready.level m h.turning (λ q lq. first_marked_least fs p h.next q (omega arith) lq) }
+    pub peel_end : None ≡ first_in (common fs fs) → PeelDone (call_of up a b k m) links ns os taken cs list
+    peel_end none = record {
+      fits = h.room;
+      peels = turns_end ready.level m h.turning (λ q lq. first_marked_least fs max_radios (sym (common_none fs fs none)) q lq lq);
+    }

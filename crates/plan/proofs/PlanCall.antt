@@ -37,13 +37,12 @@ module _ {u : Bool} {a b : ℕ} {ts ns os ps cs : List ℕ} (r : Ready u (length
     pub plan_begin : BeginReady (call_of w x y k m) from many ns os cs
     plan_begin = rw (call.0, call.1, call.2, at.0, at.1) (begin_ready r k call.3 m)
 
-    pub plan_peel : (cs1 fs1 : List ℕ) (room : ℕ) → (cs1 ≡ ends_counted w x y k ns cs)
-        × (fs1 ≡ places_fitting os (ends_counted w x y k ns cs) m (range from many) (replicate 8 0)) → length os ≤ room
-        → PeelReady (call_of w x y k m) ts ns os ps cs1 fs1 room
-    plan_peel cs1 fs1 room e l =
+    pub plan_peel : (cs1 fs1 : List ℕ) → (cs1 ≡ ends_counted w x y k ns cs)
+        × (fs1 ≡ places_fitting os (ends_counted w x y k ns cs) m (range from many) (replicate 8 0))
+        → PeelReady (call_of w x y k m) ts ns os ps cs1 fs1
+    plan_peel cs1 fs1 e =
         rw (e.0, e.1, call.0, call.1, call.2, at.0, at.1)
-        (peel_ready r k call.3 m (replicate 8 0) (length-replicate {A = ℕ} 8 0) (λ q lq. in_set_zeros 8 q)
-        room l)
+        (peel_ready r k call.3 m (replicate 8 0) (length-replicate {A = ℕ} 8 0) (λ q lq. in_set_zeros 8 q))
 
     pub plan_stuck : (taken : ℕ) (cs2 list1 : List ℕ) → PeelDone (call_of w x y k m) ts ns os taken cs2 list1
         → (from + many ≤ length os) × (from + many ≤ max_radios) × (taken ≤ max_radios) × ((p : ℕ) → p < length os → get_or os p 0 < max_radios)

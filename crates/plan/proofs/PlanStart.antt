@@ -254,14 +254,13 @@ module _ {u : Bool} {a b : ℕ} {ts ns os ps cs : List ℕ} (r : Ready u (length
 
     -- counters and fitting places before the first turn
     pub turning_ready : (m : ℕ) (counters fits : List ℕ) → Turning (linked_after u a b n ts) m os ps (stretch_at start size) [] counters fits
-        → (list_room : ℕ) → n ≤ list_room → PeelReady (call_of u a b k m) ts ns os ps counters fits list_room
-    turning_ready m counters fits turning lists el = record {
+        → PeelReady (call_of u a b k m) ts ns os ps counters fits
+    turning_ready m counters fits turning = record {
       level = is_level r k ek;
       differ = r.allowed.differ;
       ends = (a_below r, b_below r);
       links_length = r.links_length;
       row_is = row_is r k;
-      list_long = omega (arith, stretch_fits r k);
       turning = turning;
     }
 
@@ -299,5 +298,5 @@ module _ {u : Bool} {a b : ℕ} {ts ns os ps cs : List ℕ} (r : Ready u (length
                     (stretch os start size) i,
               )
 
-      pub peel_ready : (list_room : ℕ) → n ≤ list_room → PeelReady (call_of u a b k m) ts ns os ps cs1 fs1 list_room
-      peel_ready lists el = turning_ready m cs1 fs1 begin_turning lists el
+      pub peel_ready : PeelReady (call_of u a b k m) ts ns os ps cs1 fs1
+      peel_ready = turning_ready m cs1 fs1 begin_turning

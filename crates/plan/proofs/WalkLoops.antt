@@ -2,10 +2,9 @@
 -- radio that stands later in the level.
 use Rattle.std.specs.Prelude.{◌≡◌, ◌⊎◌, ◌∷◌, ◌++◌, ◌+◌, ◌-◌, ◌≤◌, ◌<◌}
 use Rattle.lists.{specs.Kit.{refl, sym, ap, ◌∙◌, inl, inr, Bool, true, false, cond, List, [], ℕ, arith, eqb, length}}
-use Rattle.lists.{specs.Kit.{get_or, take, drop, length-take-le, get_or-take, take-take, paste, eqb-true, eq-eqb, ne_eqb, lt-ltb, le-ltb}, specs.Lists.{count}}
+use Rattle.lists.{specs.Kit.{get_or, take, drop, take-take, paste, eqb-true, eq-eqb, ne_eqb, lt-ltb, le-ltb}}
 use Rattle.lists.{specs.Lists.{overwrite, In}, specs.Facts.{folded}, proofs.Tests.{bool_cases}, proofs.Member.{in_get_d}, proofs.Parts.{length_cond}}
-use Rattle.lists.{proofs.Loops.{CountedFrom, counted_turn, counted_end, length_folded}}
-use mir.Val.{bool_byte}
+use Rattle.lists.{proofs.Loops.{length_folded}}
 use borrow.Rule.Slice.PartMut.{mid_of, put_mid, mid_len}
 use Rattle.mesh.{specs.Limits.{max_radios}}
 use Rattle.plan.proofs.{Pasted.{put_part}}
@@ -17,21 +16,9 @@ use Rattle.rows.specs.Sets.{in_set, put_in}
 -- ---- listed radios
 
 -- a listed radio is known
-pub near_known : (near : List ℕ) (k a b d i : ℕ) → k ≤ length near → i < k → Known a b d (take k near)
+pub near_known : (near : List ℕ) (a b d i : ℕ) → i < length near → Known a b d near
     → (get_or near i 0 < a) × (get_or near i 0 < b) × (get_or near i 0 < d)
-near_known near k a b d i room l h =
-    let is : get_or (take k near) i 0 ≡ get_or near i 0 = get_or-take k near i 0 l in
-    rw (← is) (h (get_or (take k near) i 0) (in_get_d (take k near) i (omega (arith, length-take-le k near room))))
-
--- ---- counting
-
-pub left_turn : (f : ℕ → Bool) (near : List ℕ) (k n i : ℕ) (r : Bool) → k ≤ length near → i < k → r ≡ f (get_or near i 0)
-    → CountedFrom f (take k near) n i → CountedFrom f (take k near) (n + bool_byte r) (i + 1)
-left_turn f near k n i r room l e h =
-    rw (e ∙ ap f (sym (get_or-take k near i 0 l))) (counted_turn f (take k near) n i (omega (arith, length-take-le k near room)) h)
-
-pub left_end : (f : ℕ → Bool) (near : List ℕ) (k n i : ℕ) → k ≤ length near → i ≡ k → CountedFrom f (take k near) n i → n ≡ count f (take k near)
-left_end f near k n i room e h = counted_end f (take k near) n i (e ∙ sym (length-take-le k near room)) h
+near_known near a b d i l h = h (get_or near i 0) (in_get_d near i l)
 
 -- ---- passing
 

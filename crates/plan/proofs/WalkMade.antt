@@ -1,10 +1,10 @@
 -- The facts that the walk's code hands from call to call, as the code names its values.
 use Rattle.std.specs.Prelude.{◌≡◌, ◌+◌, ◌-◌, ◌≤◌, ◌<◌}
-use Rattle.lists.specs.{Kit.{sym, ap, ◌∙◌, true, false, List, ℕ, arith, length, get_or, set, take}, Lists.{count, head_or}}
+use Rattle.lists.specs.{Kit.{sym, ap, ◌∙◌, true, false, List, ℕ, arith, length, length-take-le, get_or, set, take}, Lists.{count, head_or}}
 use Rattle.mesh.specs.{Limits.{max_radios, max_neighbours}, Tables.{put_link}}
 use Rattle.rows.specs.{Rows.{neighbours_of}, Sets.{put_in, take_out}}
 use Rattle.plan.specs.{Turns.{released, places_released, Releasable, RowReady, ListsNeighbours}, Walks.{is_left, places_touched, radios_of, Known}}
-use Rattle.plan.specs.{Walks.{WalkSite, WalkState, rise_of, part_of, written}}
+use Rattle.plan.specs.{Walks.{WalkSite, WalkState, rise_of, part_of, candidates}}
 use Rattle.rows.specs.Sets.{in_set, common}
 use Rattle.plan.proofs.WalkTurns as turned
 
@@ -14,13 +14,13 @@ module _ {a b k first size : ℕ} {ts ns tail ps : List ℕ} (s : WalkSite (rise
 
   -- listed neighbours of a radio are known
   pub listed_known : (v r : ℕ) (near : List ℕ) (h : ℕ) → v < radios_of first tail → radios_of first tail ≤ h → ListsNeighbours us v r near
-      → length near ≡ max_neighbours → (r ≤ length near) × (r ≤ max_neighbours) × Known (length ns) (length ps) h (take r near)
+      → length near ≡ max_neighbours → (length (take r near) ≤ max_neighbours) × Known (length ns) (length ps) h (take r near)
   listed_known v r near h l long e room =
       let few : r ≤ max_neighbours = omega (arith, e.counted, s.row_few v l) in
-      (omega (arith, few), few, rw e.listed (turned.near_radios s v l h long))
+      (omega (arith, few, length-take-le r near (omega (arith, few))), rw e.listed (turned.near_radios s v l h long))
 
   module _ {front taken : ℕ} {hs cs ds ss list : List ℕ} (st : WalkState (rise_of a b k) (part_of first size) ts tail ps front taken
-      (written hs cs ds ss list)) where
+      (candidates hs cs ds ss) list) where
     -- ---- the front is looked at
 
     module _ (free : (front < size) × ((q : ℕ) → q < front → in_set ds (first + q) ≡ false)) where
@@ -34,15 +34,12 @@ module _ {a b k first size : ℕ} {ts ns tail ps : List ℕ} (s : WalkSite (rise
       look_below = turned.front_below s st v v_is free.0 free.1
 
       module _ (r : ℕ) (near : List ℕ) (listed : ListsNeighbours us v r near) (ds0 : List ℕ) (cleared : ds0 ≡ take_out (first + front) ds) where
-        pub look_release : length near ≡ max_neighbours → (r ≤ length near) × Releasable hs ps 1 (take r near) cs
-        look_release room = (
-          omega (arith, listed.counted, s.row_few v look_below),
-          rw listed.listed (turned.look_releasable s st v v_is free.0 free.1),
-        )
+        pub look_release : Releasable hs ps 1 (take r near) cs
+        look_release = rw listed.listed (turned.look_releasable s st v v_is free.0 free.1)
 
         pub look_holds : (c : ℕ) (ds1 ss1 : List ℕ) → c ≡ count (is_left k (first + front) ns ps hs) (take r near) → k < c
             → ds1 ≡ places_touched k (first + front) ns ps (take r near) ds0 → ss1 ≡ put_in (first + front) ss
-            → WalkState (rise_of a b k) (part_of first size) ts tail ps (front + 1) taken (written (set hs v 1) (set cs v c) ds1 ss1 list)
+            → WalkState (rise_of a b k) (part_of first size) ts tail ps (front + 1) taken (candidates (set hs v 1) (set cs v c) ds1 ss1) list
         look_holds c ds1 ss1 e big e1 e2 =
             let counted : c ≡ count (is_left k (first + front) ns ps hs) (neighbours_of us v) =
             e ∙ ap (count (is_left k (first + front) ns ps hs)) listed.listed in
@@ -52,7 +49,7 @@ module _ {a b k first size : ℕ} {ts ns tail ps : List ℕ} (s : WalkSite (rise
 
         pub look_takes : (c : ℕ) (cs1 ds1 : List ℕ) → c ≡ count (is_left k (first + front) ns ps hs) (take r near) → c ≤ k
             → cs1 ≡ released hs 1 (take r near) cs → ds1 ≡ places_released hs ps 1 k (take r near) cs ds0
-            → WalkState (rise_of a b k) (part_of first size) ts tail ps (front + 1) (taken + 1) (written hs cs1 ds1 ss (set list taken v))
+            → WalkState (rise_of a b k) (part_of first size) ts tail ps (front + 1) (taken + 1) (candidates hs cs1 ds1 ss) (set list taken v)
         look_takes c cs1 ds1 e small e0 e1 =
             let counters : cs1 ≡ released hs 1 (neighbours_of us v) cs = e0 ∙ rw listed.listed in
             let due : ds1 ≡ places_released hs ps 1 k (neighbours_of us v) cs (take_out (first + front) ds) = e1 ∙ rw (listed.listed, cleared) in
@@ -88,5 +85,5 @@ module _ {a b k first size : ℕ} {ts ns tail ps : List ℕ} (s : WalkSite (rise
 
       pub back_made : (cs1 ds1 ss1 : List ℕ) → cs1 ≡ released (set hs y 0) 1 (neighbours_of us y) cs
           → ds1 ≡ places_released (set hs y 0) ps 1 k (neighbours_of us y) cs (take_out p ds) → ss1 ≡ take_out p ss
-          → WalkState (rise_of a b k) (part_of first size) ts tail ps front (taken + 1) (written (set hs y 0) cs1 ds1 ss1 (set list taken y))
+          → WalkState (rise_of a b k) (part_of first size) ts tail ps front (taken + 1) (candidates (set hs y 0) cs1 ds1 ss1) (set list taken y)
       back_made cs1 ds1 ss1 e0 e1 e2 = rw (e0, e1, e2) (turned.back_done s st p fallen.0 fallen.1 y y_is)

@@ -398,8 +398,8 @@ module _ {a b : ℕ} {ts ns os ps cs : List ℕ} (r : Ready true (length os) a b
       walked_lent at front taken list e done = rw (e, ef) (walked_plan front taken list (rw (lent_is, ef) at done))
 
 -- a plan that moves nothing, as the code names its values
-pub planned_as : {a b from at front taken : ℕ} {g : Graph} {os list : List ℕ} → (at ≡ from) × (front ≡ 0) × (taken ≡ 0)
-    → Planned true a b g os (plan_of from 0 0) list → Planned true a b g os (plan_of at front taken) list
+pub planned_as : {up : Bool} {a b from at front taken : ℕ} {g : Graph} {os list : List ℕ} → (at ≡ from) × (front ≡ 0) × (taken ≡ 0)
+    → Planned up a b g os (plan_of from 0 0) list → Planned up a b g os (plan_of at front taken) list
 planned_as e p = rw (e.0, e.1, e.2) p
 
 -- ends that have an entry in both tables

@@ -1,67 +1,24 @@
--- The walk's loop: where its turns are, its invariant, and what it comes to.
+-- The walk's loop: its turns, and what it comes to.
 --   start_state   before the first turn nothing is held, counted or due
 --   settled_is    the quick path's count
---   WalkFrom     the loop's invariant
 --   walk_end      what the loop and the listing of the candidates leave
-use Rattle.std.specs.Prelude.{◌≡◌, ◌⊎◌, ◌∷◌, ◌++◌, ◌+◌, ◌-◌, ◌≤◌, ◌<◌}
-use Rattle.lists.{specs.Kit.{refl, sym, ap, ◌∙◌, inl, inr, Bool, true, false, List, [], append-nil, ℕ, min, arith}}
-use Rattle.lists.{specs.Kit.{add-zero, ltb, leb, eqb, length, get_or, take, drop, replicate, length-replicate, length-append, drop_of_length-le}}
-use Rattle.lists.{specs.Kit.{take-append-drop, length-take-le, sets, sets-eq, length-sets, take-take, take_at, drop_at, drop-cons, paste, leb-true, leb-false}}
-use Rattle.lists.{specs.Kit.{ltb-true, ltb-false}, specs.Lists.{count, head_or}, proofs.Tests.{bool_cases, never}, proofs.Parts.{get_d_zeros}}
+use Rattle.std.specs.Prelude.{None, Some, ◌≡◌, ◌⊎◌, ◌∷◌, ◌++◌, ◌+◌, ◌-◌, ◌≤◌, ◌<◌}
+use Rattle.lists.{specs.Kit.{refl, sym, ap, ◌∙◌, inl, inr, Bool, true, false, List, [], append-nil, ℕ, arith}}
+use Rattle.lists.{specs.Kit.{add-zero, leb, eqb, length, get_or, take, drop, replicate, length-replicate, length-append, drop_of_length-le}}
+use Rattle.lists.{specs.Kit.{take-append-drop, length-take-le, sets, sets-eq, length-sets, take-take, take_at, drop_at, drop-cons, paste}}
+use Rattle.lists.{specs.Lists.{count, head_or}, proofs.Tests.{never}, proofs.Parts.{get_d_zeros}}
 use Rattle.lists.{proofs.Count.{count_append}}
 use Rattle.mesh.{specs.Limits.{max_radios}, specs.Tables.{put_link}, specs.Peel.{Peels}}
 use Rattle.rows.{specs.Rows.{neighbours_of}}
 use Rattle.walks.{specs.Walk.{Walking}, proofs.Front.{few_from_one}}
-use Rattle.plan.specs.{Turns.{ListsNeighbours}, Places.{stop_place, next_place, set_places, entries_at, Stands, MarkedPlaces}, Walks.{is_left}}
-use Rattle.plan.specs.{Walks.{radios_of, joined, WalkSite, WalkState, WalkDone, rise_of, part_of, written}}
-use Rattle.plan.proofs.{EntryLists.{marked_none, marked_stand, marked_listed}, LevelLaws.{first_marked_least}}
+use Rattle.plan.specs.{Turns.{ListsNeighbours}, Places.{next_turn, set_places, entries_at, Stands, MarkedPlaces}, Walks.{is_left}}
+use Rattle.plan.specs.{Walks.{radios_of, joined, WalkSite, WalkState, WalkDone, rise_of, part_of, candidates}}
+use Rattle.plan.proofs.{EntryLists.{marked_none, marked_stand, marked_listed}, PlaceLaws.{lowest_least, lowest_some, Turning, turn_is}}
+use Rattle.plan.specs.declared.places.Turn.{Turn, TheVariants.{Back, Ahead}}
 use Rattle.rows.proofs.SetLaws.{in_set_zeros}
 use Rattle.rows.specs.Sets.{in_set, common}
-use Rattle.plan.proofs.WordLaws.{lowest_small}
 use Rattle.walks.proofs.Turns as turns
 use Rattle.plan.proofs.WalkTurns as turned
-
--- ---- where a turn is
-
-module _ (first size front taken : ℕ) (ds : List ℕ) where
-  abbrev lowest : ℕ
-  lowest = head_or max_radios (common ds ds)
-
-  abbrev Turn : ℕ → Type 0
-  Turn p = (taken < front) × (p ≡ lowest) × ((p < first + front) ⊎ ((first + front ≤ p) × (front < size)))
-
-  pub turn_at : (p : ℕ) → p ≡ next_place first size front taken ds → p ≤ max_radios → Turn p
-  unfolding next_place
-  turn_at p e l = go (bool_cases (leb front taken)) (bool_cases (ltb lowest (first + front))) (bool_cases (leb size front))
-    where
-      go : (leb front taken ≡ true) ⊎ (leb front taken ≡ false) → (ltb lowest (first + front) ≡ true) ⊎ (ltb lowest (first + front) ≡ false)
-          → (leb size front ≡ true) ⊎ (leb size front ≡ false) → Turn p
-      go (inl a) b d = let is : p ≡ stop_place = rw a at e in absurd (omega arith)
-      go (inr a) (inl b) d =
-          let is : p ≡ lowest = rw (a, b) at e in (leb-false front taken a, is, inl (omega (arith, is, ltb-true lowest (first + front) b)))
-      go (inr a) (inr b) (inl d) = let is : p ≡ stop_place = rw (a, b, d) at e in absurd (omega arith)
-      go (inr a) (inr b) (inr d) =
-          let is : p ≡ lowest = rw (a, b, d) at e in
-          (leb-false front taken a, is, inr (omega (arith, is, ltb-false lowest (first + front) b), leb-false size front d))
-
-  -- the walk is at its end
-  pub stop_at : (p : ℕ) → p ≡ next_place first size front taken ds → stop_place ≤ p → lowest ≤ max_radios
-      → (front ≤ taken) ⊎ ((first + front ≤ lowest) × (size ≤ front))
-  unfolding next_place
-  stop_at p e l small = go (bool_cases (leb front taken)) (bool_cases (ltb lowest (first + front))) (bool_cases (leb size front))
-    where
-      go : (leb front taken ≡ true) ⊎ (leb front taken ≡ false) → (ltb lowest (first + front) ≡ true) ⊎ (ltb lowest (first + front) ≡ false)
-          → (leb size front ≡ true) ⊎ (leb size front ≡ false) → (front ≤ taken) ⊎ ((first + front ≤ lowest) × (size ≤ front))
-      go (inl a) b d = inl (leb-true front taken a)
-      go (inr a) (inl b) d = let is : p ≡ lowest = rw (a, b) at e in absurd (omega arith)
-      go (inr a) (inr b) (inl d) = inr (ltb-false lowest (first + front) b, leb-true size front d)
-      go (inr a) (inr b) (inr d) = let is : p ≡ lowest = rw (a, b, d) at e in absurd (omega arith)
-
--- the loop's invariant: so far a state of the walk, and p is where its next turn is
-pub record WalkFrom (a b k first size : ℕ) (ts tail ps hs cs ds ss list : List ℕ) (taken front p : ℕ) : Type 0 where
-  pub some : 1 ≤ front
-  pub next : p ≡ next_place first size front taken ds
-  pub state : WalkState (rise_of a b k) (part_of first size) ts tail ps front taken (written hs cs ds ss list)
 
 module _ {a b k first size : ℕ} {ts ns tail ps : List ℕ} (s : WalkSite (rise_of a b k) (part_of first size) ts ns tail ps) where
   abbrev f : ℕ → ℕ → Bool
@@ -83,7 +40,7 @@ module _ {a b k first size : ℕ} {ts ns tail ps : List ℕ} (s : WalkSite (rise
 
   pub start_state : (list : List ℕ) → length list ≡ max_radios
       → WalkState (rise_of a b k) (part_of first size) ts tail ps 0 0
-      (written (replicate max_radios 0) (replicate max_radios 0) (replicate 8 0) (replicate 8 0) list)
+      (candidates (replicate max_radios 0) (replicate max_radios 0) (replicate 8 0) (replicate 8 0)) list
   start_state list room = record {
     held_long = omega (arith, s.small, length-replicate {A = ℕ} max_radios 0);
     counters_long = omega (arith, s.small, length-replicate {A = ℕ} max_radios 0);
@@ -147,7 +104,7 @@ module _ {a b k first size : ℕ} {ts ns tail ps : List ℕ} (s : WalkSite (rise
           ∙ left ∙ sym (ap (count (f e)) tail_cut ∙ count_append (f e) (drop 1 part) above)
 
   module _ {front taken : ℕ} {hs cs ds ss list : List ℕ} (st : WalkState (rise_of a b k) (part_of first size) ts tail ps front taken
-      (written hs cs ds ss list)) where
+      (candidates hs cs ds ss) list) where
     pub front_fits : (front ≤ size) × (first + front ≤ max_radios)
     front_fits = (omega (arith, st.walking.room, turned.part_length s), omega (arith, st.walking.room, turned.part_length s, s.fits, s.small))
 
@@ -155,42 +112,49 @@ module _ {a b k first size : ℕ} {ts ns tail ps : List ℕ} (s : WalkSite (rise
     pub walk_entries : (taken ≤ max_radios) × Stands first (length tail) (set_places ss)
     walk_entries = (omega (arith, st.passed, front_fits.1), marked_stand first size tail st.stays s.fits)
 
-    module _ (p : ℕ) (turn : (p ≡ next_place first size front taken ds) × (p ≤ max_radios)) where
-      at : (taken < front) × (p ≡ head_or max_radios (common ds ds)) × ((p < first + front) ⊎ ((first + front ≤ p) × (front < size)))
-      at = turn_at first size front taken ds p turn.0 turn.1
+    -- what `next` asks
+    pub next_fits : (first + size ≤ max_radios) × (front ≤ size)
+    next_fits = (omega (arith, s.fits, s.small), front_fits.0)
 
+    step_back : (p : ℕ) → Some (Back p) ≡ next_turn first size front taken ds → (p ≡ head_or max_radios (common ds ds)) × (p < first + front)
+    step_back p e =
+        let t = turn_is first size front taken ds (Some (Back p)) e in
+        (lowest_some ds (first + size) p t.1 (omega (arith, t.2, next_fits)), t.2)
+
+    module _ (turn : Turn) (e : Some turn ≡ next_turn first size front taken ds) where
       pub step_some : taken < front
-      step_some = at.0
-
-      pub step_back : p < first + front → (p ≡ head_or max_radios (common ds ds)) × (p < first + front)
-      step_back l = (at.1, l)
-
-      pub step_ahead : first + front ≤ p → front < size
-      step_ahead l = go at.2
+      step_some = go turn (turn_is first size front taken ds (Some turn) e)
         where
-          go : (p < first + front) ⊎ ((first + front ≤ p) × (front < size)) → front < size
-          go (inl h) = absurd (omega arith)
-          go (inr h) = h.1
+          go : (t : Turn) → Turning first size front taken ds (Some t) → taken < front
+          go (Back p) h = h.0
+          go (Ahead until) h = h.0
 
-      undue : (until : ℕ) → first + until ≤ p → (q : ℕ) → q < until → in_set ds (first + q) ≡ false
-      undue until h q l = first_marked_least ds p at.1 (first + q) (omega arith) (omega (arith, turn.1))
+      pub back_turn : (p : ℕ) → turn ≡ Back p → (p ≡ head_or max_radios (common ds ds)) × (p < first + front)
+      back_turn p is = step_back p (rw is at e)
 
-      pub step_look : p ≡ first + front → (front < size) × ((q : ℕ) → q < front → in_set ds (first + q) ≡ false)
-      step_look e = (step_ahead (omega arith), undue front (omega arith))
+      module _ (until : ℕ) (is : turn ≡ Ahead until) where
+        ahead : Turning first size front taken ds (Some (Ahead until))
+        ahead = turn_is first size front taken ds (Some (Ahead until)) (rw is at e)
 
-      module _ (until : ℕ) (u : until ≡ min (p - first) size) (l : first + front ≤ p) (ne : p ≡ first + front → ⊥) where
-        pub pass_place : (front < until) × (until ≤ size) × (until ≤ length tail) × (taken + (until - front) ≤ length list)
-        pass_place =
-            let h = step_ahead l in
-            let ahead : front < until = omega (arith, ne) in
-            let inside : until ≤ size = omega arith in
-            (ahead, inside, omega (arith, s.fits), omega (arith, st.passed, st.room, s.fits, s.small))
+        undue : (q : ℕ) → q < until → in_set ds (first + q) ≡ false
+        undue q l = lowest_least ds (first + size) (first + q) (omega (arith, ahead.2, ahead.3)) (omega (arith, ahead.3, s.fits, s.small))
 
-        pub step_pass : (list1 : List ℕ) → list1 ≡ paste list taken (drop front tail) (until - front)
-            → WalkState (rise_of a b k) (part_of first size) ts tail ps until (taken + (until - front)) (written hs cs ds ss list1)
-        step_pass list1 made =
+        pub look_turn : until ≡ front → (front < size) × ((q : ℕ) → q < front → in_set ds (first + q) ≡ false)
+        look_turn u = (ahead.1, λ q l. undue q (omega (arith, u)))
+
+        pub pass_place : (front ≤ until) × (until ≤ size) × (until ≤ length tail) × (taken + (until - front) ≤ length list)
+        pass_place = (
+          omega (arith, ahead.1, ahead.2, ahead.3),
+          omega (arith, ahead.3),
+          omega (arith, ahead.3, s.fits),
+          omega (arith, ahead.1, ahead.2, ahead.3, st.passed, st.room, s.fits, s.small),
+        )
+
+        pub pass_turn : (list1 : List ℕ) → list1 ≡ paste list taken (drop front tail) (until - front)
+            → WalkState (rise_of a b k) (part_of first size) ts tail ps until (taken + (until - front)) (candidates hs cs ds ss) list1
+        pass_turn list1 made =
             turned.pass_done s st until (until - front) (omega (arith, pass_place.0)) pass_place.1 (omega (arith, step_some))
-            (undue until (omega (arith, l))) list1 made
+            undue list1 made
 
   -- ---- the end of a walk: no candidate is left, or the part is at its end and nothing is due
 
@@ -264,21 +228,15 @@ module _ {a b k first size : ℕ} {ts ns tail ps : List ℕ} (s : WalkSite (rise
     walk_over (inr h) list1 made = all_walked list1 (made ∙ ap (sets list taken) held_entries) h
 
   pub walk_end : {front taken : ℕ} {hs cs ds ss list : List ℕ}
-      → WalkState (rise_of a b k) (part_of first size) ts tail ps front taken (written hs cs ds ss list) → 1 ≤ front
-      → (p : ℕ) → stop_place ≤ p → p ≡ next_place first size front taken ds → (list1 : List ℕ)
+      → WalkState (rise_of a b k) (part_of first size) ts tail ps front taken (candidates hs cs ds ss) list → 1 ≤ front
+      → None ≡ next_turn first size front taken ds → (list1 : List ℕ)
       → list1 ≡ sets list taken (entries_at first tail (set_places ss)) → WalkDone (rise_of a b k) (part_of first size) ts tail front taken list1
-  walk_end {front} {taken} {hs} {cs} {ds} {ss} {list} st some p stop next list1 made =
-      walk_over front taken list st.walking st.room st.passed some st.stays
-      (go (stop_at first size front taken ds p next stop (lowest_small ds st.due_long))) list1 made
+  walk_end {front} {taken} {hs} {cs} {ds} {ss} {list} st some stop list1 made =
+      walk_over front taken list st.walking st.room st.passed some st.stays (go (turn_is first size front taken ds None stop)) list1 made
     where
-      go : (front ≤ taken) ⊎ ((first + front ≤ head_or max_radios (common ds ds)) × (size ≤ front))
-          → (front ≤ taken) ⊎ (((q : ℕ) → q < front → in_set ds (first + q) ≡ false) × (size ≤ front))
+      go : Turning first size front taken ds None → (front ≤ taken) ⊎ (((q : ℕ) → q < front → in_set ds (first + q) ≡ false) × (size ≤ front))
       go (inl l) = inl l
-      go (inr h) =
-          inr (
-            λ q l. first_marked_least ds (head_or max_radios (common ds ds)) refl (first + q) (omega (arith, h.0)) (omega (arith, (front_fits st).1)),
-            h.1,
-          )
+      go (inr h) = inr (λ q l. lowest_least ds (first + size) (first + q) (omega (arith, h.0)) (omega (arith, (front_fits st).1)), h.1)
 
 -- as the code names its values
 pub done_as : {a b k first size front taken at many : ℕ} {ts tail list : List ℕ} → at ≡ front → many ≡ taken

@@ -16,7 +16,7 @@ use Rattle.mesh.{proofs.Links.Peel.{takes_permutation}}
 use Rattle.rows.{specs.Rows.{neighbours_of}, proofs.RowListLaws.{in_neighbours_of, member_neighbours_of, distinct_neighbours_of}, specs.Sets.{put_in, take_out}}
 use Rattle.walks.{specs.Walk.{Part, Walking}, proofs.Front.{few_front_head, few_from_one}}
 use Rattle.plan.specs.{Turns.{released, places_released, Releasable, RowReady, NearReady}, Walks.{is_left, is_later, places_touched, radios_of, joined}}
-use Rattle.plan.specs.{Walks.{Known, WalkSite, WalkState, rise_of, part_of, written}}
+use Rattle.plan.specs.{Walks.{Known, WalkSite, WalkState, rise_of, part_of, candidates}}
 use Rattle.plan.proofs.{TurnLoops.{length_released, length_places_released}, TurnLaws.{marked_released}, LevelLaws.{first_marked_in}}
 use Rattle.plan.proofs.{LevelLaws.{first_marked_least}, WalkLoops.{length_touched, touched_only}, WalkReleased.{released_is}}
 use Rattle.plan.proofs.{WalkHeld.{held_is}}
@@ -169,7 +169,7 @@ module _ {a b k first size : ℕ} {ts ns tail ps : List ℕ} (s : WalkSite (rise
     near_ready nears en = record { ready = row_ready; near_long = omega (arith, s.row_few x lx) }
 
   module _ {front taken : ℕ} {hs cs ds ss list : List ℕ} (st : WalkState (rise_of a b k) (part_of first size) ts tail ps front taken
-      (written hs cs ds ss list)) where
+      (candidates hs cs ds ss) list) where
     abbrev held : List ℕ
     held = st.walking.held
 
@@ -360,7 +360,7 @@ module _ {a b k first size : ℕ} {ts ns tail ps : List ℕ} (s : WalkSite (rise
             go (inr (w, m, u, e)) = omega (arith, (later_cases k (first + front) ns ps hs w u).1, e)
 
         pub look_held : k < c → WalkState (rise_of a b k) (part_of first size) ts tail ps (front + 1) taken
-            (written (set hs v 1) (set cs v c) touched (put_in (first + front) ss) list)
+            (candidates (set hs v 1) (set cs v c) touched (put_in (first + front) ss)) list
         look_held big = record {
           held_long = omega (arith, st.held_long, length-set hs v 1);
           counters_long = omega (arith, st.counters_long, length-set cs v c);
@@ -399,7 +399,7 @@ module _ {a b k first size : ℕ} {ts ns tail ps : List ℕ} (s : WalkSite (rise
 
       pub look_taken : count (is_left k (first + front) ns ps hs) (neighbours_of us v) ≤ k
           → WalkState (rise_of a b k) (part_of first size) ts tail ps (front + 1) (taken + 1)
-          (written hs (released hs 1 (neighbours_of us v) cs) freed ss (set list taken v))
+          (candidates hs (released hs 1 (neighbours_of us v) cs) freed ss) (set list taken v)
       look_taken fit = record {
         held_long = st.held_long;
         counters_long = omega (arith, st.counters_long, length_released hs 1 (neighbours_of us v) cs);
@@ -508,7 +508,7 @@ module _ {a b k first size : ℕ} {ts ns tail ps : List ℕ} (s : WalkSite (rise
         freed_back = places_released hs1 ps 1 k (neighbours_of us v) cs (take_out p ds)
 
         pub back_done : WalkState (rise_of a b k) (part_of first size) ts tail ps front (taken + 1)
-            (written hs1 (released hs1 1 (neighbours_of us v) cs) freed_back (take_out p ss) (set list taken v))
+            (candidates hs1 (released hs1 1 (neighbours_of us v) cs) freed_back (take_out p ss)) (set list taken v)
         back_done = record {
           held_long = long1;
           counters_long = omega (arith, st.counters_long, length_released hs1 1 (neighbours_of us v) cs);
@@ -554,7 +554,7 @@ module _ {a b k first size : ℕ} {ts ns tail ps : List ℕ} (s : WalkSite (rise
         pass_room = omega (arith, st.passed, st.room, ends, s.fits, s.small)
 
         pub pass_done : (list1 : List ℕ) → list1 ≡ paste list taken (drop front tail) m
-            → WalkState (rise_of a b k) (part_of first size) ts tail ps until (taken + m) (written hs cs ds ss list1)
+            → WalkState (rise_of a b k) (part_of first size) ts tail ps until (taken + m) (candidates hs cs ds ss) list1
         pass_done list1 e = record {
           held_long = st.held_long;
           counters_long = st.counters_long;

@@ -1,19 +1,18 @@
 -- The leaves of the walk by words.
--- In order: counters lowered, one by one and list by list; the neighbours after the call put into a set; listed radios as a set; where the next
--- turn is.
+-- In order: counters lowered, one by one and list by list; the neighbours after the call put into a set; listed radios as a set.
 use Rattle.std.specs.Prelude.{◌≡◌, ◌⊎◌, ◌&&◌, ◌||◌, ◌∷◌, ◌++◌, ◌+◌, ◌*◌, ◌-◌, ◌^◌, ◌≤◌, ◌<◌}
-use Rattle.lists.{specs.Kit.{refl, sym, ap, subst, ◌∙◌, inl, inr, Bool, true, false, cond, List, [], ℕ}}
-use Rattle.lists.{specs.Kit.{arith, add-one, bit_and, and_le_l, count_trailing_zeros, ltb, leb, eqb, length, get_or, set, take, replicate, length-set}}
-use Rattle.lists.{specs.Kit.{length-replicate, get_or-set_same, get_or-set_other, take-suc, take_all, leb-true, leb-false, ltb-true, ltb-false, eqb-true}}
-use Rattle.lists.{specs.Kit.{eqb-false, lt-ltb, le-ltb, le-leb, lt-leb, eq-eqb, ne_eqb}, specs.Lists.{range, count, member, head_or, In}}
-use Rattle.lists.{proofs.Ascending.{head_or_lowest, ascending_filter, ascending_range}, proofs.Count.{count_append, count_none}}
-use Rattle.lists.{proofs.Distinct.{distinct_left, distinct_right, distinct_apart}, proofs.Filter.{in_filter, filter_in}, proofs.Member.{in_left, in_right}}
-use Rattle.lists.{proofs.Member.{in_cases, member_append, head_or_below}, proofs.Range.{in_range, range_in}, proofs.Tests.{bool_cases, and_both}}
+use Rattle.lists.{specs.Kit.{refl, sym, ap, ◌∙◌, inl, inr, Bool, true, false, cond, List, [], ℕ}}
+use Rattle.lists.{specs.Kit.{arith, add-one, bit_and, and_le_l, count_trailing_zeros, ltb, eqb, length, get_or, set, take, replicate, length-set}}
+use Rattle.lists.{specs.Kit.{length-replicate, get_or-set_same, get_or-set_other, take-suc, ltb-true, ltb-false, eqb-true}}
+use Rattle.lists.{specs.Kit.{eqb-false, eq-eqb, ne_eqb}, specs.Lists.{count, member, In}}
+use Rattle.lists.{proofs.Count.{count_append, count_none}}
+use Rattle.lists.{proofs.Distinct.{distinct_left, distinct_right, distinct_apart}, proofs.Member.{in_left, in_right}}
+use Rattle.lists.{proofs.Member.{in_cases, member_append}, proofs.Tests.{bool_cases}}
 use Rattle.mesh.{specs.Limits.{max_radios}, proofs.GraphLaws.{ends}, specs.Tables.{marked, put_link}, proofs.Tables.Laws.{marked_put_link}}
 use Rattle.rows.{specs.Rows.{set_bits}, proofs.RowListLaws.{member_neighbours_of}, proofs.RowWords.{row_listed_whole, words_from, words_end}}
-use Rattle.rows.{proofs.WordLaws.{set_bits_lowest}, specs.Sets.{in_set, put_in, common, RowJoined}, proofs.SetLaws.{in_set_zeros, in_set_past, in_put_in}}
+use Rattle.rows.{proofs.WordLaws.{set_bits_lowest}, specs.Sets.{in_set, put_in, common, RowJoined}, proofs.SetLaws.{in_set_zeros, in_put_in}}
 use Rattle.rows.{proofs.SetLaws.{length_put_in, put_in_past, both_from, both_word, common_filter}}
-use Rattle.plan.specs.{Places.{other_end, stop_place}, WideSteps.{EndsKnown, JoinedAfter, Lowerable, Lowered, next_turn}}
+use Rattle.plan.specs.{Places.{other_end}, WideSteps.{EndsKnown, JoinedAfter, Lowerable, Lowered}}
 
 -- ---- counters lowered
 
@@ -45,9 +44,9 @@ module _ (most : ℕ) (ps : List ℕ) where
     less_at w (inl e) = let same = eqb-true v w e in rw (e, ← same) (omega (arith, own))
     less_at w (inr e) = let ne = eqb-false v w e in rw e (omega (arith, get_or-set_other cs v w (get_or cs v 0 - 1) 0 (λ q. ne (sym q))))
 
-    pub lowered_due : get_or ps v 0 < max_radios → length ds ≡ 8 → (ds1 : List ℕ) → get_or cs1 v 0 ≡ most → ds1 ≡ put_in (get_or ps v 0) ds
+    pub lowered_due : get_or ps v 0 < max_radios → (ds1 : List ℕ) → get_or cs1 v 0 ≡ most → ds1 ≡ put_in (get_or ps v 0) ds → length ds1 ≡ 8
         → Lowered most ps (v ∷ []) cs ds cs1 ds1
-    lowered_due lp long ds1 e made = record {
+    lowered_due lp ds1 e made long = record {
       counters_long = length-set cs v (get_or cs v 0 - 1);
       due_long = ap length made ∙ length_put_in (get_or ps v 0) ds;
       less = λ w. less_at w (bool_cases (eqb v w));
@@ -57,7 +56,7 @@ module _ (most : ℕ) (ps : List ℕ) where
     }
       where
         bits : (q : ℕ) → in_set ds1 q ≡ cond (eqb (get_or ps v 0) q) true (in_set ds q)
-        bits q = ap (λ (z : List ℕ). in_set z q) made ∙ in_put_in (get_or ps v 0) q ds (omega (arith, long))
+        bits q = ap (λ (z : List ℕ). in_set z q) made ∙ in_put_in (get_or ps v 0) q ds (omega (arith, long, ap length made, length_put_in (get_or ps v 0) ds))
 
         keeps : (q : ℕ) → in_set ds q ≡ true → (b : Bool) → cond b true (in_set ds q) ≡ true
         keeps q t true = refl
@@ -175,7 +174,7 @@ module _ (most : ℕ) (ps : List ℕ) where
     pub low : k ≤ 8
     pub lowering : Lowering (common x y) cs0 ds0 (both_from x y k) cs ds
 
-  module _ (x y : List ℕ) (lx : length x ≡ 8) (ly : length y ≡ 8) where
+  module _ (x y : List ℕ) where
     pub words_lowering_none : (cs ds : List ℕ) → Lowerable ps (common x y) cs → WordsLowering x y cs ds 0 cs ds
     words_lowering_none cs ds h =
         let all = common_filter x y in
@@ -206,8 +205,7 @@ module _ (most : ℕ) (ps : List ℕ) where
 
 -- ---- the neighbours after the call
 
-module _ {a b v n : ℕ} {ts : List ℕ} (ready : EndsKnown a b v n ts) (ws us : List ℕ) (long : length ws ≡ 8) (joined : RowJoined ts v ws us)
-    (same : length us ≡ 8) where
+module _ {a b v n : ℕ} {ts : List ℕ} (ready : EndsKnown a b v n ts) (ws us : List ℕ) (joined : RowJoined ts v ws us) where
   abbrev after : ℕ → Bool
   after x = marked (put_link true a b ts) v x
 
@@ -233,7 +231,7 @@ module _ {a b v n : ℕ} {ts : List ℕ} (ready : EndsKnown a b v n ts) (ws us :
 
     pub joined_row : w ≡ v → JoinedAfter a b v ts ws us
     unfolding ends
-    joined_row e = record { long = same ∙ sym long; bits = λ x l. bits_row x l ∙ ap (λ (z : Bool). in_set ws x || z) (sym (after_is x l ∙ plain x which)) }
+    joined_row e = record { long = joined.long; bits = λ x l. bits_row x l ∙ ap (λ (z : Bool). in_set ws x || z) (sym (after_is x l ∙ plain x which)) }
       where
         plain : (x : ℕ) → ((v ≡ a) × (w ≡ b)) ⊎ (((v ≡ b) × (w ≡ a)) ⊎ ((v ≡ a → ⊥) × (v ≡ b → ⊥) × (w ≡ v)))
             → cond (ends a b v x) true (marked ts v x) ≡ marked ts v x
@@ -248,12 +246,12 @@ module _ {a b v n : ℕ} {ts : List ℕ} (ready : EndsKnown a b v n ts) (ws us :
     pub joined_end : (w ≡ v → ⊥) → (us1 : List ℕ) → us1 ≡ put_in w us → JoinedAfter a b v ts ws us1
     unfolding ends
     joined_end ne us1 made = record {
-      long = ap length made ∙ length_put_in w us ∙ same ∙ sym long;
+      long = ap length made ∙ length_put_in w us ∙ joined.long;
       bits = λ x l. at x l which;
     }
       where
         bits : (x : ℕ) → w < max_radios → in_set us1 x ≡ cond (eqb w x) true (in_set us x)
-        bits x lw = ap (λ (z : List ℕ). in_set z x) made ∙ in_put_in w x us (omega (arith, same))
+        bits x lw = ap (λ (z : List ℕ). in_set z x) made ∙ in_put_in w x us (omega (arith, joined.long))
 
         one : (e s p m : Bool) → cond e true (p || m) ≡ (p || cond (e || (s && false)) true m)
         one true s true m = refl
@@ -317,109 +315,3 @@ setting_turn list i ws us l made h = record {
         no : (p : Bool) → p ≡ (p || false)
         no true = refl
         no false = refl
-
-pub setting_end : (list : List ℕ) (i : ℕ) (ws : List ℕ) → length list ≤ i → Setting list i ws
-    → (length ws ≡ 8) × ((w : ℕ) → w < max_radios → in_set ws w ≡ member w list)
-setting_end list i ws l h = (h.long, λ w lw. h.is w lw ∙ ap (member w) (take_all i list l))
-
--- ---- where the next turn is
-
-module _ (ds : List ℕ) (long : length ds ≡ 8) where
-  abbrev lowest : ℕ
-  lowest = head_or max_radios (common ds ds)
-
-  two_same : (b : Bool) → (b && b) ≡ true → b ≡ true
-  two_same true e = refl
-  two_same false e = e
-
-  pub lowest_in : lowest < max_radios → in_set ds lowest ≡ true
-  lowest_in l =
-      two_same (in_set ds lowest)
-      (in_filter (λ v. in_set ds v && in_set ds v) (range 0 max_radios) lowest
-      (subst (λ (z : List ℕ). In lowest z) (common_filter ds ds) (head_or_below max_radios (common ds ds) l))).1
-
-  pub lowest_least : (q : ℕ) → q < lowest → in_set ds q ≡ false
-  lowest_least q l = go (bool_cases (in_set ds q)) (bool_cases (ltb q max_radios))
-    where
-      go : (in_set ds q ≡ true) ⊎ (in_set ds q ≡ false) → (ltb q max_radios ≡ true) ⊎ (ltb q max_radios ≡ false) → in_set ds q ≡ false
-      go (inr e) t = e
-      go (inl e) (inr t) = in_set_past ds q (omega (arith, long, ltb-false q max_radios t))
-      go (inl e) (inl t) =
-          let m : In q (common ds ds) = rw (common_filter ds ds) (filter_in (λ v. in_set ds v && in_set ds v) (range 0 max_radios) q
-          (in_range 0 max_radios q (omega arith) (omega (arith, ltb-true q max_radios t))) (and_both (in_set ds q) (in_set ds q) e e)) in
-          absurd (omega (
-            arith,
-            head_or_lowest max_radios q (common ds ds)
-                (rw (common_filter ds ds) (ascending_filter _ (range 0 max_radios) (ascending_range 0 max_radios))) m,
-          ))
-
-  pub lowest_small : lowest ≤ max_radios
-  unfolding head_or
-  lowest_small = go (common ds ds) (λ v m. omega (
-    arith,
-    range_in 0 max_radios v
-        (in_filter _ (range 0 max_radios) v (rw (common_filter ds ds) at m)).0,
-  ))
-    where
-      go : (xs : List ℕ) → ((v : ℕ) → In v xs → v < max_radios) → head_or max_radios xs ≤ max_radios
-      go [] h = omega arith
-      go (x ∷ xs) h = omega (arith, h x (inl refl))
-
-  pub lowest_none : max_radios ≤ lowest → (q : ℕ) → in_set ds q ≡ false
-  lowest_none l q = go (bool_cases (ltb q max_radios))
-    where
-      go : (ltb q max_radios ≡ true) ⊎ (ltb q max_radios ≡ false) → in_set ds q ≡ false
-      go (inl t) = lowest_least q (omega (arith, ltb-true q max_radios t))
-      go (inr t) = in_set_past ds q (omega (arith, long, ltb-false q max_radios t))
-
-module _ (size front taken : ℕ) (ds : List ℕ) where
-  pub next_end : front ≤ taken → stop_place ≡ next_turn size front taken ds
-  unfolding next_turn
-  next_end l = rw (le-leb front taken l)
-
-  module _ (p : ℕ) (some : taken < front) (e : p ≡ head_or max_radios (common ds ds)) where
-    pub next_back : p < max_radios → p ≡ next_turn size front taken ds
-    unfolding next_turn
-    next_back l = rw (lt-leb front taken some, ← e, lt-ltb p max_radios l)
-
-    pub next_last : max_radios ≤ p → size ≤ front → stop_place ≡ next_turn size front taken ds
-    unfolding next_turn
-    next_last l h = rw (lt-leb front taken some, ← e, le-ltb p max_radios l, le-leb size front h)
-
-    pub next_front : max_radios ≤ p → front < size → p ≡ next_turn size front taken ds
-    unfolding next_turn
-    next_front l h = rw (lt-leb front taken some, ← e, le-ltb p max_radios l, lt-leb size front h)
-
-  abbrev Turn : ℕ → Type 0
-  Turn p = (taken < front) × (p ≡ head_or max_radios (common ds ds)) × ((p < max_radios) ⊎ ((max_radios ≤ p) × (front < size)))
-
-  pub turn_at : (p : ℕ) → p ≡ next_turn size front taken ds → p ≤ max_radios → Turn p
-  unfolding next_turn
-  turn_at p e l = go (bool_cases (leb front taken)) (bool_cases (ltb (head_or max_radios (common ds ds)) max_radios)) (bool_cases (leb size front))
-    where
-      go : (leb front taken ≡ true) ⊎ (leb front taken ≡ false)
-          → (ltb (head_or max_radios (common ds ds)) max_radios ≡ true) ⊎ (ltb (head_or max_radios (common ds ds)) max_radios ≡ false)
-          → (leb size front ≡ true) ⊎ (leb size front ≡ false) → Turn p
-      go (inl a) b d = let is : p ≡ stop_place = rw a at e in absurd (omega arith)
-      go (inr a) (inl b) d =
-          let is : p ≡ head_or max_radios (common ds ds) = rw (a, b) at e in
-          (leb-false front taken a, is, inl (omega (arith, is, ltb-true (head_or max_radios (common ds ds)) max_radios b)))
-      go (inr a) (inr b) (inl d) = let is : p ≡ stop_place = rw (a, b, d) at e in absurd (omega arith)
-      go (inr a) (inr b) (inr d) =
-          let is : p ≡ head_or max_radios (common ds ds) = rw (a, b, d) at e in
-          (leb-false front taken a, is, inr (omega (arith, is, ltb-false (head_or max_radios (common ds ds)) max_radios b), leb-false size front d))
-
-  pub stop_at : (p : ℕ) → p ≡ next_turn size front taken ds → stop_place ≤ p → head_or max_radios (common ds ds) ≤ max_radios
-      → (front ≤ taken) ⊎ ((max_radios ≤ head_or max_radios (common ds ds)) × (size ≤ front))
-  unfolding next_turn
-  stop_at p e l small = go (bool_cases (leb front taken)) (bool_cases (ltb (head_or max_radios (common ds ds)) max_radios)) (bool_cases (leb size front))
-    where
-      go : (leb front taken ≡ true) ⊎ (leb front taken ≡ false)
-          → (ltb (head_or max_radios (common ds ds)) max_radios ≡ true) ⊎ (ltb (head_or max_radios (common ds ds)) max_radios ≡ false)
-          → (leb size front ≡ true) ⊎ (leb size front ≡ false)
-          → (front ≤ taken) ⊎ ((max_radios ≤ head_or max_radios (common ds ds)) × (size ≤ front))
-      go (inl a) b d = inl (leb-true front taken a)
-      go (inr a) (inl b) d = let is : p ≡ head_or max_radios (common ds ds) = rw (a, b) at e in absurd
-          (omega (arith, ltb-true (head_or max_radios (common ds ds)) max_radios b))
-      go (inr a) (inr b) (inl d) = inr (ltb-false (head_or max_radios (common ds ds)) max_radios b, leb-true size front d)
-      go (inr a) (inr b) (inr d) = let is : p ≡ head_or max_radios (common ds ds) = rw (a, b, d) at e in absurd (omega (arith, is))

@@ -4,7 +4,7 @@
 --   back_done     a candidate is taken back
 --   pass_done     the radio at the front is passed
 --   words_end     what the loop and the listing of the candidates leave
-use Rattle.std.specs.Prelude.{◌≡◌, ◌⊎◌, ◌&&◌, ◌||◌, ◌∷◌, ◌++◌, ◌+◌, ◌-◌, ◌≤◌, ◌<◌}
+use Rattle.std.specs.Prelude.{None, Some, ◌≡◌, ◌⊎◌, ◌&&◌, ◌||◌, ◌∷◌, ◌++◌, ◌+◌, ◌-◌, ◌≤◌, ◌<◌}
 use Rattle.lists.{specs.Kit.{refl, sym, ap, ◌∙◌, inl, inr, Bool, true, false, not, cond, List, [], ℕ, suc}}
 use Rattle.lists.{specs.Kit.{arith, add-one, ltb, eqb, length, get_or, set, take, drop, replicate, length-set, length-replicate, take-append-drop}}
 use Rattle.lists.{specs.Kit.{length-take-le, get_or-set_same, get_or-set_other, take-suc-set, drop-cons, sets, eqb-true, eqb-false, eq-eqb, ne_eqb, lt-ltb, le-ltb}}
@@ -16,10 +16,11 @@ use Rattle.mesh.specs.{Limits.{max_radios, max_neighbours}, Tables.{marked, put_
 use Rattle.rows.{specs.Rows.{neighbours_of}, specs.Sets.{in_set, put_in, take_out, common}, proofs.SetLaws.{in_set_zeros, in_put_in, in_take_out}}
 use Rattle.rows.{proofs.SetLaws.{length_put_in, length_take_out, common_filter}}
 use Rattle.walks.{specs.Walk.{Walking}, proofs.Front.{few_front_head, few_from_one}}
-use Rattle.plan.specs.{Places.{stop_place, set_places, entries_at, Stands}, WideSteps.{EndsKnown, JoinedAfter, Lowerable, Lowered, next_turn}}
-use Rattle.plan.specs.{Walks.{radios_of, joined, WalkSite, WalkDone}, WideWalk.{words_due, Work, work, WordsState}, declared.walk.Rise.{Rise}}
+use Rattle.plan.specs.{Places.{next_turn, set_places, entries_at, Stands}, WideSteps.{EndsKnown, JoinedAfter, Lowerable, Lowered}}
+use Rattle.plan.specs.{Walks.{radios_of, joined, WalkSite, WalkDone}, WideWalk.{words_due, work, WordsState}, declared.walk.Rise.{Rise}}
 use Rattle.plan.specs.{declared.walk.Part.{Part}}
-use Rattle.plan.proofs.{WordLaws.{no_count, lowest_in, lowest_least, lowest_small, lowest_none, turn_at, stop_at}, WalkSteps.{walk_over}}
+use Rattle.plan.proofs.{WordLaws.{no_count}, LevelLaws.{first_marked_in, first_marked_least}, PlaceLaws.{lowest_least, lowest_some, Turning, turn_is}, WalkSteps.{walk_over}}
+use Rattle.plan.specs.declared.places.Turn.{Turn, TheVariants.{Back, Ahead}}
 use Rattle.walks.proofs.Turns as turns
 use Rattle.plan.proofs.EntryLists as entries
 use Rattle.plan.proofs.WalkTurns as turned
@@ -118,7 +119,7 @@ module _ {rise : Rise} {span : Part} {ts ns tail ps : List ℕ}
   whole = take-append-drop size tail
 
   module _ {front taken : ℕ} {left held touched due stay counters list : List ℕ}
-      (st : WordsState rise span ts tail ps front taken (work left held touched due stay counters list)) where
+      (st : WordsState rise span ts tail ps front taken (work left held touched due stay counters) list) where
     abbrev due_at : ℕ → Bool
     due_at = words_due first size front tail touched due
 
@@ -401,11 +402,11 @@ module _ {rise : Rise} {span : Part} {ts ns tail ps : List ℕ}
                           inr (get_or tail q 0, turned.late_in s (suc front) (get_or tail q 0) r.1 (omega (arith, r.2)), r.2)
 
           pub look_held : k < c → WordsState rise span ts tail ps (front + 1) taken
-              (work left (put_in v held) touched1 due (put_in (first + front) stay) (set counters v c) list)
+              (work left (put_in v held) touched1 due (put_in (first + front) stay) (set counters v c)) list
           look_held big = record {
             left_long = st.left_long;
             held_long = length_put_in v held ∙ st.held_long;
-            touched_long = more.long ∙ st.touched_long;
+            touched_long = more.long;
             due_long = st.due_long;
             counters_long = omega (arith, st.counters_long, length-set counters v c);
             room = st.room;
@@ -450,7 +451,7 @@ module _ {rise : Rise} {span : Part} {ts ns tail ps : List ℕ}
                 (λ q l. due_before first size (suc front) tail touched ds1 q l) then_from (λ q e. never (in_set due (first + q)) e (free (first + q)))
                 (λ q ne e. e) (λ q l h. omega arith) (omega arith)
 
-            pub look_taken : WordsState rise span ts tail ps (front + 1) (taken + 1) (work (take_out v left) held touched ds1 stay cs1 (set list taken v))
+            pub look_taken : WordsState rise span ts tail ps (front + 1) (taken + 1) (work (take_out v left) held touched ds1 stay cs1) (set list taken v)
             look_taken = record {
               left_long = length_take_out v left ∙ st.left_long;
               held_long = st.held_long;
@@ -480,7 +481,7 @@ module _ {rise : Rise} {span : Part} {ts ns tail ps : List ℕ}
       -- ---- v is passed: no candidate is its neighbour
 
       pub pass_done : 1 ≤ front → in_set touched v ≡ false
-          → WordsState rise span ts tail ps (front + 1) (taken + 1) (work (take_out v left) held touched due stay counters (set list taken v))
+          → WordsState rise span ts tail ps (front + 1) (taken + 1) (work (take_out v left) held touched due stay counters) (set list taken v)
       pass_done some out = record {
         left_long = length_take_out v left ∙ st.left_long;
         held_long = st.held_long;
@@ -525,7 +526,7 @@ module _ {rise : Rise} {span : Part} {ts ns tail ps : List ℕ}
 
     module _ (p : ℕ) (p_is : p ≡ head_or max_radios (common due due)) (p_small : p < max_radios) where
       p_due : in_set due p ≡ true
-      p_due = ap (in_set due) p_is ∙ lowest_in due st.due_long (omega (arith, p_is))
+      p_due = first_marked_in due p p_is p_small
 
       abbrev j : ℕ
       j = p - first
@@ -544,7 +545,7 @@ module _ {rise : Rise} {span : Part} {ts ns tail ps : List ℕ}
       undue : (q : ℕ) → q < j → due_at q ≡ false
       undue q l =
           due_before first size front tail touched due q (omega (arith, back_place.1))
-          ∙ lowest_least due st.due_long (first + q) (omega (arith, j_is, p_is))
+          ∙ first_marked_least due p p_is (first + q) (omega (arith, j_is)) (omega (arith, j_is, p_small))
 
       module _ (v : ℕ) (v_is : v ≡ get_or tail j 0) where
         back_at : v ≡ get_or part j 0
@@ -633,7 +634,7 @@ module _ {rise : Rise} {span : Part} {ts ns tail ps : List ℕ}
             keeps q ne t = out_other p (first + q) due st.due_long p_small (λ e. ne (omega (arith, j_is))) ∙ t
 
             pub back_done : WordsState rise span ts tail ps front (taken + 1)
-                (work (take_out v left) cand touched ds1 (take_out p stay) cs1 (set list taken v))
+                (work (take_out v left) cand touched ds1 (take_out p stay) cs1) (set list taken v)
             back_done = record {
               left_long = length_take_out v left ∙ st.left_long;
               held_long = cand_long;
@@ -669,22 +670,39 @@ module _ {rise : Rise} {span : Part} {ts ns tail ps : List ℕ}
 
     -- ---- which turn it is
 
-    module _ (p : ℕ) (turn : (p ≡ next_turn size front taken due) × (p ≤ max_radios)) where
-      at : (taken < front) × (p ≡ head_or max_radios (common due due)) × ((p < max_radios) ⊎ ((max_radios ≤ p) × (front < size)))
-      at = turn_at size front taken due p turn.0 turn.1
+    -- what `next` asks
+    pub next_fits : (first + size ≤ max_radios) × (front ≤ size)
+    next_fits = (omega (arith, s.fits, s.small), front_fits.0)
 
+    step_back : (p : ℕ) → Some (Back p) ≡ next_turn first size front taken due → (p ≡ head_or max_radios (common due due)) × (p < max_radios)
+    step_back p e =
+        let t = turn_is first size front taken due (Some (Back p)) e in
+        (lowest_some due (first + size) p t.1 (omega (arith, t.2, next_fits)), omega (arith, t.2, next_fits))
+
+    -- where no place before the front is due, none is
+    none_due : first + front ≤ head_or (first + size) (common due due) → (q : ℕ) → in_set due q ≡ false
+    none_due h q = go (bool_cases (in_set due q))
+      where
+        go : (in_set due q ≡ true) ⊎ (in_set due q ≡ false) → in_set due q ≡ false
+        go (inl t) = let b = st.behind q t in lowest_least due (first + size) q (omega (arith, b.1)) (omega (arith, b.1, next_fits))
+        go (inr t) = t
+
+    step_free : (until : ℕ) → Some (Ahead until) ≡ next_turn first size front taken due → (front < size) × ((q : ℕ) → in_set due q ≡ false)
+    step_free until e = let t = turn_is first size front taken due (Some (Ahead until)) e in (t.1, none_due t.2)
+
+    module _ (turn : Turn) (e : Some turn ≡ next_turn first size front taken due) where
       pub step_some : taken < front
-      step_some = at.0
-
-      pub step_back : p < max_radios → (p ≡ head_or max_radios (common due due)) × (p < max_radios)
-      step_back l = (at.1, l)
-
-      pub step_free : max_radios ≤ p → (front < size) × ((q : ℕ) → in_set due q ≡ false)
-      step_free l = (go at.2, lowest_none due st.due_long (omega (arith, at.1)))
+      step_some = go turn (turn_is first size front taken due (Some turn) e)
         where
-          go : (p < max_radios) ⊎ ((max_radios ≤ p) × (front < size)) → front < size
-          go (inl h) = absurd (omega arith)
-          go (inr h) = h.1
+          go : (t : Turn) → Turning first size front taken due (Some t) → taken < front
+          go (Back p) h = h.0
+          go (Ahead until) h = h.0
+
+      pub back_turn : (p : ℕ) → turn ≡ Back p → (p ≡ head_or max_radios (common due due)) × (p < max_radios)
+      back_turn p is = step_back p (rw is at e)
+
+      pub front_turn : (until : ℕ) → turn ≡ Ahead until → (front < size) × ((q : ℕ) → in_set due q ≡ false)
+      front_turn until is = step_free until (rw is at e)
 
     -- ---- the end
 
@@ -692,32 +710,29 @@ module _ {rise : Rise} {span : Part} {ts ns tail ps : List ℕ}
     pub words_entries : (taken ≤ max_radios) × Stands first (length tail) (set_places stay)
     words_entries = (omega (arith, st.passed, front_fits.1), entries.marked_stand first size tail st.stays s.fits)
 
-    pub words_end : 1 ≤ front → (p : ℕ) → stop_place ≤ p → p ≡ next_turn size front taken due → (list1 : List ℕ)
+    pub words_end : 1 ≤ front → None ≡ next_turn first size front taken due → (list1 : List ℕ)
         → list1 ≡ sets list taken (entries_at first tail (set_places stay)) → WalkDone rise span ts tail front taken list1
-    words_end some p stop next list1 made = walk_over s front taken list st.walking st.room st.passed some st.stays way list1 made
+    words_end some stop list1 made =
+        walk_over s front taken list st.walking st.room st.passed some st.stays (go (turn_is first size front taken due None stop)) list1 made
       where
-        way : (front ≤ taken) ⊎ (((q : ℕ) → q < front → due_at q ≡ false) × (size ≤ front))
-        way = go (stop_at size front taken due p next stop (lowest_small due st.due_long))
-          where
-            go : (front ≤ taken) ⊎ ((max_radios ≤ head_or max_radios (common due due)) × (size ≤ front))
-                → (front ≤ taken) ⊎ (((q : ℕ) → q < front → due_at q ≡ false) × (size ≤ front))
-            go (inl l) = inl l
-            go (inr h) = inr (λ q l. due_before first size front tail touched due q l ∙ lowest_none due st.due_long h.0 (first + q), h.1)
+        go : Turning first size front taken due None → (front ≤ taken) ⊎ (((q : ℕ) → q < front → due_at q ≡ false) × (size ≤ front))
+        go (inl l) = inl l
+        go (inr h) = inr (λ q l. due_before first size front tail touched due q l ∙ none_due h.0 (first + q), h.1)
 
   -- ---- before the first turn
 
-  pub words_start : (left list : List ℕ) → (length left ≡ 8) × ((w : ℕ) → w < max_radios → in_set left w ≡ member w tail) → length list ≡ max_radios
-      → WordsState rise span ts tail ps 0 0 (work left (replicate 8 0) (replicate 8 0) (replicate 8 0) (replicate 8 0) (replicate max_radios 0) list)
+  pub words_start : (left list : List ℕ) → length left ≡ 8 → ((w : ℕ) → w < max_radios → in_set left w ≡ member w tail) → length list ≡ max_radios
+      → WordsState rise span ts tail ps 0 0 (work left (replicate 8 0) (replicate 8 0) (replicate 8 0) (replicate 8 0) (replicate max_radios 0)) list
   unfolding member words_due
-  words_start left list is room = record {
-    left_long = is.0;
+  words_start left list long is room = record {
+    left_long = long;
     held_long = length-replicate {A = ℕ} 8 0;
     touched_long = length-replicate {A = ℕ} 8 0;
     due_long = length-replicate {A = ℕ} 8 0;
     counters_long = omega (arith, s.small, length-replicate {A = ℕ} max_radios 0);
     room = room;
     passed = omega arith;
-    left_is = λ v l. is.1 v l ∙ whole_true (member v tail);
+    left_is = λ v l. is v l ∙ whole_true (member v tail);
     behind = λ p e. never (in_set (replicate 8 0) p) e (in_set_zeros 8 p);
     stays = entries.marked_none first size tail (in_set (replicate 8 0)) (λ v. in_set_zeros 8 v);
     walking = turns.turns_none f k above part pos (turned.is_part s) (in_set (replicate 8 0)) (λ v. get_or (replicate max_radios 0) v 0)
@@ -744,17 +759,8 @@ pub lowered_as : (near : List ℕ) {k : ℕ} {ps cand cand1 counters ds ds0 cs1 
     → Lowered k ps (common near cand) counters ds0 cs1 ds1
 lowered_as near e d h = rw (e, d) at h
 
-pub out_long : (v : ℕ) (ws us : List ℕ) → us ≡ take_out v ws → length ws ≡ 8 → length us ≡ 8
-out_long v ws us e l = ap length e ∙ length_take_out v ws ∙ l
-
 pub state_as : {rise : Rise} {span : Part} {ts tail ps : List ℕ} {front taken : ℕ} {left held touched due stay counters list : List ℕ}
     {left1 held1 touched1 due1 stay1 : List ℕ} → left1 ≡ left → held1 ≡ held → touched1 ≡ touched → due1 ≡ due → stay1 ≡ stay
-    → WordsState rise span ts tail ps front taken (work left held touched due stay counters list)
-    → WordsState rise span ts tail ps front taken (work left1 held1 touched1 due1 stay1 counters list)
+    → WordsState rise span ts tail ps front taken (work left held touched due stay counters) list
+    → WordsState rise span ts tail ps front taken (work left1 held1 touched1 due1 stay1 counters) list
 state_as e0 e1 e2 e3 e4 st = rw (e0, e1, e2, e3, e4) st
-
--- the loop's invariant: so far a state of the walk, and p is where its next turn is
-pub record WordsFrom (rise : Rise) (span : Part) (ts tail ps : List ℕ) (front taken p : ℕ) (w : Work) : Type 0 where
-  pub some : 1 ≤ front
-  pub next : p ≡ next_turn span.size front taken w.due
-  pub state : WordsState rise span ts tail ps front taken w

@@ -6,7 +6,7 @@
 --   stretch_at start size      where a stretch stands
 --   Turning                    so many radios are taken, what is left, its counters and the fitting places
 --   LeftSet                   a set that has all radios but the taken
---   PeelReady                 the same before the first turn, with rows and room for the loop
+--   PeelReady                 the same before the first turn, with rows for the loop
 --   PeelDone                  what the loop comes back with: the taken in front of the list, the stuck by their counters
 -- Laws are in proofs/LevelLaws.antt and proofs/PeelTurns.antt. Definitions only.
 use Rattle.std.specs.Prelude.{◌≡◌, ◌&&◌, ◌+◌, ◌*◌, ◌≤◌, ◌<◌}
@@ -59,7 +59,7 @@ pub record LeftSet (taken left : List ℕ) : Type 0 where
   pub long : length left ≡ 8
   pub has : (v : ℕ) → v < max_radios → in_set left v ≡ not (member v taken)
 
-pub record PeelReady (call : Call) (links numbers order places counters fits : List ℕ) (list_room : ℕ) : Type 0 where
+pub record PeelReady (call : Call) (links numbers order places counters fits : List ℕ) : Type 0 where
   pub level : Level (linked_after call.up call.a call.b (length order) links) numbers order places call.level
       (level_start numbers call.level) (level_size numbers call.level)
   pub differ : call.a ≡ call.b → ⊥
@@ -68,7 +68,6 @@ pub record PeelReady (call : Call) (links numbers order places counters fits : L
   pub row_is :
       (v w : ℕ) → v < length order → w < max_radios → marked (put_link call.up call.a call.b links) v w
       ≡ linked_after call.up call.a call.b (length order) links v w
-  pub list_long : level_size numbers call.level ≤ list_room
   pub turning :
       Turning (linked_after call.up call.a call.b (length order) links) call.most order places
       (stretch_at (level_start numbers call.level) (level_size numbers call.level)) [] counters fits

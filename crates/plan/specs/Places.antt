@@ -4,18 +4,19 @@
 --   other_end a b v            the other end of the link a-b, where v is an end; else v itself
 --   beginning_end              the lower end, with equal numbers the earlier
 --   stands_first first k ns os   the radio at place `first` stands first in level k
---   next_place                 where the next turn is, `stop_place` when the walk is at its end
+--   next_turn                  the next turn of a walk, none when it is at its end
 --   set_places ws              the places of a set of words, ascending
 --   entries_at first tail ps   the entries of `tail`, which stands from place `first` on, at the places ps
 --   Stands first size ps       all of ps are places of it
 --   MarkedPlaces              a set of words that tells the places of marked entries
 -- Laws are in proofs/PlaceLaws.antt. Definitions only.
-use Rattle.std.specs.Prelude.{◌≡◌, ◌+◌, ◌-◌, ◌≤◌, ◌<◌}
-use Rattle.lists.specs.{Kit.{Bool, true, cond, List, map, ℕ, suc, ltb, leb, eqb, length, get_or}, Lists.{count, filter, head_or, range}}
+use Rattle.std.specs.Prelude.{Option, None, Some, ◌≡◌, ◌+◌, ◌-◌, ◌≤◌, ◌<◌}
+use Rattle.lists.specs.{Kit.{Bool, true, cond, List, map, ℕ, min, ltb, leb, eqb, length, get_or}, Lists.{count, filter, head_or, range}}
 use Rattle.lists.specs.{Lists.{In}}
 use Rattle.mesh.specs.Limits.{max_radios}
 use Rattle.rows.specs.{Sets.{in_set}}
 use Rattle.rows.specs.Sets.{common}
+use Rattle.plan.specs.declared.places.Turn.{Turn, TheVariants.{Back, Ahead}}
 
 abbrev pub level_start : (numbers : List ℕ) → (k : ℕ) → ℕ
 level_start ns k = count (λ x. ltb x k) ns
@@ -34,16 +35,12 @@ beginning_end a b ns ps =
 unfoldable pub stands_first : (first k : ℕ) → (numbers order : List ℕ) → Bool
 stands_first first k ns os = cond (eqb first 0) true (ltb (get_or ns (get_or os (first - 1) 0) 0) k)
 
--- past every place, and past what `lowest` gives where nothing is marked
-abbrev pub stop_place : ℕ
-stop_place = suc max_radios
-
--- the first place due where it stands before the front; else the walk is at its end when no candidate is left or the part is at its
--- end, and goes on there when neither is so
-unfoldable pub next_place : (first size front taken : ℕ) → (due : List ℕ) → ℕ
-next_place first size front taken ds =
-    let p = head_or max_radios (common ds ds) in
-    cond (leb front taken) stop_place (cond (ltb p (first + front)) p (cond (leb size front) stop_place p))
+-- back to the first place due where it stands before the front; else the walk is at its end when no candidate is left or the part is at its
+-- end, and goes ahead when neither is so, up to the first place due or the end of the part
+unfoldable pub next_turn : (first size front taken : ℕ) → (due : List ℕ) → Option Turn
+next_turn first size front taken ds =
+    let p = head_or (first + size) (common ds ds) in
+    cond (leb front taken) None (cond (ltb p (first + front)) (Some (Back p)) (cond (leb size front) None (Some (Ahead (min (p - first) size)))))
 
 abbrev pub set_places : (words : List ℕ) → List ℕ
 set_places ws = filter (in_set ws) (range 0 max_radios)

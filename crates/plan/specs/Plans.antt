@@ -1,7 +1,9 @@
 -- A planned link call: what becomes of the lower end's stretch of the order, and which radios change. Nothing is written yet.
 --   Ready          what a plan is made from: sound tables, a call that is allowed, places and not-lower counts of the lower end's level
+--   ReadyOf        the same of tables alone, whose order is as long as there are radios
 --   plan_of        a plan from its numbers
 --   Planned        what a plan says
+--   PlannedOf      the same of tables alone
 --   Applicable     what a plan is applied to: a valid site with its core numbers, a call that is allowed, room for the answer
 -- Definitions only.
 use Rattle.std.specs.Prelude.{◌≡◌, ◌+◌, ◌*◌, ◌≤◌, ◌<◌}
@@ -31,6 +33,10 @@ pub record Ready (up : Bool) (n a b : ℕ) (t : Tables) (places not_lower : List
       get_or not_lower v 0
       ≡ neighbours_in (graph_in n t.links) v (λ w. leb (number (graph_in n t.links) v) (number (graph_in n t.links) w))
 
+-- a plan is made from these tables
+abbrev pub ReadyOf : (up : Bool) → (a b : ℕ) → Tables → (places not_lower : List ℕ) → Type 0
+ReadyOf up a b t places not_lower = Ready up (length t.order) a b t places not_lower
+
 abbrev pub plan_of : (start size taken : ℕ) → Plan
 plan_of start size taken = record { start = start; size = size; taken = taken }
 
@@ -44,6 +50,10 @@ pub record Planned (up : Bool) (a b : ℕ) (g : Graph) (order : List ℕ) (plan 
   pub laid : paste order plan.start stretch plan.size ≡ new_order up a b g order
   pub changed_is : (v : ℕ) → v < g.n → member v (changed up a b g) ≡ member v (changed_part up plan.taken plan.size stretch)
   pub radios : (i : ℕ) → i < plan.size → get_or stretch i 0 < g.n
+
+-- a plan says it of these tables
+abbrev pub PlannedOf : (up : Bool) → (a b : ℕ) → Tables → Plan → (stretch : List ℕ) → Type 0
+PlannedOf up a b t plan stretch = Planned up a b (graph_in (length t.order) t.links) t.order plan stretch
 
 pub record Applicable (up : Bool) (n a b : ℕ) (t : Tables) (answer : List ℕ) : Type 0 where
   pub small : n ≤ max_radios

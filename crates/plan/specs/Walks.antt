@@ -8,8 +8,9 @@
 --   Known                        listed radios that have an entry in tables of these lengths
 --   rise_of, part_of             a link going up, and the part that is walked, from their numbers
 --   WalkSite                    what the walk is made from
---   Written                      what the walk writes: the candidates, their counters, the places due, the candidates' places, the list
+--   candidates                   the candidates, their counters, the places due, the candidates' places
 --   WalkState                   so many radios are taken, how far the front is, and what is written so far
+--   Sited, Reaches               what the walk is made from, and a state of it, by the code's structs
 --   WalkDone                    what the walk comes back with
 -- Laws are in proofs/WalkLoops.antt, proofs/WalkTables.antt and proofs/WalkTurns.antt. Definitions only.
 use Rattle.std.specs.Prelude.{◌≡◌, ◌⊎◌, ◌&&◌, ◌||◌, ◌++◌, ◌+◌, ◌*◌, ◌-◌, ◌≤◌, ◌<◌}
@@ -19,6 +20,7 @@ use Rattle.mesh.specs.{Limits.{max_radios, max_neighbours, row_bytes}, Tables.{m
 use Rattle.rows.specs.Rows.{neighbours_of}
 use Rattle.walks.specs.Walk.{FewFront, Walking}
 use Rattle.plan.specs.{Places.{beginning_end, MarkedPlaces}, Peels.{linked_after}, declared.walk.Rise.{Rise}, declared.walk.Part.{Part}}
+use Rattle.plan.specs.{declared.walk.Reached.{Reached}, declared.ground.Ground.{Ground}, declared.walk.Candidates.{Candidates}}
 use Rattle.rows.specs.Sets.{in_set, put_in}
 
 unfoldable pub is_left : (k p : ℕ) → (numbers places held : List ℕ) → (w : ℕ) → Bool
@@ -80,28 +82,28 @@ pub record WalkSite (rise : Rise) (part : Part) (links numbers tail places : Lis
   pub row_few : (v : ℕ) → v < radios_of part.first tail → length (neighbours_of (put_link true rise.a rise.b links) v) ≤ max_neighbours
   pub few : FewFront (joined rise.a rise.b part.first links tail) rise.most (drop part.size tail) (drop 1 (take part.size tail)) []
 
-pub record Written : Type 0 where
-  pub held : List ℕ
-  pub counters : List ℕ
-  pub due : List ℕ
-  pub stay : List ℕ
-  pub list : List ℕ
+abbrev pub candidates : (held counters due stay : List ℕ) → Candidates
+candidates held counters due stay = record { held = held; counters = counters; due = due; stay = stay }
 
-abbrev pub written : (held counters due stay list : List ℕ) → Written
-written held counters due stay list = record { held = held; counters = counters; due = due; stay = stay; list = list }
-
-pub record WalkState (rise : Rise) (part : Part) (links tail places : List ℕ) (front taken : ℕ) (w : Written) : Type 0 where
+pub record WalkState (rise : Rise) (part : Part) (links tail places : List ℕ) (front taken : ℕ) (w : Candidates) (list : List ℕ) : Type 0 where
   pub held_long : radios_of part.first tail ≤ length w.held
   pub counters_long : radios_of part.first tail ≤ length w.counters
   pub due_long : length w.due ≡ 8
-  pub room : length w.list ≡ max_radios
+  pub room : length list ≡ max_radios
   pub passed : taken ≤ front
   pub low : (p : ℕ) → in_set w.due p ≡ true → part.first ≤ p
   pub stays : MarkedPlaces part.first part.size tail (λ v. eqb (get_or w.held v 0) 1) w.stay
   pub walking :
       Walking (joined rise.a rise.b part.first links tail) rise.most (drop part.size tail) (take part.size tail)
-      (λ v. get_or places v 0 - part.first) (take taken w.list) front
+      (λ v. get_or places v 0 - part.first) (take taken list) front
       (λ v. eqb (get_or w.held v 0) 1) (λ v. get_or w.counters v 0) (λ q. in_set w.due (part.first + q))
+
+-- as the code has them
+abbrev pub Sited : Ground → (numbers : List ℕ) → Type 0
+Sited g ns = WalkSite g.rise g.part g.links.now ns g.tail.now g.places.now
+
+abbrev pub Reaches : Ground → Reached → Candidates → (list : List ℕ) → Type 0
+Reaches g at w list = WalkState g.rise g.part g.links.now g.tail.now g.places.now at.front at.taken w list
 
 -- the first `front` entries of the list are the part's, laid out anew; the first `taken` of them were taken, the others rise
 pub record WalkDone (rise : Rise) (part : Part) (links tail : List ℕ) (front taken : ℕ) (list : List ℕ) : Type 0 where

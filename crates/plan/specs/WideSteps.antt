@@ -3,14 +3,12 @@
 --   JoinedAfter    the neighbours that v has after the link a-b went up put into a set
 --   Lowerable       radios whose counters can be lowered: no repeats, an entry in each table, counters above 0
 --   Lowered         their counters are one less, and the places due are with the place of each whose counter came down to the bound
---   next_turn       where the next turn is: a place due, `max_radios` for the front, `stop_place` when the walk is at its end
 -- Laws are in proofs/WordLaws.antt. Definitions only.
 use Rattle.std.specs.Prelude.{◌≡◌, ◌⊎◌, ◌||◌, ◌+◌, ◌*◌, ◌≤◌, ◌<◌}
-use Rattle.lists.specs.{Kit.{true, cond, List, ℕ, ltb, leb, eqb, length, get_or}, Facts.{Distinct}, Lists.{count, head_or}}
+use Rattle.lists.specs.{Kit.{true, List, ℕ, eqb, length, get_or}, Facts.{Distinct}, Lists.{count}}
 use Rattle.lists.specs.{Lists.{In}}
 use Rattle.mesh.specs.{Limits.{max_radios, row_bytes}, Tables.{marked, put_link}}
-use Rattle.rows.specs.Sets.{in_set, common}
-use Rattle.plan.specs.Places.{stop_place}
+use Rattle.rows.specs.Sets.{in_set}
 
 -- n radios in the table, ends and v among them
 pub record EndsKnown (a b v n : ℕ) (links : List ℕ) : Type 0 where
@@ -23,7 +21,7 @@ pub record EndsKnown (a b v n : ℕ) (links : List ℕ) : Type 0 where
 
 -- ws before, us after
 pub record JoinedAfter (a b v : ℕ) (links ws us : List ℕ) : Type 0 where
-  pub long : length us ≡ length ws
+  pub long : length us ≡ 8
   pub bits : (w : ℕ) → w < max_radios → in_set us w ≡ (in_set ws w || marked (put_link true a b links) v w)
 
 pub record Lowerable (places xs counters : List ℕ) : Type 0 where
@@ -40,8 +38,3 @@ pub record Lowered (most : ℕ) (places xs cs ds cs1 ds1 : List ℕ) : Type 0 wh
   pub kept : (q : ℕ) → in_set ds q ≡ true → in_set ds1 q ≡ true
   pub falls : (w : ℕ) → In w xs → get_or cs1 w 0 ≡ most → in_set ds1 (get_or places w 0) ≡ true
   pub only : (q : ℕ) → in_set ds1 q ≡ true → (in_set ds q ≡ true) ⊎ ((w : ℕ) × In w xs × (get_or cs1 w 0 ≡ most) × (get_or places w 0 ≡ q))
-
-unfoldable pub next_turn : (size front taken : ℕ) → (due : List ℕ) → ℕ
-next_turn size front taken ds =
-    let p = head_or max_radios (common ds ds) in
-    cond (leb front taken) stop_place (cond (ltb p max_radios) p (cond (leb size front) stop_place p))

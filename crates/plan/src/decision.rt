@@ -1,16 +1,21 @@
 // The plan of a link call: its questions, and the lower end's stretch laid out anew, by one peel up and down alike, or going up by the walk.
 // Nothing of the tables is written.
 ghost use Rattle.std.specs.Prelude.{◌≡◌};
-ghost use Rattle.lists.specs.Kit.{length};
-ghost use Rattle.mesh.specs.Limits.{max_radios};
-ghost use Rattle.mesh.specs.Tables.{tables, graph_in};
-ghost use Rattle.mesh.specs.Lent.{lent};
-ghost use Rattle.plan.specs.Plans.{Ready, Planned};
-ghost use Rattle.plan.specs.Asked.{PlanContract};
+ghost use Rattle.lists.specs.Kit.{ℕ, length};
+ghost use Rattle.mesh.specs.Limits.{max_neighbours};
+ghost use Rattle.mesh.specs.Tables.{graph_in};
+ghost use Rattle.mesh.specs.Lent.{read_of};
+ghost use Rattle.calls.specs.Answers.{call_number};
+ghost use Rattle.calls.specs.Questions.{answer_length, ends_refusal};
+ghost use Rattle.soundness.specs.Checks.{Asked};
+ghost use Rattle.plan.specs.Plans.{ReadyOf, PlannedOf};
+ghost use Rattle.plan.specs.Asked.{PlanContract, plan_start, plan_size, plan_taken};
 
 use super::planned::Plan;
 use super::{end_questions, fall, rise};
-use mesh::Site;
+use calls::Refusal;
+use mesh::{Lent, Site};
+use soundness::Found;
 
 // Plans the link a-b going up or down: writes what stands in the order from the plan's start on after, in front of `stretch`; later
 // entries and the counters hold anything.
@@ -18,82 +23,57 @@ pub fn plan_link(
     up: bool,
     a: u32,
     b: u32,
-    links: &[u8],
-    numbers: &[u8],
-    order: &[u16],
+    t: &Lent,
     places: &[u16; Site::RADIOS as usize],
     not_lower: &mut [u8; Site::RADIOS as usize],
     stretch: &mut [u16; Site::RADIOS as usize],
 ) -> Plan
-    requires ready { Ready up (length order.now) a b (tables links.now numbers.now order.now) places.now not_lower.old }
-    requires room { length stretch.old ≡ max_radios }
-    ensures { Planned up a b (graph_in (length order.now) links.now) order.now result
-        stretch.new }
+    requires { ReadyOf up a b (read_of t.now) places.now not_lower.old }
+    ensures { PlannedOf up a b (read_of t.now) result stretch.new }
 {
     if up {
-        return rise::plan_up(a, b, links, numbers, order, places, not_lower, stretch);
+        return rise::plan_up(a, b, t, places, not_lower, stretch);
     }
-    fall::plan_down(a, b, links, numbers, order, places, not_lower, stretch)
+    fall::plan_down(a, b, t, places, not_lower, stretch)
 }
 
-// A refusal number, and where it is 0 a plan.
-#[derive(Clone, Copy)]
-pub struct Decision {
-    pub number: u32,
-    pub plan: Plan,
-}
-
-// Plans the link a-b going up or down: the refusal number of its questions, 1 to 7 or 1 to 6, and at 0 the plan, with what it lays out
-// anew of the lower end's stretch in front of `stretch`, whose later entries hold anything. `answer` is the answer table's length. A
-// refusal leaves `stretch` as it was.
-pub fn plan(
+// Plans the link a-b going up or down by what the check found, once all its questions got "yes"; the counters hold anything after.
+fn plan_found(
     up: bool,
-    n: u32,
     a: u32,
     b: u32,
-    links: &[u8],
-    numbers: &[u8],
-    order: &[u16],
+    t: &Lent,
+    found: &mut Found,
+    stretch: &mut [u16; Site::RADIOS as usize],
+) -> Plan
+    requires { (answer : ℕ) ×
+        Asked t.now.radios (read_of t.now) (answer_length t.now.radios answer) found.old.places found.old.not_lower 0 ×
+        (ends_refusal max_neighbours up t.now.radios a b (graph_in t.now.radios t.now.links.now) ≡ 0) }
+    ensures { PlannedOf up a b (read_of t.now) result stretch.new }
+{
+    plan_link(up, a, b, t, &found.places, &mut found.not_lower, stretch)
+}
+
+// Plans the link a-b going up or down, unless one of its questions, 1 to 7 or 1 to 6, gets "no": writes what it lays out anew of the
+// lower end's stretch in front of `stretch`, whose later entries hold anything. `answer` is the answer table's length. A refusal leaves
+// `stretch` as it was.
+pub fn plan(
+    up: bool,
+    t: &Lent,
+    a: u32,
+    b: u32,
     answer: usize,
     stretch: &mut [u16; Site::RADIOS as usize],
-) -> Decision
-    requires { length stretch.old ≡ max_radios }
-    ensures { PlanContract up n a b (lent links.now numbers.now order.now) answer stretch.old
-        result.number result.plan.start result.plan.size result.plan.taken stretch.new }
+) -> Result<Plan, Refusal>
+    ensures { PlanContract up t.now.radios a b (read_of t.now) answer stretch.old
+        (call_number result) (plan_start result) (plan_size result) (plan_taken result) stretch.new }
 {
-    let none = Plan {
-        start: 0,
-        size: 0,
-        taken: 0,
-    };
-    let mut places = [0u16; Site::RADIOS as usize];
-    let mut not_lower = [0u8; Site::RADIOS as usize];
-    let number = soundness::asked(
-        n,
-        links,
-        numbers,
-        order,
-        n as usize <= answer,
-        &mut places,
-        &mut not_lower,
-    );
-    if number != 0 {
-        return Decision { number, plan: none };
+    let mut found = Found::new();
+    if let Err(refusal) = soundness::asked(t, t.radios as usize <= answer, &mut found) {
+        return Err(refusal);
     }
-    let number = end_questions::ends_refusal(up, n, a, b, links);
-    if number != 0 {
-        return Decision { number, plan: none };
+    if let Err(refusal) = end_questions::ask_ends(up, t.radios, a, b, t.links) {
+        return Err(refusal);
     }
-    let plan = plan_link(
-        up,
-        a,
-        b,
-        links,
-        numbers,
-        order,
-        &places,
-        &mut not_lower,
-        stretch,
-    );
-    Decision { number, plan }
+    Ok(plan_found(up, a, b, t, &mut found, stretch))
 }

@@ -5,35 +5,36 @@ ghost use Rattle.mesh.specs.Limits.{max_radios, max_neighbours, row_bytes};
 ghost use Rattle.mesh.specs.Tables.{graph_in};
 ghost use Rattle.mesh.specs.Sound.{rows_proper};
 ghost use Rattle.calls.specs.Questions.{ends_refusal};
+ghost use Rattle.calls.specs.Answers.{call_number};
 
 use calls::Refusal;
 use mesh::Site;
 
-// The refusal number of questions 4 to 7, put in turn to proper rows: 4, 5, 6, 7, or 0 when none got "no".
-pub fn ends_refusal(up: bool, n: u32, a: u32, b: u32, links: &[u8]) -> u32
+// Questions 4 to 7, put in turn to proper rows.
+pub fn ask_ends(up: bool, n: u32, a: u32, b: u32, links: &[u8]) -> Result<(), Refusal>
     requires { (n ≤ max_radios) × (length links.now ≡ row_bytes * n) × (rows_proper max_neighbours n links.now ≡ true) }
-    ensures { result ≡ ends_refusal max_neighbours up n a b (graph_in n links.now) }
+    ensures { call_number result ≡ ends_refusal max_neighbours up n a b (graph_in n links.now) }
 {
     if n <= a {
-        return Refusal::RADIO;
+        return Err(Refusal::Radio);
     }
     if n <= b {
-        return Refusal::RADIO;
+        return Err(Refusal::Radio);
     }
     if a == b {
-        return Refusal::SAME_ENDS;
+        return Err(Refusal::SameEnds);
     }
     if rows::is_marked(links, a, b) == up {
-        return Refusal::LINK_STATE;
+        return Err(Refusal::LinkState);
     }
     if !up {
-        return 0;
+        return Ok(());
     }
     if Site::NEIGHBOURS <= rows::row_degree(links, a) as u32 {
-        return Refusal::NO_ROOM;
+        return Err(Refusal::NoRoom);
     }
     if Site::NEIGHBOURS <= rows::row_degree(links, b) as u32 {
-        return Refusal::NO_ROOM;
+        return Err(Refusal::NoRoom);
     }
-    0
+    Ok(())
 }

@@ -7,6 +7,7 @@ pub mod decision;
 pub mod end_questions;
 mod ends;
 mod fall;
+mod ground;
 mod peel;
 mod places;
 pub mod planned;

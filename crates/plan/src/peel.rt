@@ -3,17 +3,18 @@ ghost use Rattle.std.specs.Prelude.{◌≡◌, ◌≤◌, ◌<◌, ◌+◌};
 ghost use Rattle.lists.specs.Kit.{true, false, min, length, get_or};
 ghost use Rattle.lists.specs.Lists.{range};
 ghost use Rattle.mesh.specs.Limits.{max_radios};
-ghost use Rattle.mesh.specs.Tables.{tables, graph_in};
+ghost use Rattle.mesh.specs.Lent.{read_of};
 ghost use Rattle.mesh.specs.Peel.{bound};
 ghost use Rattle.plan.specs.Turns.{places_fitting, ends_counted, BeginReady};
 ghost use Rattle.plan.specs.Peels.{PeelReady, PeelDone};
-ghost use Rattle.plan.specs.Plans.{Ready, Planned};
+ghost use Rattle.plan.specs.Plans.{ReadyOf, PlannedOf};
 
 use super::planned::Plan;
+use super::stretch::Stretch;
 use super::turn::Call;
-use super::{ends, places, stretch, stuck, turn};
-use mesh::Site;
-use rows::sets;
+use super::{ends, stretch, stuck, turn};
+use mesh::{Lent, Site};
+use rows::sets::RadioSet;
 
 // The call at the lower end's level K: the peel takes radios with at most K neighbours going up, K - 1 going down.
 pub(crate) fn call_at(up: bool, a: u32, b: u32, numbers: &[u8]) -> Call
@@ -45,23 +46,21 @@ pub(crate) fn call_at(up: bool, a: u32, b: u32, numbers: &[u8]) -> Call
 // The counters of both ends are brought to the graph after the call, and the places that fit before the first turn are marked.
 fn begin(
     call: Call,
-    start: usize,
-    size: usize,
-    numbers: &[u8],
-    order: &[u16],
+    at: Stretch,
+    t: &Lent,
     counters: &mut [u8; Site::RADIOS as usize],
-    fits: &mut [u64; 8],
+    fits: &mut RadioSet,
 )
-    requires { BeginReady call start size numbers.now order.now counters.old }
+    requires { BeginReady call at.start at.size t.now.numbers.now t.now.order.now counters.old }
     ensures counted { counters.new
-        ≡ ends_counted call.up call.a call.b call.level numbers.now counters.old }
-    ensures marked { fits.new ≡ places_fitting order.now
-        (ends_counted call.up call.a call.b call.level numbers.now counters.old)
-        call.most (range start size) fits.old }
+        ≡ ends_counted call.up call.a call.b call.level t.now.numbers.now counters.old }
+    ensures marked { fits.new ≡ places_fitting t.now.order.now
+        (ends_counted call.up call.a call.b call.level t.now.numbers.now counters.old)
+        call.most (range at.start at.size) fits.old }
 {
-    turn::count_end(call.up, call.level, call.a as usize, numbers, counters);
-    turn::count_end(call.up, call.level, call.b as usize, numbers, counters);
-    turn::mark_fitting(start, size, call.most, order, counters, fits);
+    turn::count_end(call.up, call.level, call.a as usize, t.numbers, counters);
+    turn::count_end(call.up, call.level, call.b as usize, t.numbers, counters);
+    turn::mark_fitting(at, call.most, t.order, counters, fits);
 }
 
 // Takes radios of the level in turn, always the first of the stretch that has at most `most` neighbours among what is left and
@@ -70,32 +69,25 @@ fn begin(
 // A taken radio releases its neighbours that are left, so that the counters of the taken stand still.
 pub(crate) fn peel(
     call: Call,
-    links: &[u8],
-    numbers: &[u8],
-    order: &[u16],
+    t: &Lent,
     places: &[u16],
     counters: &mut [u8; Site::RADIOS as usize],
-    fits: &mut [u64; 8],
+    fits: &mut RadioSet,
     list: &mut [u16; Site::RADIOS as usize],
 ) -> usize
-    requires { PeelReady call links.now numbers.now order.now
-        places.now counters.old fits.old (length list.old) }
-    ensures done { PeelDone call links.now numbers.now
-        order.now result counters.new list.new }
-    ensures long { length list.new ≡ length list.old }
+    requires { PeelReady call t.now.links.now t.now.numbers.now t.now.order.now
+        places.now counters.old fits.old }
+    ensures { PeelDone call t.now.links.now t.now.numbers.now
+        t.now.order.now result counters.new list.new }
 {
-    let mut left = [u64::MAX; rows::ROW_WORDS as usize];
+    let mut left = RadioSet::full();
     let mut taken: usize = 0;
-    let mut p = places::lowest(fits);
-    while p < Site::RADIOS {
-        let v = order[p as usize];
+    while let Some(p) = fits.first_common(fits) {
+        let v = t.order[p as usize];
         list[taken] = v;
         taken += 1;
-        turn::take_left(
-            call, p, v as u32, links, numbers, places, &left, counters, fits,
-        );
-        sets::take_out(&mut left, v as u32);
-        p = places::lowest(fits);
+        turn::take_left(call, p, v as u32, t, places, &left, counters, fits);
+        left.take_out(v as u32);
     }
     taken
 }
@@ -105,30 +97,20 @@ pub(crate) fn peel(
 pub(crate) fn plan_peel(
     a: u32,
     b: u32,
-    links: &[u8],
-    numbers: &[u8],
-    order: &[u16],
+    t: &Lent,
     places: &[u16],
     not_lower: &mut [u8; Site::RADIOS as usize],
     stretch: &mut [u16; Site::RADIOS as usize],
 ) -> Plan
-    requires ready { Ready true (length order.now) a b (tables links.now numbers.now order.now) places.now not_lower.old }
-    requires room { length stretch.old ≡ max_radios }
-    ensures { Planned true a b (graph_in (length order.now) links.now) order.now result
-        stretch.new }
+    requires { ReadyOf true a b (read_of t.now) places.now not_lower.old }
+    ensures { PlannedOf true a b (read_of t.now) result stretch.new }
 {
-    let call = call_at(true, a, b, numbers);
-    let at = stretch::stretch_of(numbers, call.level);
-    let mut fits = [0u64; 8];
-    begin(
-        call, at.start, at.size, numbers, order, not_lower, &mut fits,
-    );
-    let taken = peel(
-        call, links, numbers, order, places, not_lower, &mut fits, stretch,
-    );
-    stuck::list_stuck(
-        at.start, at.size, call.most, taken, order, not_lower, stretch,
-    );
+    let call = call_at(true, a, b, t.numbers);
+    let at = stretch::stretch_of(t.numbers, call.level);
+    let mut fits = RadioSet::empty();
+    begin(call, at, t, not_lower, &mut fits);
+    let taken = peel(call, t, places, not_lower, &mut fits, stretch);
+    stuck::list_stuck(at, call.most, taken, t.order, not_lower, stretch);
     Plan {
         start: at.start,
         size: at.size,

@@ -1,44 +1,51 @@
-// Sets of places, eight words each, and where the next turn of a walk is.
+// Sets of places, and where the next turn of a walk is.
 ghost use Rattle.std.specs.Prelude.{◌≡◌, ◌+◌, ◌*◌, ◌≤◌, ◌<◌};
 ghost use Rattle.lists.specs.Kit.{ℕ, length, sets};
 ghost use Rattle.mesh.specs.Limits.{max_radios};
 ghost use Rattle.lists.specs.Lists.{In, head_or};
 ghost use Rattle.rows.specs.Rows.{set_bits};
 ghost use Rattle.rows.specs.Sets.{common};
-ghost use Rattle.plan.specs.Places.{next_place, Stands, entries_at, set_places};
+ghost use Rattle.plan.specs.Places.{next_turn, Stands, entries_at, set_places};
 
+use super::walk::{Part, Reached};
 use mesh::Site;
-use rows::sets;
+use rows::sets::RadioSet;
+use tables::fill;
 
-// Where no turn is: past every place, and past what `lowest` gives where nothing is marked.
-pub const STOP: usize = Site::RADIOS as usize + 1;
-
-// The lowest place of the set; where there is none, the most radios that a site may have.
-pub fn lowest(set: &[u64; 8]) -> u32
-    ensures { result ≡ head_or max_radios (common set.now set.now) }
-{
-    sets::first_common(set, set)
+// A turn of a walk: the candidate at a place of the order, before the front, is taken back; or nothing before the front is due, and it goes
+// ahead, where nothing is due before so many radios of the part.
+#[derive(Clone, Copy)]
+pub(crate) enum Turn {
+    Back(usize),
+    Ahead(usize),
 }
 
-// Where the next turn is, `STOP` when the walk is at its end.
-pub fn next(first: usize, size: usize, front: usize, taken: usize, due: &[u64; 8]) -> usize
-    ensures { result ≡ next_place first size front taken due.now }
+// The lowest place of the set; where there is none, `end`.
+fn lowest(set: &RadioSet, end: usize) -> usize
+    ensures { result ≡ head_or end (common set.now set.now) }
 {
-    if front <= taken {
-        return STOP;
+    match set.first_common(set) {
+        Some(p) => p as usize,
+        None => end,
     }
-    let p = lowest(due) as usize;
-    if p < first {
-        return p;
+}
+
+// The next turn; none when the walk is at its end: no candidate is left, or the part is at its end and nothing is due.
+pub(crate) fn next(part: Part, at: Reached, due: &RadioSet) -> Option<Turn>
+    requires { (part.first + part.size ≤ max_radios) × (at.front ≤ part.size) }
+    ensures { result ≡ next_turn part.first part.size at.front at.taken due.now }
+{
+    if at.front <= at.taken {
+        return None;
     }
-    if p - first < front {
-        return p;
+    let p = lowest(due, part.first + part.size);
+    if p < part.first + at.front {
+        return Some(Turn::Back(p));
     }
-    // tested before the front is looked at: where nothing is due, p is 512, and so may the end of the part be
-    if size <= front {
-        return STOP;
+    if part.size <= at.front {
+        return None;
     }
-    p
+    Some(Turn::Ahead(fill::least(p - part.first, part.size)))
 }
 
 // Writes the entries of `tail` at the places of word k of a set, counted from `first` on, into the list from place `at` on, the lowest
@@ -59,7 +66,7 @@ fn list_word(
     let mut n = at;
     while rest != 0 {
         let p = (rows::WORD_BITS * k + u64::trailing_zeros(rest)) as usize;
-        tables::fill::put16(list, n, tail[p - first]);
+        fill::put16(list, n, tail[p - first]);
         rest = rest & (rest - 1);
         n += 1;
     }
@@ -68,7 +75,7 @@ fn list_word(
 
 // Writes the entries of `tail` at the places of the set, counted from `first` on, into the list from place `taken` on, ascending.
 pub fn list_entries(
-    set: &[u64; 8],
+    set: &RadioSet,
     first: usize,
     tail: &[u16],
     taken: usize,
@@ -78,9 +85,7 @@ pub fn list_entries(
     ensures { list.new ≡ sets list.old taken (entries_at first tail.now (set_places set.now)) }
 {
     let mut at = taken;
-    let mut k: u32 = 0;
-    while k < rows::ROW_WORDS {
-        at = list_word(set[k as usize], k, first, tail, at, list);
-        k += 1;
+    for k in 0..rows::ROW_WORDS {
+        at = list_word(set.word(k), k, first, tail, at, list);
     }
 }

@@ -3,16 +3,17 @@ ghost use Rattle.std.specs.Prelude.{◌≡◌, ◌≤◌, ◌<◌, ◌+◌};
 ghost use Rattle.lists.specs.Kit.{true, ℕ, length, get_or};
 ghost use Rattle.lists.specs.Lists.{all};
 ghost use Rattle.mesh.specs.Limits.{max_radios};
-ghost use Rattle.mesh.specs.Tables.{tables, graph_in};
+ghost use Rattle.mesh.specs.Lent.{read_of};
 ghost use Rattle.plan.specs.Peels.{stretch};
-ghost use Rattle.plan.specs.Plans.{Ready, Planned};
+ghost use Rattle.plan.specs.Plans.{ReadyOf, PlannedOf};
 ghost use Rattle.plan.specs.Turns.{fits_linked, stays_linked};
 ghost use Rattle.plan.specs.Walks.{Begins};
 
 use super::planned::Plan;
+use super::stretch::Stretch;
 use super::walk::{Part, Rise};
 use super::{ends, peel, planned, stretch, walk, wide_walk};
-use mesh::Site;
+use mesh::{Lent, Site};
 
 // A level of so many radios or fewer is peeled: the walk reads the rows of all who rise, the peel the rows of the others.
 const SMALL: usize = 16;
@@ -25,35 +26,29 @@ const WIDE: u8 = 6;
 fn plan_on(
     rise: Rise,
     first: usize,
-    links: &[u8],
-    numbers: &[u8],
-    order: &[u16],
+    t: &Lent,
     places: &[u16],
     not_lower: &mut [u8; Site::RADIOS as usize],
     stretch: &mut [u16; Site::RADIOS as usize],
 ) -> Plan
-    requires ready { Ready true (length order.now) rise.a rise.b (tables links.now numbers.now order.now) places.now not_lower.old }
-    requires room { length stretch.old ≡ max_radios }
-    requires begins { Begins rise.a rise.b rise.most first numbers.now places.now }
-    ensures { Planned true rise.a rise.b (graph_in (length order.now) links.now) order.now result
-        stretch.new }
+    requires ready { ReadyOf true rise.a rise.b (read_of t.now) places.now not_lower.old }
+    requires begins { Begins rise.a rise.b rise.most first t.now.numbers.now places.now }
+    ensures { PlannedOf true rise.a rise.b (read_of t.now) result stretch.new }
 {
-    let tail = &order[first..];
-    if walk::settled(rise, first, links, numbers, tail, places) {
+    let tail = &t.order[first..];
+    if walk::settled(rise, first, t.links, t.numbers, tail, places) {
         return planned::unmoved(first);
     }
-    let at = stretch::stretch_of(numbers, rise.most);
+    let at = stretch::stretch_of(t.numbers, rise.most);
     if at.size <= SMALL {
-        return peel::plan_peel(
-            rise.a, rise.b, links, numbers, order, places, not_lower, stretch,
-        );
+        return peel::plan_peel(rise.a, rise.b, t, places, not_lower, stretch);
     }
     let size = at.start + at.size - first;
     let part = Part { first, size };
     if WIDE <= rise.most {
-        return wide_walk::walk(rise, part, links, tail, places, stretch);
+        return wide_walk::walk(rise, part, t.links, tail, places, stretch);
     }
-    walk::walk(rise, part, links, numbers, tail, places, stretch)
+    walk::walk(rise, part, t.links, t.numbers, tail, places, stretch)
 }
 
 // Whether radio v, an end or not, has at most `most` neighbours that are not lower with the link. Without it it has `count`.
@@ -72,22 +67,19 @@ fn fits(rise: Rise, v: u32, count: u8) -> bool
 // Whether no radio of the stretch fits with the link. It stops at the first that does, and reads no row.
 fn rises_whole(
     rise: Rise,
-    start: usize,
-    size: usize,
+    at: Stretch,
     order: &[u16],
     not_lower: &[u8; Site::RADIOS as usize],
 ) -> bool
-    requires { (start + size ≤ length order.now) × ((p : ℕ) → p < length order.now → get_or order.now p 0 < max_radios) }
+    requires { (at.start + at.size ≤ length order.now) × ((p : ℕ) → p < length order.now → get_or order.now p 0 < max_radios) }
     ensures { result ≡ all (stays_linked rise.a rise.b rise.most not_lower.now)
-        (stretch order.now start size) }
+        (stretch order.now at.start at.size) }
 {
-    let mut i: usize = 0;
-    while i < size {
-        let v = order[start + i];
+    for i in 0..at.size {
+        let v = order[at.start + i];
         if fits(rise, v as u32, not_lower[v as usize]) {
             return false;
         }
-        i += 1;
     }
     true
 }
@@ -97,36 +89,28 @@ fn rises_whole(
 pub(crate) fn plan_up(
     a: u32,
     b: u32,
-    links: &[u8],
-    numbers: &[u8],
-    order: &[u16],
+    t: &Lent,
     places: &[u16],
     not_lower: &mut [u8; Site::RADIOS as usize],
     stretch: &mut [u16; Site::RADIOS as usize],
 ) -> Plan
-    requires ready { Ready true (length order.now) a b (tables links.now numbers.now order.now) places.now not_lower.old }
-    requires room { length stretch.old ≡ max_radios }
-    ensures { Planned true a b (graph_in (length order.now) links.now) order.now result
-        stretch.new }
+    requires { ReadyOf true a b (read_of t.now) places.now not_lower.old }
+    ensures { PlannedOf true a b (read_of t.now) result stretch.new }
 {
-    let most = ends::lower(numbers[a as usize], numbers[b as usize]);
-    let e = ends::beginning(a as usize, b as usize, numbers, places);
+    let most = ends::lower(t.numbers[a as usize], t.numbers[b as usize]);
+    let e = ends::beginning(a as usize, b as usize, t.numbers, places);
     let first = places[e] as usize;
     let rise = Rise { a, b, most };
-    if 0 < most {
-        if ends::leads(first, most, numbers, order) {
-            let at = stretch::stretch_of(numbers, most);
-            if rises_whole(rise, at.start, at.size, order, not_lower) {
-                walk::pass(at.start, at.start + at.size, 0, order, stretch);
-                return Plan {
-                    start: at.start,
-                    size: at.size,
-                    taken: 0,
-                };
-            }
+    if 0 < most && ends::leads(first, most, t.numbers, t.order) {
+        let at = stretch::stretch_of(t.numbers, most);
+        if rises_whole(rise, at, t.order, not_lower) {
+            walk::pass(at.start, at.start + at.size, 0, t.order, stretch);
+            return Plan {
+                start: at.start,
+                size: at.size,
+                taken: 0,
+            };
         }
     }
-    plan_on(
-        rise, first, links, numbers, order, places, not_lower, stretch,
-    )
+    plan_on(rise, first, t, places, not_lower, stretch)
 }

@@ -1,5 +1,5 @@
 // The stretch of a level in the order.
-ghost use Rattle.std.specs.Prelude.{◌≡◌, ◌≤◌};
+ghost use Rattle.std.specs.Prelude.{◌≡◌, ◌≤◌, ◌*◌};
 ghost use Rattle.lists.specs.Kit.{length};
 ghost use Rattle.plan.specs.Places.{level_start, level_size};
 
@@ -30,11 +30,9 @@ fn count_part(part: &[u8], level: u8) -> Counts
 {
     let mut below: u8 = 0;
     let mut equal: u8 = 0;
-    let mut i: usize = 0;
-    while i < part.len() {
-        below += (part[i] < level) as u8;
-        equal += (part[i] == level) as u8;
-        i += 1;
+    for x in part {
+        below += (*x < level) as u8;
+        equal += (*x == level) as u8;
     }
     Counts { below, equal }
 }
@@ -42,8 +40,7 @@ fn count_part(part: &[u8], level: u8) -> Counts
 // The stretch of the level: after as many entries as there are numbers below it, as long as there are numbers equal to it. Counted part by
 // part.
 pub fn stretch_of(numbers: &[u8], level: u8) -> Stretch
-    ensures started { result.start ≡ level_start numbers.now level }
-    ensures sized { result.size ≡ level_size numbers.now level }
+    ensures { (result.start ≡ level_start numbers.now level) × (result.size ≡ level_size numbers.now level) }
 {
     let mut start: usize = 0;
     let mut size: usize = 0;

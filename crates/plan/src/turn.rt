@@ -1,6 +1,6 @@
 // One turn of the peel: a radio is taken, and its neighbours after the call have one neighbour less that can still be taken.
 ghost use Rattle.std.specs.Prelude.{◌≡◌, ◌≤◌, ◌<◌, ◌+◌, ◌*◌};
-ghost use Rattle.lists.specs.Kit.{false, ℕ, suc, min, length, get_or, take};
+ghost use Rattle.lists.specs.Kit.{false, ℕ, suc, min, length, get_or};
 ghost use Rattle.mesh.specs.Limits.{max_radios, max_neighbours, row_bytes};
 ghost use Rattle.lists.specs.Lists.{range};
 ghost use Rattle.mesh.specs.Tables.{put_bit, put_link};
@@ -10,8 +10,19 @@ ghost use Rattle.plan.specs.Turns.{end_counted, counter_less, released, place_ma
 ghost use Rattle.plan.specs.Turns.{near_left, RowReady, NearReady, ListsNeighbours};
 
 use super::ends;
-use mesh::Site;
-use rows::sets;
+use super::stretch::Stretch;
+use mesh::{Lent, Site};
+use rows::sets::RadioSet;
+
+// What a release goes by: radios of `level`, by their numbers, lose a neighbour, and a radio's place fits once its counter is `most`.
+#[derive(Clone, Copy)]
+pub(crate) struct Bound<'a> {
+    pub(crate) level: u8,
+    pub(crate) most: u8,
+    pub(crate) numbers: &'a [u8],
+    pub(crate) places: &'a [u16],
+    ghost place_entries: { (i : ℕ) → get_or places.now i 0 < 65536 },
+}
 
 // The counter of v is one more going up and one less going down after, where v is of the level; the others keep theirs.
 pub(crate) fn count_end(
@@ -35,83 +46,63 @@ pub(crate) fn count_end(
     }
 }
 
-// Adds to the fitting places each of `size` places from `start` on whose radio has a counter of at most `most`.
+// Adds to the fitting places each place of the stretch whose radio has a counter of at most `most`.
 pub(crate) fn mark_fitting(
-    start: usize,
-    size: usize,
+    at: Stretch,
     most: u8,
     order: &[u16],
     counters: &[u8; Site::RADIOS as usize],
-    fits: &mut [u64; 8],
+    fits: &mut RadioSet,
 )
-    requires { (start + size ≤ length order.now) × (start + size ≤ max_radios) ×
+    requires { (at.start + at.size ≤ length order.now) × (at.start + at.size ≤ max_radios) ×
         ((p : ℕ) → p < length order.now → get_or order.now p 0 < max_radios) }
     ensures { fits.new
-        ≡ places_fitting order.now counters.now most (range start size) fits.old }
+        ≡ places_fitting order.now counters.now most (range at.start at.size) fits.old }
 {
-    let mut p = start;
-    while p < start + size {
+    for p in at.start..at.start + at.size {
         let v = order[p] as usize;
         if counters[v] <= most {
-            sets::put_in(fits, p as u32);
+            fits.put_in(p as u32);
         }
-        p += 1;
     }
 }
 
 // Takes one off the counter of v, where v is of the level; its place fits if the counter is then `most`.
 fn release_one(
     v: usize,
-    level: u8,
-    most: u8,
-    numbers: &[u8],
-    places: &[u16],
+    by: &Bound,
     counters: &mut [u8; Site::RADIOS as usize],
-    fits: &mut [u64; 8],
+    fits: &mut RadioSet,
 )
-    requires { (v < length numbers.now) × (v < length places.now) × (v < max_radios) ×
-        (get_or numbers.now v 0 ≡ level → 1 ≤ get_or counters.old v 0) }
-    ensures counted { counters.new ≡ counter_less numbers.now level v counters.old }
-    ensures marked { fits.new ≡ place_marked numbers.now places.now level most v
-        (counter_less numbers.now level v counters.old) fits.old }
+    requires { (v < length by.now.numbers.now) × (v < length by.now.places.now) × (v < max_radios) ×
+        (get_or by.now.numbers.now v 0 ≡ by.now.level → 1 ≤ get_or counters.old v 0) }
+    ensures counted { counters.new ≡ counter_less by.now.numbers.now by.now.level v counters.old }
+    ensures marked { fits.new ≡ place_marked by.now.numbers.now by.now.places.now by.now.level by.now.most v
+        (counter_less by.now.numbers.now by.now.level v counters.old) fits.old }
 {
-    if numbers[v] == level {
+    if by.numbers[v] == by.level {
         counters[v] -= 1;
-        if counters[v] == most {
-            sets::put_in(fits, places[v] as u32);
+        if counters[v] == by.most {
+            fits.put_in(by.places[v] as u32);
         }
     }
 }
 
-// Does so for the first k listed radios.
+// Does so for the listed radios.
 pub(crate) fn release(
     near: &[u16],
-    k: usize,
-    level: u8,
-    most: u8,
-    numbers: &[u8],
-    places: &[u16],
+    by: &Bound,
     counters: &mut [u8; Site::RADIOS as usize],
-    fits: &mut [u64; 8],
+    fits: &mut RadioSet,
 )
-    requires { (k ≤ length near.now) × Releasable numbers.now places.now level (take k near.now) counters.old }
-    ensures counted { counters.new ≡ released numbers.now level (take k near.now) counters.old }
+    requires { Releasable by.now.numbers.now by.now.places.now by.now.level near.now counters.old }
+    ensures counted { counters.new ≡ released by.now.numbers.now by.now.level near.now counters.old }
     ensures marked { fits.new
-        ≡ places_released numbers.now places.now level most (take k near.now)
+        ≡ places_released by.now.numbers.now by.now.places.now by.now.level by.now.most near.now
         counters.old fits.old }
 {
-    let mut i: usize = 0;
-    while i < k {
-        release_one(
-            near[i] as usize,
-            level,
-            most,
-            numbers,
-            places,
-            counters,
-            fits,
-        );
-        i += 1;
+    for v in near {
+        release_one(*v as usize, by, counters, fits);
     }
 }
 
@@ -119,23 +110,21 @@ pub(crate) fn release(
 fn release_word(
     word: u64,
     first: u32,
-    level: u8,
-    most: u8,
-    numbers: &[u8],
-    places: &[u16],
+    by: &Bound,
     counters: &mut [u8; Site::RADIOS as usize],
-    fits: &mut [u64; 8],
+    fits: &mut RadioSet,
 )
-    requires { (first ≤ max_radios) × Releasable numbers.now places.now level (set_bits 64 first word) counters.old }
-    ensures counted { counters.new ≡ released numbers.now level (set_bits 64 first word) counters.old }
+    requires { (first ≤ max_radios) ×
+        Releasable by.now.numbers.now by.now.places.now by.now.level (set_bits 64 first word) counters.old }
+    ensures counted { counters.new ≡ released by.now.numbers.now by.now.level (set_bits 64 first word) counters.old }
     ensures marked { fits.new
-        ≡ places_released numbers.now places.now level most (set_bits 64 first word)
+        ≡ places_released by.now.numbers.now by.now.places.now by.now.level by.now.most (set_bits 64 first word)
         counters.old fits.old }
 {
     let mut rest = word;
     while rest != 0 {
         let v = first + u64::trailing_zeros(rest);
-        release_one(v as usize, level, most, numbers, places, counters, fits);
+        release_one(v as usize, by, counters, fits);
         rest = rest & (rest - 1);
     }
 }
@@ -143,33 +132,26 @@ fn release_word(
 // Releases the radios that a row marks, which is lent by itself: by its words, with no list between.
 fn release_row(
     row: &[u8],
-    level: u8,
-    most: u8,
-    numbers: &[u8],
-    places: &[u16],
+    by: &Bound,
     counters: &mut [u8; Site::RADIOS as usize],
-    fits: &mut [u64; 8],
+    fits: &mut RadioSet,
 )
-    requires { (length row.now ≡ row_bytes) × Releasable numbers.now places.now level (neighbours_of row.now 0) counters.old }
+    requires { (length row.now ≡ row_bytes) ×
+        Releasable by.now.numbers.now by.now.places.now by.now.level (neighbours_of row.now 0) counters.old }
     ensures counted { counters.new
-        ≡ released numbers.now level (neighbours_of row.now 0) counters.old }
+        ≡ released by.now.numbers.now by.now.level (neighbours_of row.now 0) counters.old }
     ensures marked { fits.new
-        ≡ places_released numbers.now places.now level most (neighbours_of row.now 0)
+        ≡ places_released by.now.numbers.now by.now.places.now by.now.level by.now.most (neighbours_of row.now 0)
         counters.old fits.old }
 {
-    let mut k: u32 = 0;
-    while k < rows::ROW_WORDS {
+    for k in 0..rows::ROW_WORDS {
         release_word(
             rows::word_of(row, k),
             rows::WORD_BITS * k,
-            level,
-            most,
-            numbers,
-            places,
+            by,
             counters,
             fits,
         );
-        k += 1;
     }
 }
 
@@ -181,7 +163,7 @@ fn end_row(up: bool, v: u32, w: u32, links: &[u8]) -> [u8; Site::ROW_BYTES]
     let start = Site::ROW_BYTES * v as usize;
     let end = start + Site::ROW_BYTES;
     let mut row = [0u8; Site::ROW_BYTES];
-    tables::fill::copy8(&mut row, &links[start..end]);
+    tables::fill::copy(&mut row, &links[start..end]);
     rows::put_bit(&mut row, up, 0, w);
     row
 }
@@ -235,7 +217,7 @@ pub(crate) fn take_radio(
     numbers: &[u8],
     places: &[u16],
     counters: &mut [u8; Site::RADIOS as usize],
-    fits: &mut [u64; 8],
+    fits: &mut RadioSet,
 )
     requires { RowReady call.a call.b v links.now ×
         Releasable numbers.now places.now call.level
@@ -246,57 +228,48 @@ pub(crate) fn take_radio(
         (neighbours_of (put_link call.up call.a call.b links.now) v) counters.old
         (take_out p fits.old) }
 {
-    sets::take_out(fits, p);
+    fits.take_out(p);
+    let by = Bound {
+        level: call.level,
+        most: call.most,
+        numbers,
+        places,
+    };
     let w = ends::other_end(call.a, call.b, v);
     if w != v {
         let row = end_row(call.up, v, w, links);
-        release_row(&row, call.level, call.most, numbers, places, counters, fits);
+        release_row(&row, &by, counters, fits);
         return;
     }
     let start = Site::ROW_BYTES * v as usize;
     let end = start + Site::ROW_BYTES;
-    release_row(
-        &links[start..end],
-        call.level,
-        call.most,
-        numbers,
-        places,
-        counters,
-        fits,
-    );
+    release_row(&links[start..end], &by, counters, fits);
 }
 
 // Releases the radios that a row marks and that are left.
 fn release_left(
     row: &[u8],
-    left: &[u64; rows::ROW_WORDS as usize],
-    level: u8,
-    most: u8,
-    numbers: &[u8],
-    places: &[u16],
+    left: &RadioSet,
+    by: &Bound,
     counters: &mut [u8; Site::RADIOS as usize],
-    fits: &mut [u64; 8],
+    fits: &mut RadioSet,
 )
-    requires { (length row.now ≡ row_bytes) × Releasable numbers.now places.now level (near_left row.now 0 left.now) counters.old }
+    requires { (length row.now ≡ row_bytes) ×
+        Releasable by.now.numbers.now by.now.places.now by.now.level (near_left row.now 0 left.now) counters.old }
     ensures counted { counters.new
-        ≡ released numbers.now level (near_left row.now 0 left.now) counters.old }
+        ≡ released by.now.numbers.now by.now.level (near_left row.now 0 left.now) counters.old }
     ensures marked { fits.new
-        ≡ places_released numbers.now places.now level most (near_left row.now 0 left.now)
+        ≡ places_released by.now.numbers.now by.now.places.now by.now.level by.now.most (near_left row.now 0 left.now)
         counters.old fits.old }
 {
-    let mut k: u32 = 0;
-    while k < rows::ROW_WORDS {
+    for k in 0..rows::ROW_WORDS {
         release_word(
-            rows::word_of(row, k) & left[k as usize],
+            rows::word_of(row, k) & left.word(k),
             rows::WORD_BITS * k,
-            level,
-            most,
-            numbers,
-            places,
+            by,
             counters,
             fits,
         );
-        k += 1;
     }
 }
 
@@ -305,41 +278,35 @@ pub(crate) fn take_left(
     call: Call,
     p: u32,
     v: u32,
-    links: &[u8],
-    numbers: &[u8],
+    t: &Lent,
     places: &[u16],
-    left: &[u64; rows::ROW_WORDS as usize],
+    left: &RadioSet,
     counters: &mut [u8; Site::RADIOS as usize],
-    fits: &mut [u64; 8],
+    fits: &mut RadioSet,
 )
-    requires { RowReady call.a call.b v links.now ×
-        Releasable numbers.now places.now call.level
-        (near_left (put_link call.up call.a call.b links.now) v left.now) counters.old }
-    ensures counted { counters.new ≡ released numbers.now call.level
-        (near_left (put_link call.up call.a call.b links.now) v left.now) counters.old }
-    ensures marked { fits.new ≡ places_released numbers.now places.now call.level call.most
-        (near_left (put_link call.up call.a call.b links.now) v left.now) counters.old
+    requires { RowReady call.a call.b v t.now.links.now ×
+        Releasable t.now.numbers.now places.now call.level
+        (near_left (put_link call.up call.a call.b t.now.links.now) v left.now) counters.old }
+    ensures counted { counters.new ≡ released t.now.numbers.now call.level
+        (near_left (put_link call.up call.a call.b t.now.links.now) v left.now) counters.old }
+    ensures marked { fits.new ≡ places_released t.now.numbers.now places.now call.level call.most
+        (near_left (put_link call.up call.a call.b t.now.links.now) v left.now) counters.old
         (take_out p fits.old) }
 {
-    sets::take_out(fits, p);
+    fits.take_out(p);
+    let by = Bound {
+        level: call.level,
+        most: call.most,
+        numbers: t.numbers,
+        places,
+    };
     let w = ends::other_end(call.a, call.b, v);
     if w != v {
-        let row = end_row(call.up, v, w, links);
-        release_left(
-            &row, left, call.level, call.most, numbers, places, counters, fits,
-        );
+        let row = end_row(call.up, v, w, t.links);
+        release_left(&row, left, &by, counters, fits);
         return;
     }
     let start = Site::ROW_BYTES * v as usize;
     let end = start + Site::ROW_BYTES;
-    release_left(
-        &links[start..end],
-        left,
-        call.level,
-        call.most,
-        numbers,
-        places,
-        counters,
-        fits,
-    );
+    release_left(&t.links[start..end], left, &by, counters, fits);
 }

@@ -3,20 +3,21 @@
 // candidates becomes a candidate; one that has not is taken, and a candidate that then falls short is taken back, the first in the order
 // first. What is no candidate's neighbour is passed without a look at its row. The order is lent from the beginning end's place on.
 ghost use Rattle.std.specs.Prelude.{◌≡◌, ◌≤◌, ◌<◌, ◌+◌, ◌-◌};
-ghost use Rattle.lists.specs.Kit.{false, ℕ, length, get_or, take, drop, paste, leb};
-ghost use Rattle.mesh.specs.Limits.{max_radios, max_neighbours, row_bytes};
+ghost use Rattle.lists.specs.Kit.{false, List, ℕ, length, get_or, drop, paste, leb};
+ghost use Rattle.mesh.specs.Limits.{max_radios, max_neighbours};
 ghost use Rattle.lists.specs.Lists.{count, head_or};
 ghost use Rattle.rows.specs.Sets.{in_set, common};
-ghost use Rattle.plan.specs.Places.{next_place};
+ghost use Rattle.plan.specs.Places.{next_turn};
 ghost use Rattle.plan.specs.Walks.{is_left, place_touched, places_touched, joined, Known};
-ghost use Rattle.plan.specs.Walks.{part_of, WalkSite, written, WalkState, WalkDone};
+ghost use Rattle.plan.specs.Walks.{part_of, WalkSite, WalkDone, Sited, Reaches};
 
-use super::places::STOP;
+use super::ground::{Ground, Spot};
+use super::places::Turn;
 use super::planned::Plan;
-use super::turn::Call;
+use super::turn::{Bound, Call};
 use super::{places, turn};
 use mesh::Site;
-use rows::sets;
+use rows::sets::RadioSet;
 use tables::fill;
 
 // How a candidate is marked in the table of candidates.
@@ -44,128 +45,115 @@ pub(crate) struct Reached {
     pub(crate) taken: usize,
 }
 
-// Whether w counts for a radio at place p of the level: it is above, stands later in the level, or is a candidate.
-fn is_left(
-    w: usize,
-    level: u8,
-    p: u16,
-    numbers: &[u8],
-    places: &[u16],
-    held: &[u8; Site::RADIOS as usize],
-) -> bool
-    requires { (w < length numbers.now) × (w < length places.now) × (w < max_radios) }
-    ensures { result ≡ is_left level p numbers.now places.now held.now w }
+// The candidates: a mark and a counter for each radio, the places due, and the candidates' places.
+#[derive(Drop)]
+struct Candidates {
+    held: [u8; Site::RADIOS as usize],
+    counters: [u8; Site::RADIOS as usize],
+    due: RadioSet,
+    stay: RadioSet,
+}
+
+// Whether w counts for a radio at a place of the level: it is above, stands later in the level, or is a candidate.
+fn is_left(w: usize, spot: &Spot, held: &[u8; Site::RADIOS as usize]) -> bool
+    requires { (w < length spot.now.numbers.now) × (w < length spot.now.places.now) × (w < max_radios) }
+    ensures { result ≡ is_left spot.now.level spot.now.place spot.now.numbers.now spot.now.places.now held.now w }
 {
-    if numbers[w] != level {
-        return level < numbers[w];
+    if spot.numbers[w] != spot.level {
+        return spot.level < spot.numbers[w];
     }
-    if p < places[w] {
+    if spot.place < spot.places[w] {
         return true;
     }
     held[w] == CANDIDATE
 }
 
-// How many of the first k listed radios count.
-fn count_left(
-    near: &[u16],
-    k: usize,
-    level: u8,
-    p: u16,
-    numbers: &[u8],
-    places: &[u16],
-    held: &[u8; Site::RADIOS as usize],
-) -> u8
-    requires { (k ≤ length near.now) × (k ≤ max_neighbours) ×
-        Known (length numbers.now) (length places.now) max_radios (take k near.now) }
-    ensures { result ≡ count (is_left level p numbers.now places.now held.now) (take k near.now) }
+// How many of the listed radios count.
+fn count_left(near: &[u16], spot: &Spot, held: &[u8; Site::RADIOS as usize]) -> u8
+    requires { (length near.now ≤ max_neighbours) ×
+        Known (length spot.now.numbers.now) (length spot.now.places.now) max_radios near.now }
+    ensures { result ≡ count (is_left spot.now.level spot.now.place spot.now.numbers.now spot.now.places.now held.now) near.now }
 {
     let mut n: u8 = 0;
-    let mut i: usize = 0;
-    while i < k {
-        n += is_left(near[i] as usize, level, p, numbers, places, held) as u8;
-        i += 1;
+    for w in near {
+        n += is_left(*w as usize, spot, held) as u8;
     }
     n
 }
 
-// Makes the place of w due, where w stands in the level later than place p.
-fn touch_one(w: usize, level: u8, p: u16, numbers: &[u8], places: &[u16], due: &mut [u64; 8])
-    requires { (w < length numbers.now) × (w < length places.now) }
-    ensures { due.new ≡ place_touched level p numbers.now places.now w due.old }
+// Makes the place of w due, where w stands in the level later than the spot.
+fn touch_one(w: usize, spot: &Spot, due: &mut RadioSet)
+    requires { (w < length spot.now.numbers.now) × (w < length spot.now.places.now) }
+    ensures { due.new ≡ place_touched spot.now.level spot.now.place spot.now.numbers.now spot.now.places.now w due.old }
 {
-    if numbers[w] == level {
-        if p < places[w] {
-            sets::put_in(due, places[w] as u32);
+    if spot.numbers[w] == spot.level {
+        if spot.place < spot.places[w] {
+            due.put_in(spot.places[w] as u32);
         }
     }
 }
 
-// Does so for the first k listed radios.
-fn touch(
-    near: &[u16],
-    k: usize,
-    level: u8,
-    p: u16,
-    numbers: &[u8],
-    places: &[u16],
-    due: &mut [u64; 8],
-)
-    requires { (k ≤ length near.now) × Known (length numbers.now) (length places.now) (length numbers.now) (take k near.now) }
-    ensures { due.new
-        ≡ places_touched level p numbers.now places.now (take k near.now) due.old }
+// Does so for the listed radios.
+fn touch(near: &[u16], spot: &Spot, due: &mut RadioSet)
+    requires { Known (length spot.now.numbers.now) (length spot.now.places.now) (length spot.now.numbers.now) near.now }
+    ensures { due.new ≡ places_touched spot.now.level spot.now.place spot.now.numbers.now spot.now.places.now near.now due.old }
 {
-    let mut i: usize = 0;
-    while i < k {
-        touch_one(near[i] as usize, level, p, numbers, places, due);
-        i += 1;
+    for w in near {
+        touch_one(*w as usize, spot, due);
     }
 }
 
 // Looks at the radio at the front, when no place before it is due: it is held as a candidate, and its later neighbours in the level are
 // due; or it is taken, and the candidates among its neighbours lose one.
 fn look(
-    rise: Rise,
-    part: Part,
-    at: Reached,
-    links: &[u8],
+    ground: &Ground,
     numbers: &[u8],
-    tail: &[u16],
-    places: &[u16],
-    held: &mut [u8; Site::RADIOS as usize],
-    counters: &mut [u8; Site::RADIOS as usize],
-    due: &mut [u64; 8],
-    stay: &mut [u64; 8],
+    at: Reached,
+    work: &mut Candidates,
     list: &mut [u16; Site::RADIOS as usize],
 ) -> Reached
-    requires { WalkSite rise part links.now numbers.now tail.now places.now ×
-        WalkState rise part links.now tail.now places.now at.front at.taken
-        (written held.old counters.old due.old stay.old list.old) ×
-        ((at.front < part.size) × ((q : ℕ) → q < at.front → in_set due.old (part.first + q) ≡ false)) }
-    ensures state { WalkState rise part links.now tail.now
-        places.now result.front result.taken
-        (written held.new counters.new due.new stay.new list.new) }
+    requires site { Sited ground.now numbers.now }
+    requires state { Reaches ground.now at work.old list.old }
+    requires free { (at.front < ground.now.part.size) ×
+        ((q : ℕ) → q < at.front → in_set work.old.due (ground.now.part.first + q) ≡ false) }
+    ensures state { Reaches ground.now result work.new list.new }
     ensures further { (result.front ≡ at.front + 1) × (at.taken ≤ result.taken) }
 {
-    let mut near = [0u16; Site::NEIGHBOURS as usize];
+    let rise = ground.rise;
+    let places = ground.places;
+    let mut row = [0u16; Site::NEIGHBOURS as usize];
     let front = at.front;
     let taken = at.taken;
-    let v = tail[front];
-    let p = part.first + front;
-    sets::take_out(due, p as u32);
-    let k = turn::neighbours_after(true, rise.a, rise.b, v as u32, links, &mut near) as usize;
-    let c = count_left(&near, k, rise.most, p as u16, numbers, places, held);
+    let v = ground.tail[front];
+    let p = ground.part.first + front;
+    work.due.take_out(p as u32);
+    let k = turn::neighbours_after(true, rise.a, rise.b, v as u32, ground.links, &mut row) as usize;
+    let near = &row[..k];
+    let spot = Spot {
+        level: rise.most,
+        place: p as u16,
+        numbers,
+        places,
+    };
+    let c = count_left(near, &spot, &work.held);
     if rise.most < c {
-        held[v as usize] = CANDIDATE;
-        sets::put_in(stay, p as u32);
-        counters[v as usize] = c;
-        touch(&near, k, rise.most, p as u16, numbers, places, due);
+        work.held[v as usize] = CANDIDATE;
+        work.stay.put_in(p as u32);
+        work.counters[v as usize] = c;
+        touch(near, &spot, &mut work.due);
         return Reached {
             front: front + 1,
             taken,
         };
     }
     list[taken] = v;
-    turn::release(&near, k, CANDIDATE, rise.most, held, places, counters, due);
+    let by = Bound {
+        level: CANDIDATE,
+        most: rise.most,
+        numbers: &work.held,
+        places,
+    };
+    turn::release(near, &by, &mut work.counters, &mut work.due);
     Reached {
         front: front + 1,
         taken: taken + 1,
@@ -174,33 +162,23 @@ fn look(
 
 // Takes the candidate at place p back: it fell short, and no place before it is due.
 fn back(
-    rise: Rise,
-    part: Part,
+    ground: &Ground,
     p: usize,
     at: Reached,
-    links: &[u8],
-    numbers: &[u8],
-    tail: &[u16],
-    places: &[u16],
-    held: &mut [u8; Site::RADIOS as usize],
-    counters: &mut [u8; Site::RADIOS as usize],
-    due: &mut [u64; 8],
-    stay: &mut [u64; 8],
+    work: &mut Candidates,
     list: &mut [u16; Site::RADIOS as usize],
 ) -> Reached
-    requires { WalkSite rise part links.now numbers.now tail.now places.now ×
-        WalkState rise part links.now tail.now places.now at.front at.taken
-        (written held.old counters.old due.old stay.old list.old) ×
-        ((p ≡ head_or max_radios (common due.old due.old)) × (p < part.first + at.front)) }
-    ensures state { WalkState rise part links.now tail.now
-        places.now result.front result.taken
-        (written held.new counters.new due.new stay.new list.new) }
+    requires site { (numbers : List ℕ) × Sited ground.now numbers }
+    requires state { Reaches ground.now at work.old list.old }
+    requires fallen { (p ≡ head_or max_radios (common work.old.due work.old.due)) × (p < ground.now.part.first + at.front) }
+    ensures state { Reaches ground.now result work.new list.new }
     ensures further { (result.front ≡ at.front) × (result.taken ≡ at.taken + 1) }
 {
-    let v = tail[p - part.first];
-    held[v as usize] = 0;
-    sets::take_out(stay, p as u32);
+    let rise = ground.rise;
     let taken = at.taken;
+    let v = ground.tail[p - ground.part.first];
+    work.held[v as usize] = 0;
+    work.stay.take_out(p as u32);
     list[taken] = v;
     let call = Call {
         up: true,
@@ -209,7 +187,16 @@ fn back(
         level: CANDIDATE,
         most: rise.most,
     };
-    turn::take_radio(call, p as u32, v as u32, links, held, places, counters, due);
+    turn::take_radio(
+        call,
+        p as u32,
+        v as u32,
+        ground.links,
+        &work.held,
+        ground.places,
+        &mut work.counters,
+        &mut work.due,
+    );
     Reached {
         front: at.front,
         taken: taken + 1,
@@ -222,49 +209,36 @@ pub(crate) fn pass(front: usize, until: usize, taken: usize, tail: &[u16], list:
     ensures { list.new ≡ paste list.old taken (drop front tail.now) (until - front) }
 {
     let end = taken + (until - front);
-    fill::copy16(&mut list[taken..end], &tail[front..until]);
+    fill::copy(&mut list[taken..end], &tail[front..until]);
 }
 
-// One turn at place p: a candidate is taken back, the front is looked at, or what stands before the next place due is passed.
+// One turn: a candidate is taken back, the front is looked at, or what stands before the next place due is passed.
 fn step(
-    rise: Rise,
-    part: Part,
-    p: usize,
-    at: Reached,
-    links: &[u8],
+    ground: &Ground,
     numbers: &[u8],
-    tail: &[u16],
-    places: &[u16],
-    held: &mut [u8; Site::RADIOS as usize],
-    counters: &mut [u8; Site::RADIOS as usize],
-    due: &mut [u64; 8],
-    stay: &mut [u64; 8],
+    turn: Turn,
+    at: Reached,
+    work: &mut Candidates,
     list: &mut [u16; Site::RADIOS as usize],
 ) -> Reached
-    requires { WalkSite rise part links.now numbers.now tail.now places.now ×
-        WalkState rise part links.now tail.now places.now at.front at.taken
-        (written held.old counters.old due.old stay.old list.old) ×
-        ((p ≡ next_place part.first part.size at.front at.taken due.old) × (p ≤ max_radios)) }
-    ensures state { WalkState rise part links.now tail.now
-        places.now result.front result.taken
-        (written held.new counters.new due.new stay.new list.new) }
+    requires site { Sited ground.now numbers.now }
+    requires state { Reaches ground.now at work.old list.old }
+    requires turn { Some turn ≡ next_turn ground.now.part.first ground.now.part.size at.front at.taken work.old.due }
+    ensures state { Reaches ground.now result work.new list.new }
     ensures further { (1 ≤ result.front) × (at.front + at.taken < result.front + result.taken) }
 {
-    if p < part.first + at.front {
-        return back(
-            rise, part, p, at, links, numbers, tail, places, held, counters, due, stay, list,
-        );
-    }
-    if p == part.first + at.front {
-        return look(
-            rise, part, at, links, numbers, tail, places, held, counters, due, stay, list,
-        );
-    }
-    let until = fill::least(p - part.first, part.size);
-    pass(at.front, until, at.taken, tail, list);
-    Reached {
-        front: until,
-        taken: at.taken + (until - at.front),
+    match turn {
+        Turn::Back(p) => back(ground, p, at, work, list),
+        Turn::Ahead(until) => {
+            if until == at.front {
+                return look(ground, numbers, at, work, list);
+            }
+            pass(at.front, until, at.taken, ground.tail, list);
+            Reached {
+                front: until,
+                taken: at.taken + (until - at.front),
+            }
+        }
     }
 }
 
@@ -296,45 +270,30 @@ pub(crate) fn walk(
     ensures walked { WalkDone rise part links.now tail.now result.size
         result.taken list.new }
 {
-    let mut held = [0u8; Site::RADIOS as usize];
-    let mut counters = [0u8; Site::RADIOS as usize];
-    let mut due = [0u64; 8];
-    let mut stay = [0u64; 8];
-    let start = Reached { front: 0, taken: 0 };
-    let mut at = look(
+    let ground = Ground {
         rise,
         part,
-        start,
         links,
-        numbers,
         tail,
         places,
-        &mut held,
-        &mut counters,
-        &mut due,
-        &mut stay,
+    };
+    let mut work = Candidates {
+        held: [0; Site::RADIOS as usize],
+        counters: [0; Site::RADIOS as usize],
+        due: RadioSet::empty(),
+        stay: RadioSet::empty(),
+    };
+    let mut at = look(
+        &ground,
+        numbers,
+        Reached { front: 0, taken: 0 },
+        &mut work,
         list,
     );
-    let mut p = places::next(part.first, part.size, at.front, at.taken, &due);
-    while p < STOP {
-        at = step(
-            rise,
-            part,
-            p,
-            at,
-            links,
-            numbers,
-            tail,
-            places,
-            &mut held,
-            &mut counters,
-            &mut due,
-            &mut stay,
-            list,
-        );
-        p = places::next(part.first, part.size, at.front, at.taken, &due);
+    while let Some(turn) = places::next(part, at, &work.due) {
+        at = step(&ground, numbers, turn, at, &mut work, list);
     }
-    places::list_entries(&stay, part.first, tail, at.taken, list);
+    places::list_entries(&work.stay, part.first, tail, at.taken, list);
     plan_of(part, at)
 }
 
@@ -351,9 +310,15 @@ pub(crate) fn settled(
     ensures { result ≡ leb (count (joined rise.a rise.b first links.now tail.now (get_or tail.now 0 0))
         (drop 1 tail.now)) rise.most }
 {
-    let mut near = [0u16; Site::NEIGHBOURS as usize];
+    let mut row = [0u16; Site::NEIGHBOURS as usize];
     let held = [0u8; Site::RADIOS as usize];
     let v = tail[0];
-    let k = turn::neighbours_after(true, rise.a, rise.b, v as u32, links, &mut near) as usize;
-    count_left(&near, k, rise.most, first as u16, numbers, places, &held) <= rise.most
+    let k = turn::neighbours_after(true, rise.a, rise.b, v as u32, links, &mut row) as usize;
+    let spot = Spot {
+        level: rise.most,
+        place: first as u16,
+        numbers,
+        places,
+    };
+    count_left(&row[..k], &spot, &held) <= rise.most
 }

@@ -1,27 +1,25 @@
-// Leaves of the walk by words: sets of radios and of places, eight words each, and the counters of the candidates.
+// Leaves of the walk by words: sets of radios and of places, and the counters of the candidates.
 ghost use Rattle.std.specs.Prelude.{◌≡◌, ◌∷◌, ◌≤◌, ◌<◌};
 ghost use Rattle.lists.specs.Kit.{[], ℕ, length, get_or};
 ghost use Rattle.mesh.specs.Limits.{max_radios};
 ghost use Rattle.lists.specs.Lists.{member};
 ghost use Rattle.rows.specs.Rows.{set_bits};
 ghost use Rattle.rows.specs.Sets.{in_set, common};
-ghost use Rattle.plan.specs.WideSteps.{EndsKnown, JoinedAfter, Lowerable, Lowered, next_turn};
+ghost use Rattle.plan.specs.WideSteps.{EndsKnown, JoinedAfter, Lowerable, Lowered};
 
 use super::ends;
-use super::places::STOP;
 use mesh::Site;
-use rows::sets;
+use rows::sets::RadioSet;
 
 // Puts the neighbours that v has after the link went up into the set.
-pub fn join_after(a: u32, b: u32, v: u32, links: &[u8], set: &mut [u64; 8])
-    requires ends { (n : ℕ) × EndsKnown a b v n links.now }
-    requires long { length set.old ≡ 8 }
+pub fn join_after(a: u32, b: u32, v: u32, links: &[u8], set: &mut RadioSet)
+    requires { (n : ℕ) × EndsKnown a b v n links.now }
     ensures { JoinedAfter a b v links.now set.old set.new }
 {
-    sets::join_row(links, v, set);
+    set.join_row(links, v);
     let w = ends::other_end(a, b, v);
     if w != v {
-        sets::put_in(set, w);
+        set.put_in(w);
     }
 }
 
@@ -31,16 +29,15 @@ fn lower_one(
     most: u8,
     places: &[u16],
     counters: &mut [u8; Site::RADIOS as usize],
-    due: &mut [u64; 8],
+    due: &mut RadioSet,
 )
-    requires known { (v < length places.now) × (v < max_radios) × (v < length counters.old) ×
+    requires { (v < length places.now) × (v < max_radios) × (v < length counters.old) ×
         (get_or places.now v 0 < max_radios) × (1 ≤ get_or counters.old v 0) }
-    requires long { length due.old ≡ 8 }
     ensures { Lowered most places.now (v ∷ []) counters.old due.old counters.new due.new }
 {
     counters[v] -= 1;
     if counters[v] == most {
-        sets::put_in(due, places[v] as u32);
+        due.put_in(places[v] as u32);
     }
 }
 
@@ -51,10 +48,9 @@ fn lower_word(
     most: u8,
     places: &[u16],
     counters: &mut [u8; Site::RADIOS as usize],
-    due: &mut [u64; 8],
+    due: &mut RadioSet,
 )
-    requires known { (first ≤ max_radios) × Lowerable places.now (set_bits 64 first word) counters.old }
-    requires long { length due.old ≡ 8 }
+    requires { (first ≤ max_radios) × Lowerable places.now (set_bits 64 first word) counters.old }
     ensures { Lowered most places.now (set_bits 64 first word) counters.old due.old
         counters.new due.new }
 {
@@ -68,60 +64,31 @@ fn lower_word(
 
 // Does so for the candidates among the neighbours of a radio.
 pub fn lower(
-    near: &[u64; 8],
-    held: &[u64; 8],
+    near: &RadioSet,
+    held: &RadioSet,
     most: u8,
     places: &[u16],
     counters: &mut [u8; Site::RADIOS as usize],
-    due: &mut [u64; 8],
+    due: &mut RadioSet,
 )
-    requires known { Lowerable places.now (common near.now held.now) counters.old }
-    requires long { (length near.now ≡ 8) × (length held.now ≡ 8) × (length due.old ≡ 8) }
+    requires { Lowerable places.now (common near.now held.now) counters.old }
     ensures { Lowered most places.now (common near.now held.now) counters.old due.old
         counters.new due.new }
 {
-    let mut k: u32 = 0;
-    while k < rows::ROW_WORDS {
-        let at = k as usize;
-        lower_word(
-            near[at] & held[at],
-            rows::WORD_BITS * k,
-            most,
-            places,
-            counters,
-            due,
-        );
-        k += 1;
+    for k in 0..rows::ROW_WORDS {
+        let word = near.word(k) & held.word(k);
+        lower_word(word, rows::WORD_BITS * k, most, places, counters, due);
     }
 }
 
 // The listed radios as a set.
-pub fn set_of(list: &[u16]) -> [u64; 8]
+pub fn set_of(list: &[u16]) -> RadioSet
     ensures long { length result ≡ 8 }
     ensures is { (w : ℕ) → w < max_radios → in_set result w ≡ member w list.now }
 {
-    let mut set = [0u64; 8];
-    let mut i: usize = 0;
-    while i < list.len() {
-        sets::put_in(&mut set, list[i] as u32);
-        i += 1;
+    let mut set = RadioSet::empty();
+    for v in list {
+        set.put_in(*v as u32);
     }
     set
-}
-
-// Where the next turn is: a place due, the most radios of a site for the front, `STOP` when the walk is at its end.
-pub fn next(size: usize, front: usize, taken: usize, due: &[u64; 8]) -> usize
-    ensures { result ≡ next_turn size front taken due.now }
-{
-    if front <= taken {
-        return STOP;
-    }
-    let p = sets::first_common(due, due) as usize;
-    if p < Site::RADIOS as usize {
-        return p;
-    }
-    if size <= front {
-        return STOP;
-    }
-    p
 }

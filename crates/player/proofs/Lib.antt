@@ -9,6 +9,7 @@ pub mod BytesLaws
 pub mod SplitLaws
 pub mod WholeLaws
 pub mod SizeLaws
+pub mod BoardLaws
 pub mod ReadingLaws
 pub mod RunLaws
 pub mod Texts

@@ -2,20 +2,20 @@
 --   writes-..      what is written and what waits
 --   chunk-..       the loop of `reading::take_chunk`
 --   read-..        the loop of `reading::read_turns`
-use Rattle.std.specs.Prelude.{◌≡◌, ◌⊎◌, ◌∷◌, ◌++◌, ◌+◌, ◌-◌, ◌*◌, ◌≤◌, ◌<◌}
+use Rattle.std.specs.Prelude.{◌≡◌, ◌⊎◌, ◌∷◌, ◌++◌, ◌+◌, ◌-◌, ◌*◌, ◌≤◌, ◌<◌, Option, Some, None}
+use Rattle.std.specs.Option.{option_or, is_some}
 use Rattle.lists.{specs.Kit.{refl, sym, ap, subst, ◌∙◌, inl, inr, Bool, true, false, cond, true≢false, List, [], append_assoc, append-nil}}
-use Rattle.lists.{specs.Kit.{ℕ, zero, suc, arith, add-one, ltb, eqb, length, take, drop, get_or, replicate, length-append}}
-use Rattle.lists.{specs.Kit.{length-replicate, length-take, take-suc, take_at, take_all, length-take-le, ltb-true, lt-ltb, le-ltb, ne_eqb}}
-use Rattle.lists.{proofs.Tests.{bool_cases, cond_false}, specs.Lists.{In}, proofs.Range.{length_range}}
-use Rattle.mesh.specs.{Limits.{max_radios, row_bytes}, Tables.{Tables, tables}}
-use Rattle.calls.{specs.Questions.{lengths_of, lent_refusal, tables_refusal}, specs.Outcomes.{Tabled, clear_outcome}, specs.CallContracts.{ClearContract}}
-use Rattle.calls.{proofs.ChainLaws.{lent_yes}, proofs.ContractLaws.{by_zero}}
+use Rattle.lists.{specs.Kit.{ℕ, zero, suc, arith, add-one, ltb, length, take, drop, get_or, length-append}}
+use Rattle.lists.{specs.Kit.{length-take, take-suc, take_at, take_all, length-take-le, ltb-true, lt-ltb, le-ltb}}
+use Rattle.lists.{proofs.Tests.{bool_cases}, specs.Lists.{In}}
+use Rattle.mesh.specs.{Limits.{max_radios}, Tables.{Tables}}
 use Rattle.text.{specs.Print.{Buffer, buffer_at, Puts, max_place}, proofs.PrintLaws.{put_fits}}
-use Rattle.player.specs.{Reads.{goes_on, at_end, Found, Read, input_of, Going, Unbroken, ToEnd}, Lines.{Prints}, Machine.{Spot, spot, Marked, Takes}}
+use Rattle.player.specs.{Reads.{Found, Read, input_of, Going, Unbroken, ToEnd}, Lines.{Prints}, Machine.{Spot, spot, Marked, Takes}}
 use Rattle.player.specs.{Machine.{TakesAll, full, line_room, closing, ending}, Reading.{chunk_room, waiting, Writes, room_made, kept_fault, RoomMade}}
 use Rattle.player.specs.{Reading.{broken_off}}
-use Rattle.player.specs.{Reading.{Ready, SiteLent, SiteCleared, SiteSized, TakesChunk, Ended, Broken, TakesRead, FoundBy, ReadsOnce, ReadsAll}}
-use Rattle.player.specs.{Play.{lines_of, cleared}, Whole.{LinesPrint, RunFrom}, declared.machine.Progress.{Progress}}
+use Rattle.player.specs.{Reading.{Ready, SiteCleared, TakesChunk, Ended, Broken, TakesRead, FoundBy, ReadsOnce, ReadsAll}}
+use Rattle.player.specs.{Play.{lines_of, cleared}, Whole.{LinesPrint, RunFrom}, declared.machine.{Progress.{Progress}, Fault.{Fault}, Fault.TheVariants.{Lost}}}
+use Rattle.player.specs.declared.input.{State.{State}, State.TheVariants.{GoesOn, End, Failed}}
 use Rattle.player.proofs.{ReadLaws.{none_found, take_none}, BytesLaws.{takes_more, takes_append}, SizeLaws.{takes_length, takes_number}}
 use Rattle.player.proofs.{SizeLaws.{takes_all_number, closing_length}, WholeLaws.{bytes_print, ending_dead, ending_live}}
 
@@ -46,7 +46,7 @@ writes_put out text after at next h m p =
     record { written = []; is = sym (ap waiting e ∙ take_at (take at out ++ text) (drop (at + length text) out) (at + length text) front) }
 
 -- a full buffer is written, and nothing waits then
-pub writes_room : (f : ℕ) (s : Progress) (out : List ℕ) → Writes (buffer_at out s.at) [] (buffer_at out (room_made f s).at)
+pub writes_room : (f : Option Fault) (s : Progress) (out : List ℕ) → Writes (buffer_at out s.at) [] (buffer_at out (room_made f s).at)
 unfolding room_made waiting
 writes_room f s out = go (ltb s.at full)
   where
@@ -58,12 +58,12 @@ pub room_made_not : (s : Progress) → s.at < full → s ≡ room_made s.fault s
 unfolding room_made
 room_made_not s h = rw (lt-ltb s.at full h)
 
-pub room_made_full : (f : ℕ) (s : Progress) → full ≤ s.at
+pub room_made_full : (f : Option Fault) (s : Progress) → full ≤ s.at
     → record { number = s.number; held = s.held; at = 0; live = s.live; fault = f } ≡ room_made f s
 unfolding room_made
 room_made_full f s h = rw (le-ltb s.at full h)
 
-pub room_made_at : (f : ℕ) (s : Progress) → (room_made f s).at < full
+pub room_made_at : (f : Option Fault) (s : Progress) → (room_made f s).at < full
 unfolding room_made
 room_made_at f s = go (bool_cases (ltb s.at full))
   where
@@ -90,16 +90,17 @@ chunk_none m n chunk p s out h =
     }
 
 -- one byte more: x is taken from the spot of s to the one of r, and room is made
-pub chunk_more : (m l n : ℕ) (chunk : List ℕ) (i x : ℕ) (p : Spot) (b : Buffer) (t v : Tables) (w y line kept : List ℕ) (s r d : Progress)
-    (out after : List ℕ) → i < length chunk → x ≡ get_or chunk i 0 → l ≡ m → length after ≡ length out → RoomMade r d
+pub chunk_more : (m l n k : ℕ) (chunk : List ℕ) (i x : ℕ) (p : Spot) (b : Buffer) (t v : Tables) (w y line kept : List ℕ) (s r d : Progress)
+    (out after : List ℕ) → i < length chunk → x ≡ get_or chunk i 0 → l ≡ m → k ≡ n → length after ≡ length out → RoomMade r d
     → ChunkTo m n chunk i p b (spot t w line s) s out
-    → Prints (λ text. Takes l n x (spot t w line s) text (spot v y kept r)) (buffer_at out s.at) (buffer_at after r.at)
+    → Prints (λ text. Takes l k x (spot t w line s) text (spot v y kept r)) (buffer_at out s.at) (buffer_at after r.at)
     → ChunkTo m n chunk (i + 1) p b (spot v y kept d) d after
 unfolding spot room_made
-chunk_more m l n chunk i x p b t v w y line kept s r d out after h e room same made so byte =
+chunk_more m l n k chunk i x p b t v w y line kept s r d out after h e room radios same made so byte =
     let taken : Takes m n (get_or chunk i 0) (spot t w line s) byte.text (spot v y kept r) =
     subst (λ (k : ℕ). Takes m n k (spot t w line s) byte.text (spot v y kept r)) e
-    (subst (λ (k : ℕ). Takes k n x (spot t w line s) byte.text (spot v y kept r)) room byte.holds) in
+    (subst (λ (o : ℕ). Takes o n x (spot t w line s) byte.text (spot v y kept r)) room
+    (subst (λ (o : ℕ). Takes l o x (spot t w line s) byte.text (spot v y kept r)) radios byte.holds)) in
     let long = takes_length m n (get_or chunk i 0) (spot t w line s) byte.text (spot v y kept r) (omega (arith, so.ready.number)) taken in
     let fits : s.at + length byte.text ≤ length out = omega (arith, long, so.ready.at, so.ready.room) in
     let put = writes_put out byte.text after s.at r.at fits (omega (arith, so.ready.room)) byte.puts in
@@ -139,11 +140,11 @@ in_below k (y ∷ xs) h x (inl e) = omega (arith, e, h 0)
 in_below k (y ∷ xs) h x (inr m) = in_below k xs (λ i. h (suc i)) x m
 
 -- numbers of eight bits and radios of sixteen: the closing lines fit, and wait
-pub closing_writes : (held ns xs out after : List ℕ) (s : Progress) (next : ℕ) → Ready 0 s out → SiteSized ns xs
+pub closing_writes : (held ns xs out after : List ℕ) (s : Progress) (next : ℕ) → Ready 0 s out → length ns ≤ max_radios → length xs ≤ max_radios
     → ((i : ℕ) → get_or ns i 0 < 256) → ((i : ℕ) → get_or xs i 0 < 65536) → Puts (buffer_at out s.at) (closing held ns xs s.number) (buffer_at after next)
     → Writes (buffer_at out s.at) (closing held ns xs s.number) (buffer_at after next)
-closing_writes held ns xs out after s next h sized f g p =
-    let long = closing_length held ns xs s.number (omega (arith, h.number)) sized.numbers_few sized.order_few
+closing_writes held ns xs out after s next h few less f g p =
+    let long = closing_length held ns xs s.number (omega (arith, h.number)) few less
     (λ x m. omega (arith, in_below 256 ns f x m)) (λ x m. omega (arith, in_below 65536 xs g x m)) in
     writes_put out (closing held ns xs s.number) after s.at next (omega (arith, long, h.at, h.room)) (omega (arith, h.room)) p
 
@@ -160,10 +161,10 @@ pub record ReadTo (n k : ℕ) (t : Tables) (w : List ℕ) (b : Buffer) (q : Spot
   pub writes : Writes b text (buffer_at out s.at)
   pub takes : s.live ≡ true → TakesAll line_room n (input_of reads) (begin t w) text q
   pub ready : s.live ≡ true → Ready (chunk_room * k) s out
-  pub going : s.live ≡ true → s.fault ≡ 0 → Going reads
+  pub going : s.live ≡ true → s.fault ≡ None → Going reads
   pub over : s.live ≡ false → LinesPrint n (lines_of (input_of reads)) 2 t w text
   pub unbroken : s.live ≡ false → Unbroken reads
-  pub to_end : s.live ≡ false → s.fault ≡ 0 → ToEnd reads
+  pub to_end : s.live ≡ false → s.fault ≡ None → ToEnd reads
 
 pub read_none : (n k : ℕ) (t : Tables) (w out : List ℕ) (s : Progress) → s.live ≡ true → Ready (chunk_room * k) s out
     → ReadTo n k t w (buffer_at out s.at) (begin t w) s out
@@ -193,17 +194,17 @@ printed_over n bs t w text q l h =
     (printed n bs t w text q h)
 
 -- one read more: p and q are the spots of s and r
-module _ (n l k : ℕ) (t : Tables) (w : List ℕ) (b : Buffer) (p q : Spot) (s r : Progress) (out after : List ℕ) (some : 0 < k) (room : l ≡ line_room)
-    (live : s.live ≡ true) (none : s.fault ≡ 0) (same : q.live ≡ r.live) (from : p.number ≡ s.number) (to : q.number ≡ r.number)
+module _ (n l j k : ℕ) (t : Tables) (w : List ℕ) (b : Buffer) (p q : Spot) (s r : Progress) (out after : List ℕ) (left : j < k) (room : l ≡ line_room)
+    (live : s.live ≡ true) (none : s.fault ≡ None) (same : q.live ≡ r.live) (from : p.number ≡ s.number) (to : q.number ≡ r.number)
     (long : length after ≡ length out) (at : r.live ≡ true → r.at < full) (so : ReadTo n k t w b p s out) (read : Read) (found : FoundBy read.state r)
   where
     -- what the last read says of all
     abbrev SoFar : (text : List ℕ) → Type 0
     SoFar text = Writes b text (buffer_at after r.at) × (r.live ≡ true → TakesAll line_room n (input_of so.reads ++ read.bytes) (begin t w) text q)
-        × (r.live ≡ true → Ready (chunk_room * (k - 1)) r after)
+        × (r.live ≡ true → Ready (chunk_room * j) r after)
         × (r.live ≡ false → LinesPrint n (lines_of (input_of so.reads ++ read.bytes)) 2 t w text)
 
-    read_to : (text : List ℕ) → SoFar text → ReadTo n (k - 1) t w b q r after
+    read_to : (text : List ℕ) → SoFar text → ReadTo n j t w b q r after
     unfolding input_of Going Unbroken ToEnd
     read_to text h =
         record {
@@ -219,7 +220,7 @@ module _ (n l k : ℕ) (t : Tables) (w : List ℕ) (b : Buffer) (p q : Spot) (s 
         }
 
     read_some : length read.bytes ≤ chunk_room → TakesChunk l n read.bytes p (buffer_at out s.at) q (buffer_at after r.at)
-        → ReadTo n (k - 1) t w b q r after
+        → ReadTo n j t w b q r after
     read_some few chunk =
         let bs = read.bytes in
         let taken : TakesAll line_room n bs p chunk.text q = subst (λ (m : ℕ). TakesAll m n bs p chunk.text q) room chunk.takes in
@@ -234,10 +235,10 @@ module _ (n l k : ℕ) (t : Tables) (w : List ℕ) (b : Buffer) (p q : Spot) (s 
         )
 
     -- the read brought nothing
-    same_input : (read.state ≡ goes_on → ⊥) → input_of so.reads ++ read.bytes ≡ input_of so.reads
+    same_input : (read.state ≡ GoesOn → ⊥) → input_of so.reads ++ read.bytes ≡ input_of so.reads
     same_input f = ap (λ (xs : List ℕ). input_of so.reads ++ xs) (read.none f) ∙ append-nil (input_of so.reads)
 
-    read_over : (read.state ≡ goes_on → ⊥) → Ended p (buffer_at out s.at) q (buffer_at after r.at) → ReadTo n (k - 1) t w b q r after
+    read_over : (read.state ≡ GoesOn → ⊥) → Ended p (buffer_at out s.at) q (buffer_at after r.at) → ReadTo n j t w b q r after
     read_over f end =
         read_to (so.text ++ ending p) (
           writes_append b (buffer_at out s.at) (buffer_at after r.at) so.text (ending p) so.writes end.writes,
@@ -247,7 +248,7 @@ module _ (n l k : ℕ) (t : Tables) (w : List ℕ) (b : Buffer) (p q : Spot) (s 
               (printed n (input_of so.reads) t w so.text p (so.takes live))),
         )
 
-    read_broken : (read.state ≡ goes_on → ⊥) → p.live ≡ s.live → Broken p (buffer_at out s.at) q (buffer_at after r.at) → ReadTo n (k - 1) t w b q r
+    read_broken : (read.state ≡ GoesOn → ⊥) → p.live ≡ s.live → Broken p (buffer_at out s.at) q (buffer_at after r.at) → ReadTo n j t w b q r
         after
     read_broken f on broken =
         let ready = so.ready live in
@@ -261,19 +262,21 @@ module _ (n l k : ℕ) (t : Tables) (w : List ℕ) (b : Buffer) (p q : Spot) (s 
           (λ h. absurd (true≢false (sym lives ∙ h))),
         )
 
-    read_by : (state : ℕ) → read.state ≡ state → p.live ≡ s.live → length read.bytes ≤ chunk_room
-        → TakesRead l n read.bytes state p (buffer_at out s.at) q (buffer_at after r.at) → ReadTo n (k - 1) t w b q r after
+    read_by : (state : State) → read.state ≡ state → p.live ≡ s.live → length read.bytes ≤ chunk_room
+        → TakesRead l n read.bytes state p (buffer_at out s.at) q (buffer_at after r.at) → ReadTo n j t w b q r after
     unfolding TakesRead
-    read_by zero e on few chunk = read_some few chunk
-    read_by (suc zero) e on few end = read_over (λ f. absurd (omega (arith, e, f))) end
-    read_by (suc (suc j)) e on few broken = read_broken (λ f. absurd (omega (arith, e, f))) on broken
+    read_by GoesOn e on few chunk = read_some few chunk
+    read_by End e on few end = read_over (λ f. absurd (cc)) end
+    read_by (Failed why) e on few broken = read_broken (λ f. absurd (cc)) on broken
 
-pub read_more : (n l k : ℕ) (t : Tables) (w : List ℕ) (b : Buffer) (p q : Spot) (s r : Progress) (out after : List ℕ) → 0 < k → l ≡ line_room
-    → s.live ≡ true → s.fault ≡ 0 → p.live ≡ s.live → q.live ≡ r.live → p.number ≡ s.number → q.number ≡ r.number
+pub read_more : (n o l j k : ℕ) (t : Tables) (w : List ℕ) (b : Buffer) (p q : Spot) (s r : Progress) (out after : List ℕ) → j < k → o ≡ n → l ≡ line_room
+    → s.live ≡ true → s.fault ≡ None → p.live ≡ s.live → q.live ≡ r.live → p.number ≡ s.number → q.number ≡ r.number
     → length after ≡ length out → (r.live ≡ true → r.at < full) → ReadTo n k t w b p s out
-    → ReadsOnce l n r p (buffer_at out s.at) q (buffer_at after r.at) → ReadTo n (k - 1) t w b q r after
-read_more n l k t w b p q s r out after some room live none on same from to long at so once =
-    read_by n l k t w b p q s r out after some room live none same from to long at so once.read once.found once.read.state refl on once.few
+    → ReadsOnce l o r p (buffer_at out s.at) q (buffer_at after r.at) → ReadTo n j t w b q r after
+read_more n o l j k t w b p q s r out after left radios room live none on same from to long at so more =
+    let once : ReadsOnce l n r p (buffer_at out s.at) q (buffer_at after r.at)
+    = subst (λ (i : ℕ). ReadsOnce l i r p (buffer_at out s.at) q (buffer_at after r.at)) radios more in
+    read_by n l j k t w b p q s r out after left room live none same from to long at so once.read once.found once.read.state refl on once.few
     once.taken
 
 -- from a cleared site
@@ -297,52 +300,6 @@ read_end n k t w b q s out site so =
       to_end = so.to_end;
     }
 
--- ---- the site
-
--- clearing tables that have their lengths
-pub site_cleared : (n r : ℕ) (t v : Tables) (w : List ℕ) → SiteLent n t w → ClearContract n t r v → SiteCleared n v w
-unfolding ClearContract clear_outcome tables_refusal lengths_of cleared
-site_cleared n r t v w site h =
-    let yes : lent_refusal n (lengths_of t) true 0 ≡ 0 =
-    lent_yes n (lengths_of t) true 0 (record {
-      least = site.some;
-      most = site.few;
-      lengths = record { links = site.links_length; numbers = site.numbers_length; order = site.order_length };
-      further = refl;
-    }) in
-    record {
-      some = site.some;
-      few = site.few;
-      is_cleared = ap (λ (o : Tabled ℕ). o.tables) (by_zero _ _ _ yes h);
-      answer_zero = site.answer_zero;
-    }
-
--- a part of zeros
-take_zeros : (n m : ℕ) → n ≤ m → take {A = ℕ} n (replicate m 0) ≡ replicate n 0
-take_zeros zero m h = refl
-take_zeros (suc n) zero h = absurd (omega arith)
-take_zeros (suc n) (suc m) h = ap (λ (xs : List ℕ). 0 ∷ xs) (take_zeros n m (omega arith))
-
--- parts of the largest tables
-pub site_lent : (n l m : ℕ) → 0 < n → n ≤ max_radios → row_bytes * n ≤ l → n ≤ m
-    → SiteLent n (tables (take (row_bytes * n) (replicate l 0)) (take n (replicate m 0)) (take n (replicate m 0))) (take n (replicate m 0))
-site_lent n l m some few bytes many =
-    record {
-      some = some;
-      few = few;
-      links_length = length-take-le (row_bytes * n) (replicate l 0) (omega (arith, length-replicate {A = ℕ} l 0));
-      numbers_length = length-take-le n (replicate m 0) (omega (arith, length-replicate {A = ℕ} m 0));
-      order_length = length-take-le n (replicate m 0) (omega (arith, length-replicate {A = ℕ} m 0));
-      answer_zero = take_zeros n m many;
-    }
-
-pub sized_cleared : (n : ℕ) (t : Tables) (w : List ℕ) → SiteCleared n t w → SiteSized t.numbers t.order
-unfolding cleared
-sized_cleared n t w site =
-    let numbers : length t.numbers ≡ n = ap (λ (v : Tables). length v.numbers) site.is_cleared ∙ length-replicate n 0 in
-    let order : length t.order ≡ n = ap (λ (v : Tables). length v.order) site.is_cleared ∙ length_range 0 n in
-    record { numbers_few = omega (arith, site.few); order_few = omega (arith, site.few) }
-
 -- ---- one read
 
 -- fewer bytes can be taken where more can be
@@ -353,9 +310,6 @@ ready_less l h = record { at = h.at; number = omega (arith, h.number); room = h.
 pub ready_turn : (k : ℕ) (s : Progress) (out : List ℕ) → 0 < k → Ready (chunk_room * k) s out → Ready chunk_room s out
 ready_turn k s out l h = ready_less (omega arith) h
 
-pub sized_as : {ns ms xs ys : List ℕ} → length ns ≡ length ms → length xs ≡ length ys → SiteSized ms ys → SiteSized ns xs
-sized_as e f h = record { numbers_few = omega (arith, h.numbers_few); order_few = omega (arith, h.order_few) }
-
 pub turn_ended : (t : Tables) (w line out after : List ℕ) (s r : Progress) → s.live ≡ true → r.live ≡ false
     → Writes (buffer_at out s.at) (closing (take s.held line) t.numbers t.order s.number) (buffer_at after r.at)
     → Ended (spot t w line s) (buffer_at out s.at) (spot t w line r) (buffer_at after r.at)
@@ -365,23 +319,6 @@ turn_ended t w line out after s r live over h =
       over = over;
       writes = subst (λ (u : List ℕ). Writes (buffer_at out s.at) u (buffer_at after r.at)) (sym (ending_live (spot t w line s) live)) h;
     }
-
--- what a read brought, by what it found
-pub read_ended : (m n : ℕ) (bs : List ℕ) (state : ℕ) (p q : Spot) (b c : Buffer) → state ≡ at_end → Ended p b q c → TakesRead m n bs state p b q c
-unfolding TakesRead
-read_ended m n bs state p q b c e h = rw e h
-
-pub read_bytes : (m n : ℕ) (bs : List ℕ) (state : ℕ) (p q : Spot) (b c : Buffer) → state ≡ goes_on → TakesChunk m n bs p b q c → TakesRead m n bs state p b q
-    c
-unfolding TakesRead
-read_bytes m n bs state p q b c e h = rw e h
-
-pub read_failed : (m n : ℕ) (bs : List ℕ) (state : ℕ) (p q : Spot) (b c : Buffer) → (state ≡ goes_on → ⊥) → (state ≡ at_end → ⊥) → Broken p b q c
-    → TakesRead m n bs state p b q c
-unfolding TakesRead
-read_failed m n bs zero p q b c f g h = absurd (f refl)
-read_failed m n bs (suc zero) p q b c f g h = absurd (g refl)
-read_failed m n bs (suc (suc k)) p q b c f g h = h
 
 -- nothing but the fault is another
 pub turn_broken : (t : Tables) (w line out : List ℕ) (s r : Progress) → r ≡ broken_off r.fault s
@@ -398,9 +335,9 @@ unfolding broken_off
 broken_at s r h = ap (λ (x : Progress). x.at) h
 
 -- count bytes of a chunk are read
-pub reads_once : (m n : ℕ) (chunk : List ℕ) (count state size : ℕ) (r : Progress) (p q : Spot) (b c : Buffer) → count ≤ length chunk → length chunk ≡ chunk_room
+pub reads_once : (m n : ℕ) (chunk : List ℕ) (count size : ℕ) (state : State) (r : Progress) (p q : Spot) (b c : Buffer) → count ≤ length chunk → length chunk ≡ chunk_room
     → Found size (record { count = count; state = state }) → FoundBy state r → TakesRead m n (take count chunk) state p b q c → ReadsOnce m n r p b q c
-reads_once m n chunk count state size r p q b c few room found by h =
+reads_once m n chunk count size state r p q b c few room found by h =
     record {
       read = record { bytes = take count chunk; state = state; none = λ f. take_none count chunk (none_found found f) };
       few = omega (arith, length-take count chunk);
@@ -421,24 +358,16 @@ unfolding Marked room_made
 marked_room s r h m = λ l f. m (sym (ap (λ (x : Progress). x.live) h.is) ∙ l) (h.kept f)
 
 -- the fault that came first: none only where there is none
-pub fault_first : (old new r : ℕ) → r ≡ cond (eqb old 0) new old → r ≡ 0 → (old ≡ 0) × (new ≡ 0)
-fault_first zero new r e h = (refl, sym e ∙ h)
-fault_first (suc k) new r e h =
-    let some : r ≡ suc k = e ∙ cond_false (eqb (suc k) 0) new (suc k) (ne_eqb (suc k) 0 (λ d. absurd (omega (arith, d)))) in
-    absurd (omega (arith, some, h))
+pub some_fault : (old : Option Fault) (new : Fault) → option_or old (Some new) ≡ None → ⊥
+some_fault None new e = cc
+some_fault (Some f) new e = cc
 
-pub kept_right : (kept : Bool) (f : ℕ) → kept ≡ true → f ≡ kept_fault kept f
-unfolding kept_fault
-kept_right true f e = refl
-kept_right false f e = absurd (true≢false (sym e))
-
-pub kept_not : (kept : Bool) (f r : ℕ) → kept ≡ false → r ≡ cond (eqb f 0) 7 f → r ≡ kept_fault kept f
-unfolding kept_fault
-kept_not true f r e h = absurd (true≢false e)
-kept_not false f r e h = h
+pub none_is : (f : Option Fault) → is_some f ≡ false → f ≡ None
+none_is None e = refl
+none_is (Some f) e = absurd (true≢false e)
 
 -- a fault stays
-pub kept_zero : (kept : Bool) (f r : ℕ) → r ≡ kept_fault kept f → r ≡ 0 → f ≡ 0
+pub kept_none : (kept : Bool) (f r : Option Fault) → r ≡ kept_fault kept f → r ≡ None → f ≡ None
 unfolding kept_fault
-kept_zero true f r e h = sym e ∙ h
-kept_zero false f r e h = (fault_first f 7 r e h).0
+kept_none true f r e h = sym e ∙ h
+kept_none false f r e h = absurd (some_fault f Lost (sym e ∙ h))

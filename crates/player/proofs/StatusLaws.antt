@@ -1,14 +1,15 @@
 -- The status of a run: 0 only where all is read to its end and played.
-use Rattle.std.specs.Prelude.{◌≡◌, ◌∷◌, ◌≤◌, ◌<◌}
+use Rattle.std.specs.Prelude.{◌≡◌, ◌∷◌, ◌≤◌, ◌<◌, Option, Some, None}
 use Rattle.lists.specs.Kit.{refl, sym, subst, ◌∙◌, true, false, true≢false, List, [], ℕ, zero, suc, arith, ℤ, pos, negsuc, take, ltb-true}
 use Rattle.lists.specs.Kit.{leb-false, lt-ltb}
 use lib.Signed.{lt_z, le_z, non_neg}
+use Rattle.mesh.specs.Limits.{max_radios}
 use Rattle.text.specs.Print.{Buffer}
-use Rattle.player.specs.{Reads.{goes_on, at_end, Found, Read, Going, Unbroken, ToEnd}, declared.input.Brought.{Brought}, Reading.{ReadsAll}}
-use Rattle.player.specs.{Reading.{ReadsFirst, Concluded, PlayedToEnd, LinesStatus, RunStatus, is_keep, CopiesOnce, Copied}}
-use Rattle.player.specs.{declared.first.First.{First}}
-use Rattle.player.specs.{declared.machine.Progress.{Progress}}
-use Rattle.player.proofs.ReadLaws.{none_found, take_none}
+use Rattle.player.specs.{Reads.{NotFailed, Found, Read, input_of, Going, Unbroken, ToEnd}, Reading.{ReadsAll}, First.{some_radios}, Play.{radios_of}}
+use Rattle.player.specs.{Reading.{FirstIs, Concluded, PlayedToEnd, LinesStatus, RunStatus, is_keep, CopiesOnce, Copied}}
+use Rattle.player.specs.declared.{input.Brought.{Brought}, input.State.{State}, input.State.TheVariants.{GoesOn, End, Failed}}
+use Rattle.player.specs.declared.{first.First.{First}, input.Unread.{Unread}, machine.Progress.{Progress}}
+use Rattle.player.proofs.{ReadLaws.{none_found, take_none}, PlayLaws.{radios_of_le}}
 
 -- ---- the end of a run
 
@@ -16,7 +17,7 @@ pub concluded_wrong : (s : Progress) (r : ℕ) → r ≡ 1 → Concluded s r
 concluded_wrong s r e =
     record { few = omega (arith, e); over = λ f. absurd (omega (arith, e, f)); right = λ f. absurd (omega (arith, e, f)) }
 
-pub concluded_over : (s : Progress) (r : ℕ) → s.live ≡ false → r ≤ 1 → (r ≡ 0 → s.fault ≡ 0) → Concluded s r
+pub concluded_over : (s : Progress) (r : ℕ) → s.live ≡ false → r ≤ 1 → (r ≡ 0 → s.fault ≡ None) → Concluded s r
 concluded_over s r l few h = record { few = few; over = λ e. l; right = h }
 
 pub lines_status : (n r : ℕ) (b : Buffer) (s : Progress) (out : List ℕ) → ReadsAll n b s out → Concluded s r → LinesStatus n r
@@ -36,36 +37,51 @@ lines_status n r b s out all end =
 going_unbroken : (rs : List Read) → Going rs → Unbroken rs
 unfolding Going Unbroken
 going_unbroken [] g = tt
-going_unbroken (r ∷ rs) g = (omega (arith, g.0), g.1)
+going_unbroken (r ∷ rs) g = (subst NotFailed (sym g.0) tt, g.1)
 
 end_unbroken : (rs : List Read) → ToEnd rs → Unbroken rs
 unfolding ToEnd Unbroken
 end_unbroken [] g = absurd g
-end_unbroken (r ∷ rs) g = (omega (arith, g.0), g.1)
+end_unbroken (r ∷ rs) g = (subst NotFailed (sym g.0) tt, g.1)
 
-unbroken_by : (rs : List Read) (state : ℕ) → state ≤ at_end → (state ≡ goes_on → Going rs) → (state ≡ at_end → ToEnd rs) → Unbroken rs
-unbroken_by rs zero h going ended = going_unbroken rs (going refl)
-unbroken_by rs (suc zero) h going ended = end_unbroken rs (ended refl)
-unbroken_by rs (suc (suc k)) h going ended = absurd (omega (arith, h))
+pub unbroken_on : {r : State} (rs : List Read) → r ≡ GoesOn → (r ≡ GoesOn → Going rs) → Unbroken rs
+unbroken_on rs e going = going_unbroken rs (going e)
+
+pub unbroken_ended : {r : State} (rs : List Read) → r ≡ End → (r ≡ End → ToEnd rs) → Unbroken rs
+unbroken_ended rs e ended = end_unbroken rs (ended e)
 
 pub run_wrong : (r : ℕ) → r ≡ 1 → RunStatus r
 run_wrong r e = record { few = omega (arith, e); whole = λ f. absurd (omega (arith, e, f)) }
 
-pub run_status : (r : ℕ) (f : First) → ReadsFirst f → f.state ≤ at_end → (f.n ≡ 0 → ⊥) → LinesStatus f.n r → RunStatus r
-run_status r f first low some lines =
-    record {
-      few = lines.few;
-      whole = λ e. record {
-        first = first.reads;
-        unbroken = unbroken_by first.reads f.state low first.going first.ended;
-        named = subst (λ (n : ℕ). 0 < n) first.names (positive f.n some);
-        lines = subst PlayedToEnd first.names (lines.whole e);
-      };
-    }
-  where
-    positive : (x : ℕ) → (x ≡ 0 → ⊥) → 0 < x
-    positive zero g = absurd (g refl)
-    positive (suc x) g = omega arith
+named_is : (k n : ℕ) → Some n ≡ some_radios k → (k ≡ n) × (0 < k)
+named_is zero n e = absurd (cc)
+named_is (suc k) n e = let h : n ≡ suc k = cc in (sym h, omega arith)
+
+pub few_named : (bs : List ℕ) (r : Option ℕ) → r ≡ some_radios (radios_of bs) → (n : ℕ) → r ≡ Some n → n ≤ max_radios
+few_named bs r e n h = omega (arith, (named_is (radios_of bs) n (sym h ∙ e)).0, radios_of_le bs)
+
+-- the first line names n radios
+module _ (n : ℕ) (r : First) (first : FirstIs r) (named : r.radios ≡ Some n) where
+  named_radios : (radios_of (input_of first.reads) ≡ n) × (0 < radios_of (input_of first.reads))
+  named_radios = named_is _ n (sym named ∙ first.names)
+
+  pub named_some : 0 < n
+  named_some = omega (arith, named_radios.0, named_radios.1)
+
+  pub named_few : n ≤ max_radios
+  named_few = first.few n named
+
+  pub run_status : (r : ℕ) → LinesStatus n r → RunStatus r
+  run_status r lines =
+      record {
+        few = lines.few;
+        whole = λ e. record {
+          first = first.reads;
+          unbroken = first.unbroken;
+          named = named_radios.1;
+          lines = subst PlayedToEnd (sym named_radios.0) (lines.whole e);
+        };
+      }
 
 -- ---- the keep
 
@@ -83,8 +99,8 @@ unfoldable kept_read : (size : ℕ) (chunk : List ℕ) (r : Brought) → Found s
 kept_read size chunk r found =
     record { bytes = take r.count chunk; state = r.state; none = λ f. take_none r.count chunk (none_found found f) }
 
-pub copy_failed : (state size : ℕ) (chunk : List ℕ) (r : Brought) → Found size r → at_end < state → CopiesOnce state
-copy_failed state size chunk r found h = record { read = kept_read size chunk r found; found = λ e. absurd (omega (arith, e, h)) }
+pub copy_failed : (why : Unread) (size : ℕ) (chunk : List ℕ) (r : Brought) → Found size r → CopiesOnce (Failed why)
+copy_failed why size chunk r found = record { read = kept_read size chunk r found; found = λ e. absurd e }
 
 pub copy_once : (size : ℕ) (chunk : List ℕ) (r : Brought) → Found size r → CopiesOnce r.state
 unfolding kept_read
@@ -99,14 +115,13 @@ pub copying_none : Copying
 unfolding Going
 copying_none = record { reads = []; going = tt }
 
-pub copying_more : (state : ℕ) → state ≡ goes_on → CopiesOnce state → Copying → Copying
+pub copying_more : CopiesOnce GoesOn → Copying → Copying
 unfolding Going
-copying_more state e once so =
-    record { reads = once.read ∷ so.reads; going = (once.found (omega (arith, e)) ∙ e, so.going) }
+copying_more once so = record { reads = once.read ∷ so.reads; going = (once.found tt, so.going) }
 
-pub copied : (state : ℕ) → state ≡ at_end → CopiesOnce state → Copying → Copied
+pub copied : CopiesOnce End → Copying → Copied
 unfolding ToEnd
-copied state e once so = record { reads = once.read ∷ so.reads; to_end = (once.found (omega (arith, e)) ∙ e, so.going) }
+copied once so = record { reads = once.read ∷ so.reads; to_end = (once.found tt, so.going) }
 
 -- without a keep there is nothing to read
 pub no_keep : (z : ℤ) → lt_z z (pos 0) ≡ true → non_neg z ≡ true → Copied

@@ -5,11 +5,14 @@
 pub mod Lines
 pub mod Machine
 pub mod Play
+pub mod First
 pub mod Whole
 pub mod Reading
 pub mod RunText
 pub mod Texts
 pub mod Words
+-- The site that a run plays on.
+pub mod Board
 -- The reads of a run; lengths of fronts.
 pub mod Reads
 pub mod Counts

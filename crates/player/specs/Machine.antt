@@ -11,7 +11,7 @@
 --   TakesAll m n bytes p text q the same for bytes in turn
 --   ending p           what is printed at the end of the input
 -- What bytes and ending together print is said by lines in `Whole`. Definitions only.
-use Rattle.std.specs.Prelude.{◌≢◌, ◌≡◌, ◌∷◌, ◌++◌, ◌+◌}
+use Rattle.std.specs.Prelude.{◌≢◌, ◌≡◌, ◌∷◌, ◌++◌, ◌+◌, None}
 use Rattle.lists.specs.Kit.{Bool, true, false, cond, List, [], ℕ, leb, eqb, length, take}
 use Rattle.mesh.specs.Tables.{Tables}
 use Rattle.text.specs.{Text.{line_feed}, Print.{buffer_at, Puts}}
@@ -38,11 +38,11 @@ pub record StopPut (s : Progress) (b : List ℕ) (r : Progress) (c : List ℕ) :
   pub number : r.number ≡ s.number
   pub held : r.held ≡ 0
   pub live : r.live ≡ false
-  pub fault : r.fault ≡ 0 → ⊥
+  pub fault : r.fault ≢ None
 
 -- a run that is over has a fault until the end of the input is taken: a line of another form ended it
 unfoldable pub Marked : Progress → Type 0
-Marked s = s.live ≡ false → s.fault ≢ 0
+Marked s = s.live ≡ false → s.fault ≢ None
 
 -- ---- what a byte does
 

@@ -1,13 +1,13 @@
 -- How a program is started: with `--status D` before its words it writes its status to descriptor D.
 --   standard_ends           a program's own input, output and errors
 --   longest_word            the bytes of the longest words that mean something to a program
---   digit_of b              the number of a digit; -1 where the byte is none
---   descriptor_of word      the descriptor of a word of one digit; -1 for any other
+--   descriptor_of word      the descriptor of a word of one digit
 --   start_of first second   where the program's own words begin, and where its status goes
 -- Definitions only.
-use Rattle.std.specs.Prelude.{◌∷◌, ◌-◌}
-use Rattle.lists.specs.{Kit.{cond, List, [], ℕ, ltb, ℤ, pos, negsuc}, Lists.{same}}
+use Rattle.std.specs.Prelude.{◌∷◌, Option, None}
+use Rattle.lists.specs.{Kit.{cond, List, [], ℕ}, Lists.{same}}
 use Rattle.text.specs.Text.{bytes_of}
+use Rattle.script.specs.Digits.{digit_of}
 use Rattle.player.specs.{declared.words.Start.{Start}, declared.input.Ends.{Ends}}
 use Rattle.std.specs.declared.rt.{Stdin.{Stdin}, Stdout.{Stdout}, Stderr.{Stderr}}
 
@@ -19,14 +19,10 @@ standard_ends = record { input = record { seal = tt }; output = record { seal = 
 abbrev pub longest_word : ℕ
 longest_word = 9
 
--- '0' is 48, '9' is 57
-unfoldable pub digit_of : (byte : ℕ) → ℤ
-digit_of b = cond (ltb b 48) (negsuc 0) (cond (ltb 57 b) (negsuc 0) (pos (b - 48)))
-
-unfoldable pub descriptor_of : (word : List ℕ) → ℤ
-descriptor_of [] = negsuc 0
+unfoldable pub descriptor_of : (word : List ℕ) → Option ℕ
+descriptor_of [] = None
 descriptor_of (b ∷ []) = digit_of b
-descriptor_of (b ∷ c ∷ bs) = negsuc 0
+descriptor_of (b ∷ c ∷ bs) = None
 
 unfoldable pub start_of : (first second : List ℕ) → Start
-start_of w v = cond (same w (bytes_of "--status")) (record { at = 3; told = descriptor_of v }) (record { at = 1; told = negsuc 0 })
+start_of w v = cond (same w (bytes_of "--status")) (record { at = 3; told = descriptor_of v }) (record { at = 1; told = None })

@@ -5,29 +5,25 @@ ghost use Rattle.text.specs.Print.{buffer_at, Puts};
 ghost use Rattle.player.specs.Reads.{unread_words};
 
 use super::input;
-use super::input::Ends;
+use super::input::{Ends, Unread};
 use std::io::Write;
 
 // Longer than any line.
 const LINE_BYTES: usize = 256;
 
-// Puts why an input cannot be read, by what a read found.
-pub fn put_unread(out: &mut [u8], at: usize, state: u32) -> usize
-    ensures { Puts (buffer_at out.old at) (unread_words state) (buffer_at out.new result) }
+// Puts why an input cannot be read.
+pub fn put_unread(out: &mut [u8], at: usize, why: Unread) -> usize
+    ensures { Puts (buffer_at out.old at) (unread_words why) (buffer_at out.new result) }
 {
-    if state == input::FOLDER {
-        return text::put_text(out, at, b"the input is a folder");
+    match why {
+        Unread::Folder => text::put_text(out, at, b"the input is a folder"),
+        Unread::Blocks => {
+            text::put_text(out, at, b"the input cannot be read now: a read would block")
+        }
+        Unread::Closed => text::put_text(out, at, b"the input is closed, or not open for reading"),
+        Unread::Device => text::put_text(out, at, b"the input cannot be read: input/output error"),
+        Unread::Other => text::put_text(out, at, b"the input cannot be read"),
     }
-    if state == input::BLOCKS {
-        return text::put_text(out, at, b"the input cannot be read now: a read would block");
-    }
-    if state == input::CLOSED {
-        return text::put_text(out, at, b"the input is closed, or not open for reading");
-    }
-    if state == input::DEVICE {
-        return text::put_text(out, at, b"the input cannot be read: input/output error");
-    }
-    text::put_text(out, at, b"the input cannot be read")
 }
 
 // Puts a line: the program, a colon, the words.
@@ -61,9 +57,9 @@ pub fn print<I, O: Write, E: Write>(ends: &mut Ends<I, O, E>, program: &[u8], te
 }
 
 // Says why the input cannot be read.
-pub fn say_unread<E: Write>(errors: &mut E, program: &[u8], state: u32) {
+pub fn say_unread<E: Write>(errors: &mut E, program: &[u8], why: Unread) {
     let mut words = [0u8; LINE_BYTES];
-    let end = put_unread(&mut words, 0, state);
+    let end = put_unread(&mut words, 0, why);
     let count = input::within(end, &words);
     say(errors, program, &words[..count]);
 }

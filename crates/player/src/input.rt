@@ -2,9 +2,9 @@
 // an interrupted one goes on.
 ghost use Rattle.std.specs.Prelude.{◌≡◌, ◌≤◌};
 ghost use Rattle.lists.specs.Kit.{false, min, length};
-ghost use Rattle.player.specs.Counts.{IsPrefixLen, clamp_len};
+ghost use Rattle.player.specs.Counts.{IsPrefixLen};
 ghost use Rattle.player.specs.Words.{standard_ends};
-ghost use Rattle.player.specs.Reads.{most_reads, goes_on, failure, found, Found, FillsOn, Fills};
+ghost use Rattle.player.specs.Reads.{goes_on, most_reads, failure, found, Found, FillsOn, Fills};
 
 use std::io::{Error, IsTerminal, Read, Stderr, Stdin, Stdout};
 
@@ -35,38 +35,46 @@ pub fn is_terminal<T: IsTerminal>(end: &T) -> bool {
     end.is_terminal()
 }
 
+// Why a read fails.
+#[derive(Clone, Copy)]
+pub enum Unread {
+    // The input is a folder.
+    Folder,
+    // A read would have to wait, and may not.
+    Blocks,
+    // The descriptor is not open for reading.
+    Closed,
+    // The device says so.
+    Device,
+    // It fails in another way.
+    Other,
+}
+
+// What a read finds: bytes, or that it was interrupted; the end of the input; or why it failed.
+#[derive(Clone, Copy)]
+pub enum State {
+    GoesOn,
+    End,
+    Failed(Unread),
+}
+
 // What a read brought: how many bytes, and what it found.
 #[derive(Clone, Copy)]
 pub struct Brought {
     pub count: usize,
-    pub state: u32,
+    pub state: State,
 }
 
-// What a read finds: bytes, or that it was interrupted; the end of the input; or why it failed.
-pub const GOES_ON: u32 = 0;
-
-pub const END: u32 = 1;
-
-pub const FOLDER: u32 = 2;
-
-pub const BLOCKS: u32 = 3;
-
-pub const CLOSED: u32 = 4;
-
-pub const DEVICE: u32 = 5;
-
-pub const UNREAD: u32 = 6;
-
 // Linux' error numbers.
-const EINTR: i32 = 4;
+const EINTR: u32 = 4;
 
-const EIO: i32 = 5;
+const EIO: u32 = 5;
 
-const EBADF: i32 = 9;
+const EBADF: u32 = 9;
 
-const EAGAIN: i32 = 11;
+const EAGAIN: u32 = 11;
 
-const EISDIR: i32 = 21;
+const EISDIR: u32 = 21;
 
 // The bytes that one read brings at most.
 pub(crate) const CHUNK_BYTES: usize = 4096;
@@ -93,72 +101,64 @@ pub fn within(size: usize, buffer: &[u8]) -> usize
 }
 
 // What a read that failed found, by its error number.
-fn finds(error: i32) -> u32
+fn finds(error: u32) -> State
     ensures { result ≡ failure error }
 {
     if error == EINTR {
-        return GOES_ON;
+        return State::GoesOn;
     }
     if error == EISDIR {
-        return FOLDER;
+        return State::Failed(Unread::Folder);
     }
     if error == EAGAIN {
-        return BLOCKS;
+        return State::Failed(Unread::Blocks);
     }
     if error == EBADF {
-        return CLOSED;
+        return State::Failed(Unread::Closed);
     }
     if error == EIO {
-        return DEVICE;
+        return State::Failed(Unread::Device);
     }
-    UNREAD
+    State::Failed(Unread::Other)
 }
 
-// A count that a read answered, brought into 0 to the length of the chunk.
-fn clamped(got: isize, chunk: &[u8]) -> usize
-    ensures counts { IsPrefixLen result chunk.now }
-    ensures value { result ≡ clamp_len got (length chunk.now) }
-{
-    if got <= 0 {
-        return 0;
-    }
-    within(got as usize, chunk)
-}
-
-// What a read that answered `got` brought into the chunk; `error` is the number of its error, where it failed.
-pub fn told(got: isize, error: i32, chunk: &[u8]) -> Brought
+// What a read brought into the chunk that answered `got`: how many bytes, or the number of its error.
+pub fn told(got: Result<usize, u32>, chunk: &[u8]) -> Brought
     ensures counts { IsPrefixLen result.count chunk.now }
-    ensures told { result ≡ found got error (length chunk.now) }
+    ensures told { result ≡ found got (length chunk.now) }
 {
     if chunk.len() == 0 {
         return Brought {
             count: 0,
-            state: UNREAD,
+            state: State::Failed(Unread::Other),
         };
     }
-    if got == -1 {
-        return Brought {
-            count: 0,
-            state: finds(error),
-        };
-    }
+    let count = match got {
+        Ok(count) => within(count, chunk),
+        Err(error) => {
+            return Brought {
+                count: 0,
+                state: finds(error),
+            };
+        }
+    };
     // A read that brings few bytes is not the last one.
-    let count = clamped(got, chunk);
     if count == 0 {
         return Brought {
             count: 0,
-            state: END,
+            state: State::End,
         };
     }
     Brought {
         count,
-        state: GOES_ON,
+        state: State::GoesOn,
     }
 }
 
 // The number of an error; 0 where the system has none for it.
-fn number_of(error: Error) -> i32 {
-    error.raw_os_error().unwrap_or(0)
+fn number_of(error: Error) -> u32 {
+    let number = error.raw_os_error().unwrap_or(0);
+    u32::try_from(number).unwrap_or(0)
 }
 
 // One read, of at most `most` bytes, into the front of a chunk.
@@ -168,17 +168,8 @@ pub fn read<I: Read>(input: &mut I, most: usize, chunk: &mut [u8]) -> Brought
     ensures found { Found (min most (length chunk.old)) result }
 {
     let size = within(most, chunk);
-    match input.read(&mut chunk[..size]) {
-        Ok(count) => told(count as isize, 0, &chunk[..size]),
-        Err(error) => told(-1, number_of(error), &chunk[..size]),
-    }
-}
-
-// The smaller of two lengths.
-fn least(a: usize, b: usize) -> usize
-    ensures { result ≡ min a b }
-{
-    if a < b { a } else { b }
+    let got = input.read(&mut chunk[..size]).map_err(number_of);
+    told(got, &chunk[..size])
 }
 
 // One read, of at most `most` bytes, into the buffer from `at` on, by way of a chunk: the place after what it brought.
@@ -193,12 +184,11 @@ fn fill_on<I: Read>(
     ensures counts { IsPrefixLen result.count buffer.new }
     ensures fills { FillsOn buffer.old at result buffer.new }
 {
-    let room = least(most, buffer.len() - at);
+    let room = tables::fill::least(most, buffer.len() - at);
     let got = read(input, room, chunk);
-    let count = got.count;
-    let end = text::put_text(buffer, at, &chunk[..count]);
+    let count = text::put_text(buffer, at, &chunk[..got.count]);
     Brought {
-        count: end,
+        count,
         state: got.state,
     }
 }
@@ -207,20 +197,13 @@ fn fill_on<I: Read>(
 fn is_filled(line: bool, got: Brought, buffer: &[u8]) -> bool
     ensures { result ≡ false → got.state ≡ goes_on }
 {
-    let count = got.count;
-    if got.state != GOES_ON {
+    let State::GoesOn = got.state else {
+        return true;
+    };
+    if buffer.len() <= got.count {
         return true;
     }
-    if buffer.len() <= count {
-        return true;
-    }
-    if !line {
-        return false;
-    }
-    if count == 0 {
-        return false;
-    }
-    buffer[count - 1] == b'\n'
+    line && 0 < got.count && buffer[got.count - 1] == b'\n'
 }
 
 // Fills the front of a buffer by reads of at most `most` bytes each, to the buffer's end, the end of the input or a read that fails; where
@@ -231,9 +214,7 @@ pub fn fill<I: Read>(input: &mut I, most: usize, line: bool, buffer: &mut [u8]) 
 {
     let mut chunk = [0u8; CHUNK_BYTES];
     let mut at: usize = 0;
-    let mut left = crate::input::most();
-    while left > 0 {
-        left -= 1;
+    for _ in 0..READS {
         let got = fill_on(input, most, at, &mut chunk, buffer);
         if is_filled(line, got, buffer) {
             return got;
@@ -242,6 +223,6 @@ pub fn fill<I: Read>(input: &mut I, most: usize, line: bool, buffer: &mut [u8]) 
     }
     Brought {
         count: at,
-        state: UNREAD,
+        state: State::Failed(Unread::Other),
     }
 }

@@ -5,6 +5,7 @@ ghost use Rattle.lists.specs.Kit.{true};
 ghost use Rattle.player.specs.Reading.{is_keep, CopiesOnce, Copied};
 
 use super::input;
+use super::input::{State, Unread};
 use std::fs::{File, OpenOptions};
 use std::io::{ErrorKind, Read, Seek, SeekFrom, Write};
 use std::os::fd::{AsRawFd, RawFd};
@@ -93,15 +94,14 @@ pub fn new<R: Files<File = File> + RandomSource>(rt: &R, name: &mut [u8]) -> Opt
 }
 
 // One read of the keep, written: what it found.
-fn copy_on<O: Write>(keep: &File, output: &mut O) -> u32
+fn copy_on<O: Write>(keep: &File, output: &mut O) -> State
     ensures { CopiesOnce result }
 {
     let mut chunk = [0u8; 65536];
     let mut from = keep;
     let got = input::read(&mut from, usize::MAX, &mut chunk);
-    let count = got.count;
-    if output.write_all(&chunk[..count]).is_err() {
-        return input::UNREAD;
+    if output.write_all(&chunk[..got.count]).is_err() {
+        return State::Failed(Unread::Other);
     }
     got.state
 }
@@ -117,12 +117,11 @@ pub fn copy<O: Write>(keep: Option<&File>, output: &mut O) -> bool
     if start.seek(SeekFrom::Start(0)).is_err() {
         return false;
     }
-    let mut left = input::most();
-    while left > 0 {
-        left -= 1;
-        let state = copy_on(file, output);
-        if state != input::GOES_ON {
-            return state == input::END;
+    for _ in 0..input::most() {
+        match copy_on(file, output) {
+            State::GoesOn => {}
+            State::End => return true,
+            State::Failed(_) => return false,
         }
     }
     false

@@ -1,43 +1,39 @@
 // The lines after the first, taken byte by byte from what was read: held to their line feeds, played, and printed into a buffer.
 // Nothing is read or written here.
-ghost use Rattle.std.specs.Prelude.{◌≡◌, ◌<◌};
-ghost use Rattle.lists.specs.Kit.{false, cond, min, eqb, length, take};
-ghost use Rattle.mesh.specs.Lent.{lent};
+ghost use Rattle.std.specs.Prelude.{◌≡◌, ◌≤◌, ◌<◌, None};
+ghost use Rattle.lists.specs.Kit.{false, min, length, take};
+ghost use Rattle.mesh.specs.Limits.{max_radios};
 ghost use Rattle.text.specs.Print.{buffer_at, Puts, max_place};
+ghost use Rattle.player.specs.Board.{tables_of, answer_of};
 ghost use Rattle.player.specs.Lines.{Prints};
 ghost use Rattle.player.specs.Machine.{spot, StopPut, Marked, Takes, closing};
-ghost use Rattle.player.specs.Reading.{Writes, Ready, SiteSized};
+ghost use Rattle.player.specs.Reading.{Writes, Ready};
 
+use super::board::Board;
+use super::input::Unread;
 use super::play;
 use script::printing;
 
 // How many bytes may wait in the printing buffer before it is written.
 pub const FULL: usize = 4096;
 
+// What is wrong with a run: a read that failed, answers that cannot be kept until its end, or a line of another form.
+#[derive(Clone, Copy)]
+pub enum Fault {
+    Unread(Unread),
+    Lost,
+    Bad,
+}
+
 // Where the run stands: the number of the line being read, how many of its bytes are held, how many bytes of the printing buffer
-// wait to be written, whether the run goes on, and what is wrong with it: nothing, what a failed read found, or one of the faults below.
+// wait to be written, whether the run goes on, and the first thing that is wrong with it.
 #[derive(Clone, Copy)]
 pub struct Progress {
     pub number: u64,
     pub held: usize,
     pub at: usize,
     pub live: bool,
-    pub fault: u32,
-}
-
-// What is wrong with a run beside failed reads: answers that cannot be kept until its end, and a line of another form.
-pub const LOST: u32 = 7;
-
-pub const BAD: u32 = 8;
-
-// The fault that came first.
-pub(crate) fn first_fault(old: u32, new: u32) -> u32
-    ensures { result ≡ cond (eqb old 0) new old }
-{
-    if old == 0 {
-        return new;
-    }
-    old
+    pub fault: Option<Fault>,
 }
 
 // The run ends at a line of another form.
@@ -50,7 +46,7 @@ fn stopped(s: Progress, out: &mut [u8]) -> Progress
         held: 0,
         at,
         live: false,
-        fault: first_fault(s.fault, BAD),
+        fault: s.fault.or(Some(Fault::Bad)),
     }
 }
 
@@ -59,47 +55,42 @@ fn stopped(s: Progress, out: &mut [u8]) -> Progress
 pub(crate) fn take_byte(
     s: Progress,
     byte: u8,
-    n: u32,
     line: &mut [u8],
-    links: &mut [u8],
-    numbers: &mut [u8],
-    order: &mut [u16],
-    answer: &mut [u16],
+    board: &mut Board,
     out: &mut [u8],
 ) -> Progress
     requires { s.number < max_place }
+    ensures radios { board.new.radios ≡ board.old.radios }
     ensures marked { Marked s → Marked result }
-    ensures taken { Prints (λ text. Takes (length line.old) n byte
-        (spot (lent links.old numbers.old order.old) answer.old line.old s) text
-        (spot (lent links.new numbers.new order.new) answer.new line.new result))
+    ensures taken { Prints (λ text. Takes (length line.old) board.old.radios byte
+        (spot (tables_of board.old) (answer_of board.old) line.old s) text
+        (spot (tables_of board.new) (answer_of board.new) line.new result))
         (buffer_at out.old s.at) (buffer_at out.new result.at) }
 {
     if !s.live {
         return s;
     }
-    let held = s.held;
-    if line.len() <= held {
+    if line.len() <= s.held {
         return stopped(s, out);
     }
-    line[held] = byte;
-    let len = held + 1;
+    line[s.held] = byte;
+    let held = s.held + 1;
     if byte != b'\n' {
         return Progress {
             number: s.number,
-            held: len,
+            held,
             at: s.at,
             live: true,
             fault: s.fault,
         };
     }
-    let done = play::play_line(n, &line[..len], links, numbers, order, answer, out, s.at);
-    if !done.ok {
+    let Some(at) = play::play_line(&line[..held], board, out, s.at) else {
         return stopped(s, out);
-    }
+    };
     Progress {
         number: s.number + 1,
         held: 0,
-        at: done.at,
+        at,
         live: true,
         fault: s.fault,
     }
@@ -120,13 +111,13 @@ fn finish(s: Progress, line: &[u8], numbers: &[u8], order: &[u16], out: &mut [u8
 }
 
 // What is wrong with a run at the end of the input: a last line without a line feed.
-fn end_fault(s: Progress, line: &[u8]) -> u32
-    ensures { result ≡ 0 → min s.held (length line.now) ≡ 0 }
+fn end_fault(s: Progress, line: &[u8]) -> Option<Fault>
+    ensures { result ≡ None → min s.held (length line.now) ≡ 0 }
 {
     if tables::fill::least(s.held, line.len()) == 0 {
         return s.fault;
     }
-    first_fault(s.fault, BAD)
+    s.fault.or(Some(Fault::Bad))
 }
 
 // The end of the input, and of the run.
@@ -138,9 +129,9 @@ pub(crate) fn end(
     out: &mut [u8],
 ) -> Progress
     requires ready { Ready 0 s out.old }
-    requires sized { SiteSized numbers.now order.now }
+    requires few { (length numbers.now ≤ max_radios) × (length order.now ≤ max_radios) }
     ensures over { result.live ≡ false }
-    ensures whole { result.fault ≡ 0 → min s.held (length line.now) ≡ 0 }
+    ensures whole { result.fault ≡ None → min s.held (length line.now) ≡ 0 }
     ensures closed { Writes (buffer_at out.old s.at)
         (closing (take s.held line.now) numbers.now order.now s.number)
         (buffer_at out.new result.at) }

@@ -1,17 +1,18 @@
 // The lines after the first: read by chunks, taken, and kept until the end of the input through a buffer. A contract that cites `Reading`
 // says what is taken from the bytes that a read brought, and what of it was handed to a write; that reads and writes hand them on is
 // executed.
-ghost use Rattle.std.specs.Prelude.{◌≡◌, ◌≤◌, ◌<◌};
+ghost use Rattle.std.specs.Prelude.{◌≡◌, ◌≢◌, ◌≤◌, ◌<◌, None};
 ghost use Rattle.lists.specs.Kit.{true, length};
-ghost use Rattle.mesh.specs.Tables.{tables};
-ghost use Rattle.mesh.specs.Lent.{lent};
+ghost use Rattle.mesh.specs.Limits.{max_radios};
 ghost use Rattle.text.specs.Print.{buffer_at};
+ghost use Rattle.player.specs.Board.{tables_of, answer_of};
 ghost use Rattle.player.specs.Machine.{spot, line_room, full, Marked};
-ghost use Rattle.player.specs.Reading.{chunk_room, out_room, kept_fault, RoomMade, broken_off, Ready, SiteCleared, SiteSized};
+ghost use Rattle.player.specs.Reading.{chunk_room, out_room, kept_fault, RoomMade, broken_off, Ready, SiteCleared};
 ghost use Rattle.player.specs.Reading.{TakesChunk, FoundBy, TakesRead, ReadsOnce, ReadsAll, Concluded, LinesStatus};
 
-use super::input::Ends;
-use super::machine::Progress;
+use super::board::Board;
+use super::input::{Ends, State, Unread};
+use super::machine::{Fault, Progress};
 use super::{faults, input, keeping, machine};
 use script::printing;
 use std::fs::File;
@@ -42,13 +43,14 @@ fn flush_kept(keep: Option<&File>, out: &[u8], at: usize) -> bool {
 }
 
 // What is wrong after a full buffer was kept, or was not.
-fn kept_fault(kept: bool, fault: u32) -> u32
+fn kept_fault(kept: bool, fault: Option<Fault>) -> Option<Fault>
     ensures { result ≡ kept_fault kept fault }
 {
     if kept {
-        return fault;
+        fault
+    } else {
+        fault.or(Some(Fault::Lost))
     }
-    machine::first_fault(fault, machine::LOST)
 }
 
 // Puts what waits into the keep, where the buffer is full.
@@ -73,45 +75,39 @@ fn take_chunk(
     keep: Option<&File>,
     s: Progress,
     chunk: &[u8],
-    n: u32,
     line: &mut [u8],
-    links: &mut [u8],
-    numbers: &mut [u8],
-    order: &mut [u16],
-    answer: &mut [u16],
+    board: &mut Board,
     out: &mut [u8],
 ) -> Progress
     requires { Ready (length chunk.now) s out.old }
+    ensures radios { board.new.radios ≡ board.old.radios }
     ensures room { result.at < full }
     ensures marked { Marked s → Marked result }
-    ensures taken { TakesChunk (length line.old) n chunk.now
-        (spot (lent links.old numbers.old order.old) answer.old line.old s)
+    ensures taken { TakesChunk (length line.old) board.old.radios chunk.now
+        (spot (tables_of board.old) (answer_of board.old) line.old s)
         (buffer_at out.old s.at)
-        (spot (lent links.new numbers.new order.new) answer.new line.new result)
+        (spot (tables_of board.new) (answer_of board.new) line.new result)
         (buffer_at out.new result.at) }
 {
     let mut s = s;
-    let mut i = 0;
-    while i < chunk.len() {
-        let byte = chunk[i];
-        i += 1;
-        let taken = machine::take_byte(s, byte, n, line, links, numbers, order, answer, out);
+    for byte in chunk {
+        let taken = machine::take_byte(s, *byte, line, board, out);
         s = make_room(keep, taken, out);
     }
     s
 }
 
 // A read failed: nothing is taken, and the run breaks off.
-fn broken(s: Progress, state: u32) -> Progress
+fn broken(s: Progress, why: Unread) -> Progress
     ensures value { result ≡ broken_off result.fault s }
-    ensures state_value { result.fault ≡ 0 → state ≡ 0 }
+    ensures fault { result.fault ≢ None }
 {
     Progress {
         number: s.number,
         held: s.held,
         at: s.at,
         live: s.live,
-        fault: machine::first_fault(s.fault, state),
+        fault: s.fault.or(Some(Fault::Unread(why))),
     }
 }
 
@@ -119,34 +115,31 @@ fn broken(s: Progress, state: u32) -> Progress
 fn take_read(
     keep: Option<&File>,
     s: Progress,
-    state: u32,
+    state: State,
     chunk: &[u8],
-    n: u32,
     line: &mut [u8],
-    links: &mut [u8],
-    numbers: &mut [u8],
-    order: &mut [u16],
-    answer: &mut [u16],
+    board: &mut Board,
     out: &mut [u8],
 ) -> Progress
     requires live { s.live ≡ true }
     requires ready { Ready (length chunk.now) s out.old }
-    requires sized { SiteSized numbers.old order.old }
+    ensures radios { board.new.radios ≡ board.old.radios }
     ensures room { result.live ≡ true → result.at < full }
     ensures found { FoundBy state result }
-    ensures taken { TakesRead (length line.old) n chunk.now state
-        (spot (lent links.old numbers.old order.old) answer.old line.old s)
+    ensures taken { TakesRead (length line.old) board.old.radios chunk.now state
+        (spot (tables_of board.old) (answer_of board.old) line.old s)
         (buffer_at out.old s.at)
-        (spot (lent links.new numbers.new order.new) answer.new line.new result)
+        (spot (tables_of board.new) (answer_of board.new) line.new result)
         (buffer_at out.new result.at) }
 {
-    if state == input::END {
-        return machine::end(s, line, numbers, order, out);
+    match state {
+        State::End => {
+            let many = board.radios as usize;
+            machine::end(s, line, &board.numbers[..many], &board.order[..many], out)
+        }
+        State::Failed(why) => broken(s, why),
+        State::GoesOn => take_chunk(keep, s, chunk, line, board, out),
     }
-    if state != input::GOES_ON {
-        return broken(s, state);
-    }
-    take_chunk(keep, s, chunk, n, line, links, numbers, order, answer, out)
 }
 
 // One read, and what it brings.
@@ -155,80 +148,55 @@ fn turn<I: Read>(
     keep: Option<&File>,
     most: usize,
     s: Progress,
-    n: u32,
     line: &mut [u8],
-    links: &mut [u8],
-    numbers: &mut [u8],
-    order: &mut [u16],
-    answer: &mut [u16],
+    board: &mut Board,
     out: &mut [u8],
 ) -> Progress
     requires live { s.live ≡ true }
     requires ready { Ready chunk_room s out.old }
-    requires sized { SiteSized numbers.old order.old }
+    ensures radios { board.new.radios ≡ board.old.radios }
     ensures room { result.live ≡ true → result.at < full }
-    ensures read { ReadsOnce (length line.old) n result
-        (spot (lent links.old numbers.old order.old) answer.old line.old s)
+    ensures read { ReadsOnce (length line.old) board.old.radios result
+        (spot (tables_of board.old) (answer_of board.old) line.old s)
         (buffer_at out.old s.at)
-        (spot (lent links.new numbers.new order.new) answer.new line.new result)
+        (spot (tables_of board.new) (answer_of board.new) line.new result)
         (buffer_at out.new result.at) }
 {
     let mut chunk = [0u8; input::CHUNK_BYTES];
     let got = input::read(input, most, &mut chunk);
-    let count = got.count;
-    take_read(
-        keep,
-        s,
-        got.state,
-        &chunk[..count],
-        n,
-        line,
-        links,
-        numbers,
-        order,
-        answer,
-        out,
-    )
+    take_read(keep, s, got.state, &chunk[..got.count], line, board, out)
 }
 
 // Reads to the end of the input. A line has its room, and a full printing buffer has room for the longest text. The loop counts its
-// reads down, from a number that no run uses up; a run that still goes on then is not read to its end.
+// reads, up to a number that no run uses up; a run that still goes on then is not read to its end.
 fn read_turns<I: Read>(
     input: &mut I,
     keep: Option<&File>,
     most: usize,
-    n: u32,
     line: &mut [u8],
-    links: &mut [u8],
-    numbers: &mut [u8],
-    order: &mut [u16],
-    answer: &mut [u16],
+    board: &mut Board,
     out: &mut [u8],
 ) -> Progress
     requires line { length line.old ≡ line_room }
     requires out { length out.old ≡ out_room }
-    requires start { SiteCleared n (tables links.old numbers.old order.old) answer.old }
-    ensures { ReadsAll n (buffer_at out.old 0) result out.new }
+    requires start { SiteCleared board.old.radios (tables_of board.old) (answer_of board.old) }
+    ensures { ReadsAll board.old.radios (buffer_at out.old 0) result out.new }
 {
     let mut s = Progress {
         number: 2,
         held: 0,
         at: 0,
         live: true,
-        fault: 0,
+        fault: None,
     };
-    let mut left = input::most();
-    while left > 0 {
+    for done in 0..input::most() {
         if !s.live {
-            break;
+            return s;
         }
-        if s.fault != 0 {
-            break;
+        if s.fault.is_some() {
+            return s;
         }
-        left -= 1;
-        s = turn(
-            input, keep, most, s, n, line, links, numbers, order, answer, out,
-        );
+        s = turn(input, keep, most, s, line, board, out);
     }
     s
 }
@@ -241,7 +209,7 @@ fn print<I, O: Write, E: Write>(
     s: Progress,
 ) -> u32
     ensures few { result ≤ 1 }
-    ensures right { result ≡ 0 → s.fault ≡ 0 }
+    ensures right { result ≡ 0 → s.fault ≡ None }
 {
     if !keeping::copy(keep, &mut ends.output) {
         return wrong(ends, b"the output cannot be written");
@@ -249,10 +217,7 @@ fn print<I, O: Write, E: Write>(
     if !flush(&mut ends.output, out, s.at) {
         return wrong(ends, b"the output cannot be written");
     }
-    if s.fault != 0 {
-        return 1;
-    }
-    0
+    if s.fault.is_some() { 1 } else { 0 }
 }
 
 // Says what goes wrong: the status.
@@ -264,10 +229,10 @@ fn wrong<I, O, E: Write>(ends: &mut Ends<I, O, E>, words: &[u8]) -> u32
 }
 
 // Says that the input was not read to its end: the status.
-pub(crate) fn unread<I, O, E: Write>(ends: &mut Ends<I, O, E>, state: u32) -> u32
+pub(crate) fn unread<I, O, E: Write>(ends: &mut Ends<I, O, E>, why: Unread) -> u32
     ensures { result ≡ 1 }
 {
-    faults::say_unread(&mut ends.errors, &PROGRAM, state);
+    faults::say_unread(&mut ends.errors, &PROGRAM, why);
     1
 }
 
@@ -280,46 +245,35 @@ fn conclude<I, O: Write, E: Write>(
 ) -> u32
     ensures { Concluded s result }
 {
-    if s.fault == machine::LOST {
+    if let Some(Fault::Lost) = s.fault {
         return wrong(
             ends,
             b"the answers cannot be kept until the end of the input",
         );
     }
-    if s.live {
-        return unread(ends, s.fault);
+    if !s.live {
+        return print(ends, keep, out, s);
     }
-    print(ends, keep, out, s)
+    match s.fault {
+        Some(Fault::Unread(why)) => unread(ends, why),
+        _ => unread(ends, Unread::Other),
+    }
 }
 
-// Plays all lines from the second on, and prints: the status.
+// Plays all lines from the second on, on a cleared site, and prints: the status.
 pub(crate) fn read_all<I: Read, O: Write, E: Write>(
     ends: &mut Ends<I, O, E>,
     keep: Option<&File>,
     most: usize,
     n: u32,
-    links: &mut [u8],
-    numbers: &mut [u8],
-    order: &mut [u16],
-    answer: &mut [u16],
 ) -> u32
-    requires { SiteCleared n (tables links.old numbers.old order.old) answer.old }
+    requires { (0 < n) × (n ≤ max_radios) }
     ensures { LinesStatus n result }
 {
+    let mut board = Board::cleared(n);
     let mut line = [0u8; LINE_BYTES];
     let mut out = [0u8; OUT_BYTES];
-    let s = read_turns(
-        &mut ends.input,
-        keep,
-        most,
-        n,
-        &mut line,
-        links,
-        numbers,
-        order,
-        answer,
-        &mut out,
-    );
+    let s = read_turns(&mut ends.input, keep, most, &mut line, &mut board, &mut out);
     conclude(ends, keep, &out, s)
 }
 

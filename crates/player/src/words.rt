@@ -19,41 +19,34 @@ pub const WORD_BYTES: usize = 32;
 // The longest path of a descriptor.
 const PATH_BYTES: usize = 32;
 
-// Where the program's own words begin, and the descriptor that its status goes to; negative for none.
+// Where the program's own words begin, and the descriptor that its status goes to, if any.
 #[derive(Clone, Copy)]
 pub struct Start {
     pub at: usize,
-    pub told: i32,
+    pub told: Option<u32>,
 }
 
-// The descriptor of a word of one digit; negative where it is none.
-fn descriptor(word: &[u8]) -> i32
+// The descriptor of a word of one digit.
+fn descriptor(word: &[u8]) -> Option<u32>
     ensures { result ≡ descriptor_of word.now }
 {
     if word.len() != 1 {
-        return -1;
+        return None;
     }
-    let byte = word[0];
-    if byte < b'0' {
-        return -1;
-    }
-    if b'9' < byte {
-        return -1;
-    }
-    (byte - b'0') as i32
+    script::lines::digit_of(word[0])
 }
 
 // How a program is started whose first words are these.
 fn start_of(first: &[u8], second: &[u8]) -> Start
     ensures { result ≡ start_of first.now second.now }
 {
-    if tables::fill::same8(first, b"--status") {
+    if tables::fill::is_same(first, b"--status") {
         return Start {
             at: 3,
             told: descriptor(second),
         };
     }
-    Start { at: 1, told: -1 }
+    Start { at: 1, told: None }
 }
 
 // The word of the command at this place, in front of a buffer that has room for every word that means something: its length.
@@ -123,15 +116,16 @@ fn write_to<R: Files, I, O: Write, E: Write>(
 pub fn tell<R: Files, I, O: Write, E: Write>(
     files: &R,
     ends: &mut Ends<I, O, E>,
-    told: i32,
+    told: Option<u32>,
     status: u32,
 ) {
-    if told >= 0 {
-        let mut digits = [0u8; 20];
-        let end = text::put_decimal(&mut digits, 0, status as u64);
-        let count = input::within(end, &digits);
-        write_to(files, ends, told as u32, &digits[..count]);
-    }
+    let Some(descriptor) = told else {
+        return;
+    };
+    let mut digits = [0u8; 20];
+    let end = text::put_decimal(&mut digits, 0, status as u64);
+    let count = input::within(end, &digits);
+    write_to(files, ends, descriptor, &digits[..count]);
 }
 
 // Prints the page of `--help`: the status.
@@ -165,10 +159,10 @@ pub fn run_words<R: Files<File = File> + RandomSource, I: Read, O: Write, E: Wri
     if count == 0 {
         return crate::run(rt, ends, usize::MAX);
     }
-    if tables::fill::same8(word, b"--help") {
+    if tables::fill::is_same(word, b"--help") {
         return help(ends);
     }
-    if tables::fill::same8(word, b"--version") {
+    if tables::fill::is_same(word, b"--version") {
         return faults::print(ends, b"replay", &input::VERSION);
     }
     faults::say(

@@ -5,7 +5,7 @@ use Rattle.lists.{specs.Kit.{refl, sym, ap, ◌∙◌, inl, inr, Bool, true, fal
 use Rattle.lists.{specs.Kit.{arith, add-one, ltb, leb, eqb, length, get_or, take, replicate, length-replicate, take_all, leb-true, le-leb, ltb-true, ltb-false}}
 use Rattle.lists.{specs.Kit.{eqb-true, eqb-false, lt-ltb, le-ltb, eq-eqb, ne_eqb}, specs.Facts.{folded}, specs.Lists.{range, member, In, overwrite}}
 use Rattle.lists.{proofs.Tests.{bool_cases, never, and_left, or_right}, proofs.Member.{member_in, in_member}, proofs.Filter.{filter_le, filter_ext}}
-use Rattle.lists.{proofs.Filter.{filter_range_within}, proofs.Range.{length_range, range_in}, proofs.Loops.{Folding, folding_front_end, length_folded}}
+use Rattle.lists.{proofs.Filter.{filter_range_within}, proofs.Range.{length_range, range_in}, proofs.Loops.{Folding, folding_end, length_folded}}
 use Rattle.mesh.{specs.Limits.{max_radios}, specs.Graph.{Graph, radios}, specs.Cores.{number}, specs.Connected.{at_least, InCore, core_of, greatest, backbone}}
 use Rattle.mesh.{specs.Tables.{Tables, tables, graph_in}, specs.Sound.{sound}, proofs.Trees.Reach.{core_of_iff}, proofs.Trees.CoreLevels.{in_core_here}}
 use Rattle.mesh.{proofs.Trees.CoreLevels.{in_core_below, in_core_sym, in_core_trans, core_of_same}, proofs.Trees.Listed.{number_le_greatest, greatest_map_le}}
@@ -28,10 +28,8 @@ unfolding folded part_greatest greatest
 folded_greatest ns [] top = omega arith
 folded_greatest ns (x ∷ xs) top = omega (arith, folded_greatest ns xs (max top (get_or ns x 0)))
 
-pub part_greatest_end : (ns list : List ℕ) (k top i : ℕ) → k ≤ length list → k ≤ i → Folding (greatest_with ns) (take k list) 0 top i
-    → top ≡ part_greatest ns (take k list)
-part_greatest_end ns list k top i room l h =
-    omega (arith, folding_front_end (greatest_with ns) list k 0 top i room l h, folded_greatest ns (take k list) 0)
+pub part_greatest_end : (ns list : List ℕ) (top i : ℕ) → length list ≤ i → Folding (greatest_with ns) list 0 top i → top ≡ part_greatest ns list
+part_greatest_end ns list top i l h = omega (arith, folding_end (greatest_with ns) list 0 top i h l, folded_greatest ns list 0)
 
 -- ---- bits of listed radios
 
@@ -186,7 +184,7 @@ module _ (n : ℕ) (t : Tables) (s : SoundSite n t) (v : ℕ) (radio : v < n) wh
             rw e (in_tops_put t.numbers top w l xs set (λ x m. omega (arith, in_part_below x (part_in x m), s.small)) long
             ∙ of_part (eqb (get_or t.numbers w 0) top) (tops_part g w) (same (λ z. never (eqb top 0) (eq-eqb top 0 z) e)))
 
-  module _ (rest set u p : List ℕ) (parted : Parted g v rest set) (same : length u ≡ length rest) where
+  module _ (rest set u p : List ℕ) (parted : Parted g v rest set) where
     -- a radio whose part is taken
     parted_passed : in_set rest v ≡ false → (u ≡ rest) × (p ≡ set) → Parted g (suc v) u p
     parted_passed e h = rw (h.0, h.1) (record {
@@ -250,7 +248,7 @@ module _ (n : ℕ) (t : Tables) (s : SoundSite n t) (v : ℕ) (radio : v < n) wh
       parted_taken : Parted g (suc v) u p
       unfolding graph_in
       parted_taken = record {
-        rest_long = same ∙ parted.rest_long;
+        rest_long = done.long;
         set_long = ap length h.put ∙ length_part_put t.numbers part set ∙ parted.set_long;
         below = λ w l. below w (bool_cases (eqb w v)) l;
         radios = λ w e. parted.radios w (and_left (in_set rest w) (not (member w part)) (sym (rest_after w) ∙ e));
@@ -332,26 +330,22 @@ parted_all g rest set small h =
 -- before radio v: for sound tables the parts are right if they were so at the start
 pub record Parting (ts ns rest₀ queue₀ set₀ : List ℕ) (v : ℕ) (rest queue set : List ℕ) : Type 0 where
   pub within : v ≤ length ns
-  pub rest_long : length rest ≡ length rest₀
   pub queue_long : length queue ≡ length queue₀
-  pub set_long : length set ≡ length set₀
   pub right : (order : List ℕ) → fits_sound (length ns) (tables ts ns order) ≡ true → Parted (graph_in (length ns) ts) 0 rest₀ set₀
       → Parted (graph_in (length ns) ts) v rest set
 
 pub parting_none : (ts ns rest queue set : List ℕ) → Parting ts ns rest queue set 0 rest queue set
 parting_none ts ns rest queue set =
-    record { within = omega arith; rest_long = refl; queue_long = refl; set_long = refl; right = λ order e h. h }
+    record { within = omega arith; queue_long = refl; right = λ order e h. h }
 
 pub parting_turn : (ts ns rest₀ queue₀ set₀ : List ℕ) (v : ℕ) (rest queue set u q p : List ℕ) → v < length ns
-    → length u ≡ length rest → length q ≡ length queue → length p ≡ length set → PartVisited ts ns v rest set u p
+    → length q ≡ length queue → PartVisited ts ns v rest set u p
     → Parting ts ns rest₀ queue₀ set₀ v rest queue set → Parting ts ns rest₀ queue₀ set₀ (v + 1) u q p
-parting_turn ts ns rest₀ queue₀ set₀ v rest queue set u q p l su qq sp h a = record {
+parting_turn ts ns rest₀ queue₀ set₀ v rest queue set u q p l qq h a = record {
   within = omega arith;
-  rest_long = su ∙ a.rest_long;
   queue_long = qq ∙ a.queue_long;
-  set_long = sp ∙ a.set_long;
   right = λ order e start. rw (add-one v) (
-      parted_next (length ns) (tables ts ns order) (fits_sound_site (length ns) (tables ts ns order) e) v l rest set u p (a.right order e start) su h);
+      parted_next (length ns) (tables ts ns order) (fits_sound_site (length ns) (tables ts ns order) e) v l rest set u p (a.right order e start) h);
 }
 
 pub parting_end : (ts ns rest₀ queue₀ set₀ : List ℕ) (v : ℕ) (rest queue set : List ℕ) → length ns ≤ max_radios → length rest₀ ≡ 8

@@ -1,7 +1,8 @@
 -- The radios above a row's own: what is left of its word when the bits up to its own are shifted out, and the words after it.
 use Rattle.std.specs.Prelude.{◌≡◌, ◌⊎◌, ◌++◌, ◌+◌, ◌*◌, ◌-◌, ◌/◌, ◌%◌, ◌^◌, ◌≤◌, ◌<◌}
 use Rattle.lists.{specs.Kit.{refl, sym, ap, ap₂, ◌∙◌, inl, inr, true, false, List, [], ℕ, zero, suc}}
-use Rattle.lists.{specs.Kit.{min, arith, pow-succ', ltb, leb, eqb, length, get_or, take, sets, lt-ltb, le-ltb, leb-true, leb-false}, specs.Lists.{range, filter}}
+use Rattle.lists.{specs.Kit.{min, arith, pow-succ', ltb, leb, eqb, length, get_or, take, sets, lt-ltb, le-ltb, leb-true, leb-false}}
+use Rattle.lists.{specs.Lists.{range, filter}}
 use Rattle.lists.{specs.Lists.{overwrite}, proofs.Tests.{bool_cases}, proofs.Range.{range_in, range_append}, proofs.Filter.{in_filter, filter_append}}
 use Rattle.lists.{proofs.Filter.{filter_none, filter_all}}
 use lib.{Arith.{lt-one}, Pow.{shr-shr, shr_lt}}

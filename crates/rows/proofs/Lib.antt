@@ -11,6 +11,8 @@ pub mod RowWords
 pub mod AboveWords
 -- the neighbours that a row marks, as a list: for callers
 pub mod RowListLaws
+-- the first radio of a list, as an option: for callers
+pub mod FirstLaws
 -- Laws of sets of eight words, for their functions and callers.
 pub mod SetLaws
 -- Laws of the list of links, for its functions and their callers.

@@ -1,11 +1,11 @@
 -- A row of the links table read word by word, as the loops over its words go: what is left of the row from word k on.
-use Rattle.std.specs.Prelude.{◌≡◌, ◌++◌, ◌+◌, ◌*◌, ◌-◌, ◌/◌, ◌%◌, ◌^◌, ◌≤◌, ◌<◌}
+use Rattle.std.specs.Prelude.{None, Some, ◌≡◌, ◌++◌, ◌+◌, ◌*◌, ◌-◌, ◌/◌, ◌%◌, ◌^◌, ◌≤◌, ◌<◌}
 use Rattle.lists.{specs.Kit.{refl, sym, ap, ◌∙◌, Bool, List, [], ℕ, zero, suc, min, arith, length, get_or}}
-use Rattle.lists.{specs.Kit.{take, drop, length-append, length-take, length-drop, sets, length-sets, get_or-take, get_or-drop, ones, count_trailing_zeros, le-leb, lt-leb}}
-use Rattle.lists.{specs.Lists.{range, filter, head_or, overwrite}, proofs.Filter.{filter_append}, proofs.Range.{range_append}}
-use Rattle.lists.{proofs.Overwrite.{sets_front, sets_append}}
+use Rattle.lists.specs.Kit.{take, drop, length-append, length-take, length-drop, sets, get_or-take, get_or-drop, ones, count_trailing_zeros, le-leb, lt-leb}
+use Rattle.lists.{specs.Lists.{range, filter, overwrite}, proofs.Filter.{filter_append}, proofs.Range.{range_append}}
+use Rattle.lists.{proofs.Overwrite.{sets_front}}
 use Rattle.mesh.specs.{Limits.{max_radios, max_neighbours, row_bytes}, Tables.{digit, byte_at, marked}}
-use Rattle.rows.specs.Rows.{neighbours_of, row_listed, row_from, row_count, set_bits, row_word, word_of}
+use Rattle.rows.specs.Rows.{first_in, neighbours_of, row_listed, row_from, row_count, set_bits, row_word, word_of}
 use Rattle.rows.proofs.{WordLaws.{set_bits_filter, word_lowest, word_none, length_set_bits, length_set_bits_le, word_at_less, digit_word_at}}
 use Rattle.rows.proofs.{Listing.{PartialListing, partial_part, partial_end}}
 
@@ -156,59 +156,6 @@ pub front_listed : (xs ys old list : List ℕ) (n : ℕ) → xs ≡ ys → n ≡
     → (n ≡ min (length old) (length ys)) × (list ≡ overwrite (take (length old) ys) old)
 front_listed xs ys old list n e f g = (omega (arith, f, ap length e), g ∙ ap (sets old 0) e ∙ sets_front old ys)
 
--- ---- a set, kept as one row: all radios counted, as many listed as fit
-
-pub record SetListing (set old : List ℕ) (n k : ℕ) (list : List ℕ) : Type 0 where
-  pub low : k ≤ 8
-  pub few : n ≤ 64 * k
-  pub long : length list ≡ length old
-  pub counted : n + length (row_from set 0 k) ≡ length (neighbours_of set 0)
-  pub listed : sets list n (row_from set 0 k) ≡ sets old 0 (neighbours_of set 0)
-
-pub set_listing_none : (set old : List ℕ) → SetListing set old 0 0 old
-set_listing_none set old = record {
-  low = omega arith;
-  few = omega arith;
-  long = refl;
-  counted = omega (arith, ap length (row_from_zero set 0));
-  listed = ap (sets old 0) (row_from_zero set 0);
-}
-
-module _ (set : List ℕ) (bytes : (j : ℕ) → get_or set j 0 < 256) (old : List ℕ) (n k w : ℕ) (list new : List ℕ) (h : k < 8)
-    (e : w ≡ row_word 8 set (8 * k)) where
-  set_word : w ≡ row_word 8 set (row_bytes * 0 + 8 * k)
-  set_word = e ∙ ap (row_word 8 set) (omega arith)
-
-  pub set_word_few : ones w ≤ 64
-  set_word_few = (length_row_from set bytes 0 k w h set_word).0
-
-  pub set_listing_turn : new ≡ sets list n (set_bits 64 (64 * k) w) → SetListing set old n k list → SetListing set old (n + ones w) (k + 1) new
-  set_listing_turn g i =
-      let bits = set_bits 64 (64 * k) w in
-      let rest = row_from set 0 (k + 1) in
-      let count : length bits ≡ ones w =
-      length_set_bits 64 (64 * k) w (omega (arith, word_at_less set bytes (row_bytes * 0 + 8 * k) 8, set_word)) in
-      let split : row_from set 0 k ≡ bits ++ rest = row_split set bytes 0 k w h set_word in
-      record {
-        low = omega arith;
-        few = omega (arith, set_word_few, i.few);
-        long = ap length g ∙ length-sets list n bits ∙ i.long;
-        counted = omega (arith, i.counted, (length_row_from set bytes 0 k w h set_word).1);
-        listed =
-            ap (λ (z : List ℕ). sets z (n + ones w) rest) g
-            ∙ ap (λ (m : ℕ). sets (sets list n bits) (n + m) rest) (sym count)
-            ∙ sym (sets_append list n bits rest)
-            ∙ ap (sets list n) (sym split)
-            ∙ i.listed;
-      }
-
-pub set_listing_end : (set old : List ℕ) (n k : ℕ) (list : List ℕ) → 8 ≤ k → row_bytes ≤ length set → SetListing set old n k list
-    → (n ≡ length (row_listed set 0)) × (list ≡ overwrite (take (length old) (row_listed set 0)) old)
-set_listing_end set old n k list h l i =
-    let none = row_from_end set 0 k h in
-    rw (row_listed_whole set 0 (omega arith))
-    (omega (arith, i.counted, ap length none), ap (sets list n) (sym none) ∙ i.listed ∙ sets_front old (neighbours_of set 0))
-
 -- ---- the lowest radio that passes a test, where each word tells the test of its own
 
 -- none passes before word k
@@ -222,11 +169,11 @@ module _ (f : ℕ → Bool) (k w : ℕ) (h : k < 8) (tells : (m : ℕ) → m < 6
   pub searching_turn : w ≡ 0 → Searching f (k + 1)
   searching_turn z = (omega arith, i.1 ∙ words_from f k w h tells ∙ ap (λ (x : List ℕ). x ++ others) (word_none (64 * k) w z))
 
-  pub searching_found : w < 2 ^ 64 → (w ≡ 0 → ⊥) → head_or max_radios (filter f (range 0 max_radios)) ≡ 64 * k + count_trailing_zeros 64 w
-  unfolding head_or
+  pub searching_found : w < 2 ^ 64 → (w ≡ 0 → ⊥) → Some (64 * k + count_trailing_zeros 64 w) ≡ first_in (filter f (range 0 max_radios))
+  unfolding first_in
   searching_found less some =
-      ap (head_or max_radios) (i.1 ∙ words_from f k w h tells ∙ ap (λ (x : List ℕ). x ++ others) (word_lowest (64 * k) w less some))
+      sym (ap first_in (i.1 ∙ words_from f k w h tells ∙ ap (λ (x : List ℕ). x ++ others) (word_lowest (64 * k) w less some)))
 
-pub searching_end : (f : ℕ → Bool) (k : ℕ) → 8 ≤ k → Searching f k → head_or max_radios (filter f (range 0 max_radios)) ≡ max_radios
-unfolding head_or
-searching_end f k h i = ap (head_or max_radios) (i.1 ∙ words_end f k h)
+pub searching_end : (f : ℕ → Bool) (k : ℕ) → 8 ≤ k → Searching f k → None ≡ first_in (filter f (range 0 max_radios))
+unfolding first_in
+searching_end f k h i = sym (ap first_in (i.1 ∙ words_end f k h))

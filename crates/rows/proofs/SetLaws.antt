@@ -5,7 +5,7 @@ use Rattle.std.specs.Prelude.{◌≡◌, ◌⊎◌, ◌&&◌, ◌||◌, ◌++◌
 use Rattle.lists.{specs.Kit.{refl, sym, ap, ◌∙◌, inl, inr, Bool, true, false, not, cond, List, ℕ, zero, suc}}
 use Rattle.lists.{specs.Kit.{min, max, arith, mod-lt, zero-lt-suc, one-mul, mod-eq_of_lt, differ, bit_and, bit_or, bit_xor, and_step, or_step}}
 use Rattle.lists.{specs.Kit.{xor_step, and_shr, or_shr, xor_shr, xor_zero_r, and_mask, and_lt, ones, ltb, eqb, length, get_or, set, replicate}}
-use Rattle.lists.{specs.Kit.{length-append, length-set, List·getD-eq-default, sets, set_out, set-get_or, get_or-set_same, get_or-set_other, ltb-true, ltb-false}}
+use Rattle.lists.specs.Kit.{length-append, length-set, List·getD-eq-default, sets, set_out, set-get_or, get_or-set_same, get_or-set_other, ltb-true, ltb-false}
 use Rattle.lists.{specs.Kit.{eqb-true, eqb-false, eq-eqb, ne_eqb}, specs.Lists.{range, filter, member}, proofs.Filter.{member_filter}}
 use Rattle.lists.{proofs.Overwrite.{sets_front}, proofs.Parts.{get_d_zeros}, proofs.Member.{not_member}, proofs.Range.{in_range}, proofs.Tests.{bool_cases}}
 use Rattle.lists.{proofs.Tests.{iff_eq}}
@@ -212,16 +212,6 @@ module _ (x ws : List ℕ) where
     pub same : (j : ℕ) → k ≤ j → get_or us j 0 ≡ get_or ws j 0
     pub listing : PartialListing (both_from 0) 0 old (both_from k) n list
 
-  pub common_taking_none : (old : List ℕ) → length ws ≡ 8 → CommonTaking old 0 0 ws old
-  common_taking_none old h = record {
-    low = omega arith;
-    long = h;
-    few = omega arith;
-    done = λ j l. absurd (omega arith);
-    same = λ j l. refl;
-    listing = partial_none (both_from 0) 0 old (omega arith);
-  }
-
   pub both_word : (k m : ℕ) → m < 64 → both (64 * k + m) ≡ digit (bit_and (get_or x k 0) (get_or ws k 0)) m
   unfolding in_set
   both_word k m h =
@@ -284,6 +274,7 @@ module _ (x ws : List ℕ) where
   common_taking_end old n k us list h lw i =
       let ended = partial_end (both_from k) n list (words_end both k h) i.listing in
       record {
+        long = i.long;
         counted = omega (arith, ended.0);
         listed = ended.1 ∙ sets_front old (both_from 0);
         left = left_out us lw i.long (λ j l. i.done j (omega arith));
@@ -298,9 +289,6 @@ pub record CommonCounting (x y : List ℕ) (n k : ℕ) : Type 0 where
   pub counted : n + length (both_from x y k) ≡ length (both_from x y 0)
 
 module _ (x y : List ℕ) where
-  pub common_counting_none : CommonCounting x y 0 0
-  common_counting_none = record { low = omega arith; few = omega arith; counted = omega arith }
-
   pub common_word_few : (k : ℕ) → get_or x k 0 < 2 ^ 64 → get_or y k 0 < 2 ^ 64 → ones (bit_and (get_or x k 0) (get_or y k 0)) ≤ 64
   common_word_few k wx wy =
       let w = bit_and (get_or x k 0) (get_or y k 0) in
@@ -331,9 +319,6 @@ module _ (f : ℕ → ℕ → ℕ) (ws : List ℕ) where
     pub done : (j : ℕ) → j < k → get_or us j 0 ≡ f j (get_or ws j 0)
     pub same : (j : ℕ) → k ≤ j → get_or us j 0 ≡ get_or ws j 0
 
-  pub changing_none : length ws ≡ 8 → Changing 0 ws
-  changing_none h = record { low = omega arith; long = h; done = λ j l. absurd (omega arith); same = λ j l. refl }
-
   pub changing_turn : (k w : ℕ) (us : List ℕ) → k < 8 → w ≡ f k (get_or us k 0) → Changing k us → Changing (k + 1) (set us k w)
   changing_turn k w us l e i = record {
     low = omega arith;
@@ -351,7 +336,7 @@ module _ (f : ℕ → ℕ → ℕ) (ws : List ℕ) where
 -- the radios of another set taken out
 pub set_taken_end : (x ws us : List ℕ) (k : ℕ) → 8 ≤ k → length ws ≡ 8 → Changing (λ j w. word_left (get_or x j 0) w) ws k us → SetTaken x ws us
 unfolding in_set
-set_taken_end x ws us k h lw i = record { bits = λ w. go w (bool_cases (ltb w max_radios)) }
+set_taken_end x ws us k h lw i = record { long = i.long; bits = λ w. go w (bool_cases (ltb w max_radios)) }
   where
     go : (w : ℕ) → (ltb w max_radios ≡ true) ⊎ (ltb w max_radios ≡ false) → in_set us w ≡ (in_set ws w && not (in_set x w))
     go w (inl e) =
@@ -362,9 +347,9 @@ set_taken_end x ws us k h lw i = record { bits = λ w. go w (bool_cases (ltb w m
         rw (in_set_past us w (omega (arith, i.long)), in_set_past ws w (omega arith))
 
 -- the radios of a row put in
-pub row_joined_short : (ts : List ℕ) (a : ℕ) (ws : List ℕ) → length ts < row_bytes * a + row_bytes → RowJoined ts a ws ws
+pub row_joined_short : (ts : List ℕ) (a : ℕ) (ws : List ℕ) → length ts < row_bytes * a + row_bytes → length ws ≡ 8 → RowJoined ts a ws ws
 unfolding member
-row_joined_short ts a ws h = record { bits = λ w. rw (row_listed_short ts a h) (or_no (in_set ws w)) }
+row_joined_short ts a ws h long = record { long = long; bits = λ w. rw (row_listed_short ts a h) (or_no (in_set ws w)) }
   where
     or_no : (b : Bool) → b ≡ (b || false)
     or_no true = refl
@@ -377,7 +362,7 @@ module _ (ts : List ℕ) (a : ℕ) (ws : List ℕ) where
   pub row_joining_end : ((j : ℕ) → get_or ts j 0 < 256) → (k : ℕ) (us : List ℕ) → 8 ≤ k → row_bytes * a + row_bytes ≤ length ts → length ws ≡ 8
       → RowJoining k us → RowJoined ts a ws us
   unfolding in_set
-  row_joining_end bytes k us h whole long i = record { bits = λ w. go w (bool_cases (ltb w max_radios)) }
+  row_joining_end bytes k us h whole long i = record { long = i.long; bits = λ w. go w (bool_cases (ltb w max_radios)) }
     where
       go : (w : ℕ) → (ltb w max_radios ≡ true) ⊎ (ltb w max_radios ≡ false) → in_set us w ≡ (in_set ws w || member w (row_listed ts a))
       go w (inl e) =

@@ -4,12 +4,13 @@
 --   neighbours_above ts a the neighbours above a that row a marks, ascending; of a row that is not whole in the table none
 --   row_from ts a k       the radios from 64 * k on that row a marks: its words from word k on
 --   row_count most ts a   how many radios row a marks, counted no further than one past `most`
+--   first_in xs           the first entry of xs, if there is one
 --   set_bits d i w        the places of the set bits among the d lowest of w, ascending, counted from i
 --   row_word k ts i        the k bytes of ts from place i on, as one number, lowest byte first
 --   word_of row k          word k of a row that stands by itself, 0 past it
 --   WordsRoom             what a private function of src/lib.rt wants of lengths
 -- Laws are in proofs/RowListLaws.antt and proofs/WordLaws.antt. Definitions only.
-use Rattle.std.specs.Prelude.{◌∷◌, ◌+◌, ◌*◌, ◌-◌, ◌/◌, ◌%◌, ◌^◌, ◌≤◌}
+use Rattle.std.specs.Prelude.{Option, None, Some, ◌∷◌, ◌+◌, ◌*◌, ◌-◌, ◌/◌, ◌%◌, ◌^◌, ◌≤◌}
 use Rattle.lists.specs.{Kit.{cond, List, [], ℕ, zero, suc, min, ltb, leb, eqb, length, get_or}, Lists.{range, filter}}
 use Rattle.mesh.specs.{Limits.{max_radios, max_neighbours, row_bytes}, Tables.{marked}}
 
@@ -27,6 +28,10 @@ row_from ts a k = filter (λ b. marked ts a b) (range (64 * k) (max_radios - 64 
 
 unfoldable pub row_count : (most : ℕ) → (links : List ℕ) → (a : ℕ) → ℕ
 row_count most ts a = min (suc most) (length (row_listed ts a))
+
+unfoldable pub first_in : List ℕ → Option ℕ
+first_in [] = None
+first_in (x ∷ xs) = Some x
 
 unfoldable pub set_bits : (d i w : ℕ) → List ℕ
 set_bits zero i w = []

@@ -28,6 +28,7 @@ put_in v ws = set ws (v / 64) (put_digit true (get_or ws (v / 64) 0) (v % 64))
 
 -- ws before, us after
 pub record RowJoined (ts : List ℕ) (a : ℕ) (ws us : List ℕ) : Type 0 where
+  pub long : length us ≡ 8
   pub bits : (w : ℕ) → in_set us w ≡ (in_set ws w || member w (row_listed ts a))
 
 unfoldable pub word_left : (other word : ℕ) → ℕ
@@ -41,12 +42,14 @@ common x y = filter (λ v. in_set x v && in_set y v) (range 0 max_radios)
 
 -- ws and list before, us and new after; r entries were written
 pub record CommonTaken (x ws list : List ℕ) (r : ℕ) (us new : List ℕ) : Type 0 where
+  pub long : length us ≡ 8
   pub counted : r ≡ min (length list) (length (common x ws))
   pub listed : new ≡ overwrite (take (length list) (common x ws)) list
   pub left : (w : ℕ) → in_set us w ≡ (in_set ws w && not (member w (common x ws)))
 
 -- ws before, us after
 pub record SetTaken (x ws us : List ℕ) : Type 0 where
+  pub long : length us ≡ 8
   pub bits : (w : ℕ) → in_set us w ≡ (in_set ws w && not (in_set x w))
 
 unfoldable pub members : (words : List ℕ) → List ℕ

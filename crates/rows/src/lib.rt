@@ -6,9 +6,9 @@
 ghost use Rattle.std.specs.Prelude.{◌≡◌, ◌≤◌, ◌+◌, ◌-◌};
 ghost use Rattle.lists.specs.Kit.{suc, min, length, take, sets};
 ghost use Rattle.mesh.specs.Limits.{max_radios, max_neighbours};
-ghost use Rattle.lists.specs.Lists.{head_or, overwrite};
+ghost use Rattle.lists.specs.Lists.{overwrite};
 ghost use Rattle.mesh.specs.Tables.{marked, put_bit, put_link};
-ghost use Rattle.rows.specs.Rows.{row_listed, neighbours_above, row_from, row_count, set_bits, row_word, word_of, WordsRoom};
+ghost use Rattle.rows.specs.Rows.{first_in, row_listed, neighbours_above, row_from, row_count, set_bits, row_word, word_of, WordsRoom};
 
 pub mod link_list;
 pub mod sets;
@@ -91,13 +91,11 @@ pub fn row_degree(links: &[u8], a: u32) -> u8
         return 0;
     }
     let mut n: u8 = 0;
-    let mut k: u32 = 0;
-    while k < ROW_WORDS {
+    for k in 0..ROW_WORDS {
         n += u64::count_ones(word_at(links, start + 8 * k as usize)) as u8;
         if STOP <= n {
             return STOP;
         }
-        k += 1;
     }
     n
 }
@@ -131,15 +129,13 @@ fn list_words(links: &[u8], a: u32, from: u32, list: &mut [u16], count: u8) -> u
 {
     let start = mesh::Site::ROW_BYTES * a as usize;
     let mut n = count;
-    let mut k = from;
-    while k < ROW_WORDS {
+    for k in from..ROW_WORDS {
         n = list_bits(
             word_at(links, start + 8 * k as usize),
             WORD_BITS * k,
             list,
             n,
         );
-        k += 1;
     }
     n
 }
@@ -213,42 +209,19 @@ fn list_word(word: u64, first: u32, list: &mut [u16], at: usize) -> u8
     list_bits(word, first, &mut list[at..], 0)
 }
 
-// Writes the radios of a set, kept as one row, into the list, ascending, as many as fit, and comes back with the count of all of
-// them; later entries keep their content. Of a row that is not whole nothing is written, and the count is 0.
-pub fn list_set(set: &[u8], list: &mut [u16]) -> u32
-    ensures counted { result ≡ length (row_listed set.now 0) }
-    ensures listed { list.new
-        ≡ overwrite (take (length list.old) (row_listed set.now 0)) list.old }
-{
-    if set.len() < mesh::Site::ROW_BYTES {
-        return 0;
-    }
-    let mut n: u32 = 0;
-    let mut k: u32 = 0;
-    while k < ROW_WORDS {
-        let word = word_at(set, 8 * k as usize);
-        list_word(word, WORD_BITS * k, list, n as usize);
-        n += u64::count_ones(word);
-        k += 1;
-    }
-    n
-}
-
-// The lowest radio that row a marks; where it marks none, or is not whole in the table, the most radios that a site may have.
-pub fn first_marked(links: &[u8], a: u32) -> u32
-    ensures { result ≡ head_or max_radios (row_listed links.now a) }
+// The lowest radio that row a marks; of a row that is not whole in the table none.
+pub fn first_marked(links: &[u8], a: u32) -> Option<u32>
+    ensures { result ≡ first_in (row_listed links.now a) }
 {
     let start = mesh::Site::ROW_BYTES * a as usize;
     if links.len() < start + mesh::Site::ROW_BYTES {
-        return mesh::Site::RADIOS;
+        return None;
     }
-    let mut k: u32 = 0;
-    while k < mesh::Site::RADIOS / 64 {
+    for k in 0..ROW_WORDS {
         let word = word_at(links, start + 8 * k as usize);
         if word != 0 {
-            return 64 * k + u64::trailing_zeros(word);
+            return Some(WORD_BITS * k + u64::trailing_zeros(word));
         }
-        k += 1;
     }
-    mesh::Site::RADIOS
+    None
 }

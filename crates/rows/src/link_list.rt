@@ -10,10 +10,8 @@ pub fn count_links(n: u32, links: &[u8], list: &mut [u16]) -> u32
     ensures { result ≡ length (links_from n links.now 0 0) }
 {
     let mut count: u32 = 0;
-    let mut a: u32 = 0;
-    while a < n {
+    for a in 0..n {
         count += super::row_above(links, a, list) as u32;
-        a += 1;
     }
     count
 }

@@ -38,9 +38,9 @@ module _ (n : ℕ) (t : Tables) where
       listing_refused (refusal w) _ _ w q
       (e ∙ sym (site_stops n (lengths_of t) true (sound n t) (ask 13 (holds_script g (length w)) 0) (λ z. h (e ∙ z)))) h
 
-  module _ (q : ℕ) (asked : q ≡ questions) (none : q ≡ 0) where
+  module _ (none : questions ≡ 0) where
     passed : SiteGood n (lengths_of t) true (sound n t)
-    passed = (site_zero n (lengths_of t) true (sound n t) 0 (sym asked ∙ none)).0
+    passed = (site_zero n (lengths_of t) true (sound n t) 0 none).0
 
     site : SoundSite n t
     site = site_good_sound n t true passed
@@ -67,7 +67,7 @@ module _ (n : ℕ) (t : Tables) where
 
       pub length_answered : ScriptLengthContract n t (value 0 size)
       unfolding ScriptLengthContract script_length_outcome sound
-      length_answered = value_answered _ _ size (sym asked ∙ none) size_is
+      length_answered = value_answered _ _ size none size_is
 
       module _ (w : List ℕ) where
         pub write_no_room : length w < size → ScriptContract n t w (value 13 0) w

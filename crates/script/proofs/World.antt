@@ -1,5 +1,5 @@
 -- The functions that other crates call, as they stand in a linked program: the crate's table of names and codes, and that each has its code there,
--- with the code of all that it calls, where this table and those of the crates below stand in it.
+-- with the code of all that it calls, where this table and those of the crates below stand in it. Written by tools/worlds.
 use mathlib.Core.Bool.{true}
 use prog.{Linked.{Tree, World, Holds, in_world}, LinkedThreads.{HasT}}
 use Rattle.script.proofs.TheLink as link
@@ -18,7 +18,31 @@ abbrev pub Stand : World → Type 0
 Stand W = Holds W "script" table × rows.Stand W × soundness.Stand W × tables.Stand W × text.Stand W
 
 below : (W : World) → Stand W → link.Below W
-below W h = (rows.has_row_above W h.1, (soundness.has_refusal W h.2, (tables.has_fill_copy8 W h.3, (tables.has_numbers_wide16 W h.3, (tables.has_numbers_wide8 W h.3, (text.has_put_byte W h.4, (text.has_put_decimal W h.4, (text.has_put_field W h.4, (text.has_put_numbers W h.4, (text.has_put_radios W h.4, (text.has_put_text W h.4, tt)))))))))))
+below W h = (
+  rows.has_row_above W h.1,
+  (
+    soundness.has_ask W h.2,
+    (
+      tables.has_fill_U8Entry_is W h.3,
+      (
+        tables.has_fill_U8Entry_set W h.3,
+        (
+          tables.has_fill_copy W h.3,
+          (
+            text.has_U16Field_wide W h.4,
+            (
+              text.has_U8Field_wide W h.4,
+              (
+                text.has_put_byte W h.4,
+                (text.has_put_decimal W h.4, (text.has_put_field W h.4, (text.has_put_fields W h.4, (text.has_put_text W h.4, tt)))),
+              ),
+            ),
+          ),
+        ),
+      ),
+    ),
+  ),
+)
 
 pub has_writer_length : (W : World) → Stand W → HasT (in_world W) true writer_length.code
 has_writer_length W h = link.linked-script::writer::length W h.0 (below W h)

@@ -8,7 +8,7 @@
 --   line_of s         what a text says: `Bad` for every text of another form
 -- The texts of the language are in Texts.antt. That line_of takes exactly the texts of the language, and each back to its line, is proved in proofs/Texts.antt.
 -- Definitions only.
-use Rattle.std.specs.Prelude.{◌&&◌, ◌∷◌, ◌+◌, ◌*◌, ◌-◌}
+use Rattle.std.specs.Prelude.{◌&&◌, ◌∷◌, ◌+◌, ◌*◌, ◌-◌, Option, Some, None}
 use Rattle.lists.specs.{Kit.{Bool, true, false, cond, List, [], ℕ, leb, eqb, drop}, Lists.{same}}
 use Rattle.text.specs.Text.{bytes_of, space, line_feed, digit_byte}
 use Rattle.script.specs.declared.lines.{Line.{Line}, Line.TheVariants.{Radios, Up, Down, Bad}}

@@ -2,10 +2,11 @@
 --   down_text a b     the text of a link call that takes a link down
 --   text_of l         the text of a line, its line feed included
 --   Values l          are the line's numbers at most 65,535
---   read_of s r       what the parser's record r says about the text s
+--   read_of s r       what the number r that the parser found says about the text s
+--   value_of r        the value of what is read
 --   alone_of s        the number that is the whole of s
 -- Definitions only.
-use Rattle.std.specs.Prelude.{◌∷◌, ◌≤◌}
+use Rattle.std.specs.Prelude.{◌∷◌, ◌≤◌, Option, Some, None}
 use Rattle.lists.specs.{Kit.{cond, List, [], ℕ, drop}, Lists.{same}}
 use Rattle.text.specs.Text.{bytes_of, decimal, printed_line}
 use Rattle.calls.specs.Script.{radios_text, up_text}
@@ -34,8 +35,14 @@ Values Bad = ⊥
 -- ---- what the parser keeps
 
 -- the number found, and what follows it in s
-unfoldable pub read_of : (s : List ℕ) → Number → Read
-read_of s r = cond r.ok (got r.value (drop r.next s)) none
+abbrev pub read_of : (s : List ℕ) → Option Number → Read
+read_of s None = none
+read_of s (Some r) = got r.value (drop r.next s)
+
+-- the value of what is read
+abbrev pub value_of : Read → Option ℕ
+value_of none = None
+value_of (got v rest) = Some v
 
 -- ---- a number alone
 

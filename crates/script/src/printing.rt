@@ -47,9 +47,9 @@ pub fn put_link_line(
     let after_step = put_step(buffer, after_space, step);
     let n = count as usize;
     if changed.len() <= n {
-        return text::put_radios(buffer, after_step, changed);
+        return text::put_fields(buffer, after_step, changed);
     }
-    text::put_radios(buffer, after_step, &changed[..n])
+    text::put_fields(buffer, after_step, &changed[..n])
 }
 
 // Puts the closing line of the numbers, by radio.
@@ -57,7 +57,7 @@ pub fn put_numbers_line(buffer: &mut [u8], at: usize, numbers: &[u8]) -> usize
     ensures { Puts (buffer_at buffer.old at) (numbers_line numbers.now) (buffer_at buffer.new result) }
 {
     let place = text::put_text(buffer, at, b"numbers");
-    text::put_numbers(buffer, place, numbers)
+    text::put_fields(buffer, place, numbers)
 }
 
 // Puts the closing line of the order.
@@ -65,7 +65,7 @@ pub fn put_order_line(buffer: &mut [u8], at: usize, order: &[u16]) -> usize
     ensures { Puts (buffer_at buffer.old at) (order_line order.now) (buffer_at buffer.new result) }
 {
     let place = text::put_text(buffer, at, b"order");
-    text::put_radios(buffer, place, order)
+    text::put_fields(buffer, place, order)
 }
 
 // Puts what ends the run at a line of another form: lines are counted from 1.

@@ -6,18 +6,19 @@ ghost use Rattle.lists.specs.Kit.{flat_map, length};
 ghost use Rattle.lists.specs.Lists.{EntriesBelow};
 ghost use Rattle.mesh.specs.Limits.{max_radios, max_neighbours};
 ghost use Rattle.mesh.specs.Graph.{graph};
-ghost use Rattle.mesh.specs.Lent.{lent};
+ghost use Rattle.mesh.specs.Lent.{read_of};
 ghost use Rattle.rows.specs.Rows.{neighbours_above};
 ghost use Rattle.text.specs.Text.{digit_byte, decimal};
 ghost use Rattle.text.specs.Print.{buffer_at, Puts};
 ghost use Rattle.calls.specs.Script.{radios_text, up_text, up_line, script_of, script_length};
+ghost use Rattle.calls.specs.Answers.{value_reply};
 ghost use Rattle.calls.specs.CallContracts.{ScriptLengthContract, ScriptContract};
 ghost use Rattle.rows.specs.Links.{links_to, links_above, links_from, RowsListed};
 ghost use Rattle.script.specs.Longest.{longest_script};
 
 use super::lines;
-use calls::{Refusal, Value};
-use mesh::Site;
+use calls::Refusal;
+use mesh::{Lent, Site};
 use tables::fill;
 
 // Puts line 1 of a site of n radios.
@@ -63,7 +64,7 @@ fn put_word(buffer: &mut [u8], at: usize, word: &[u8]) -> usize
     ensures { Puts (buffer_at buffer.old at) word.now (buffer_at buffer.new result) }
 {
     let end = at + word.len();
-    fill::copy8(&mut buffer[at..end], word);
+    fill::copy(&mut buffer[at..end], word);
     end
 }
 
@@ -88,10 +89,8 @@ fn put_row(buffer: &mut [u8], at: usize, a: u32, list: &[u16]) -> usize
         (buffer_at buffer.new result) }
 {
     let mut place = at;
-    let mut i: usize = 0;
-    while i < list.len() {
-        place = put_up(buffer, place, a, tables::numbers::wide16(list[i]));
-        i += 1;
+    for b in list {
+        place = put_up(buffer, place, a, *b as u32);
     }
     place
 }
@@ -116,10 +115,8 @@ fn put_links(buffer: &mut [u8], at: usize, n: u32, links: &[u8]) -> usize
         (buffer_at buffer.new result) }
 {
     let mut place = at;
-    let mut a: u32 = 0;
-    while a < n {
+    for a in 0..n {
         place = put_radio(buffer, place, links, a);
-        a += 1;
     }
     place
 }
@@ -157,10 +154,8 @@ fn row_length(a: u16, list: &[u16]) -> usize
 {
     let own = 5 + digits(a);
     let mut sum: usize = 0;
-    let mut i: usize = 0;
-    while i < list.len() {
-        sum += own + digits(list[i]);
-        i += 1;
+    for b in list {
+        sum += own + digits(*b);
     }
     sum
 }
@@ -182,10 +177,8 @@ fn links_length(n: u32, links: &[u8]) -> usize
     ensures { result ≡ length (flat_map up_line (links_from n links.now 0 0)) }
 {
     let mut sum: usize = 0;
-    let mut a: u32 = 0;
-    while a < n {
+    for a in 0..n {
         sum += radio_length(links, a);
-        a += 1;
     }
     sum
 }
@@ -199,39 +192,28 @@ fn measure(n: u32, links: &[u8]) -> usize
     8 + digits(n as u16) + links_length(n, links)
 }
 
-// Number 0 and the script's length in bytes. Or the refusal number of questions 1 to 3 and the value 0.
-pub fn length(n: u32, links: &[u8], numbers: &[u8], order: &[u16]) -> Value
-    ensures { ScriptLengthContract n (lent links.now numbers.now order.now) result }
+// The script's length in bytes. Refused by questions 1 to 3.
+pub fn length(t: &Lent) -> Result<u32, Refusal>
+    ensures { ScriptLengthContract t.now.radios (read_of t.now) (value_reply result) }
 {
-    let number = soundness::refusal(n, links, numbers, order, true);
-    if number != 0 {
-        return Value { number, value: 0 };
+    if let Err(refusal) = soundness::ask(t, true) {
+        return Err(refusal);
     }
-    Value {
-        number: 0,
-        value: measure(n, links) as u32,
-    }
+    Ok(measure(t.radios, t.links) as u32)
 }
 
-// Number 0 and the script's length in bytes; the script stands in front of the buffer, and later bytes keep their content. Or the
-// refusal number of questions 1 to 3 and 13 and the value 0; the buffer keeps its content.
-pub fn write(n: u32, links: &[u8], numbers: &[u8], order: &[u16], buffer: &mut [u8]) -> Value
-    ensures { ScriptContract n (lent links.now numbers.now order.now) buffer.old result buffer.new }
+// The script's length in bytes; the script stands in front of the buffer, and later bytes keep their content. Refused by questions 1 to 3
+// and 13: then the buffer keeps its content.
+pub fn write(t: &Lent, buffer: &mut [u8]) -> Result<u32, Refusal>
+    ensures { ScriptContract t.now.radios (read_of t.now) buffer.old (value_reply result) buffer.new }
 {
-    let number = soundness::refusal(n, links, numbers, order, true);
-    if number != 0 {
-        return Value { number, value: 0 };
+    if let Err(refusal) = soundness::ask(t, true) {
+        return Err(refusal);
     }
-    let size = measure(n, links);
+    let size = measure(t.radios, t.links);
     if buffer.len() < size {
-        return Value {
-            number: Refusal::TEXT,
-            value: 0,
-        };
+        return Err(Refusal::Text);
     }
-    put_script(buffer, n, links);
-    Value {
-        number: 0,
-        value: size as u32,
-    }
+    put_script(buffer, t.radios, t.links);
+    Ok(size as u32)
 }

@@ -21,9 +21,9 @@ module _ (n : ℕ) (t : Tables) (w : List ℕ) where
   sheet_refused q e h =
       listing_refused refusal _ _ w q (e ∙ sym (site_stops n (lengths_of t) true (sound n t) (ask 12 (holds_sheet n (length w)) 0) (λ z. h (e ∙ z)))) h
 
-  module _ (q : ℕ) (asked : q ≡ questions) (none : q ≡ 0) where
+  module _ (none : questions ≡ 0) where
     passed : SiteGood n (lengths_of t) true (sound n t)
-    passed = (site_zero n (lengths_of t) true (sound n t) 0 (sym asked ∙ none)).0
+    passed = (site_zero n (lengths_of t) true (sound n t) 0 none).0
 
     pub sheet_small : n ≤ max_radios
     sheet_small = passed.lent.most

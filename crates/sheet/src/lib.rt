@@ -4,15 +4,17 @@
 
 ghost use Rattle.std.specs.Prelude.{◌≡◌, ◌+◌, ◌*◌, ◌%◌, ◌<◌, ◌≤◌};
 ghost use Rattle.lists.specs.Kit.{length, replicate};
-ghost use Rattle.mesh.specs.Lent.{lent};
+ghost use Rattle.mesh.specs.Lent.{read_of};
 ghost use Rattle.text.specs.Text.{space, digit_byte};
 ghost use Rattle.text.specs.Print.{buffer_at, put, Puts};
 ghost use Rattle.calls.specs.SheetCells.{digit_column, CellsFit};
 ghost use Rattle.calls.specs.Sheet.{cell, cells, sheet_line, sheet_lines, sheet};
 ghost use Rattle.calls.specs.Sheet.{cell_width, line_cells, line_bytes};
+ghost use Rattle.calls.specs.Answers.{value_reply};
 ghost use Rattle.calls.specs.CallContracts.{SheetContract};
 
-use calls::{Refusal, Value};
+use calls::Refusal;
+use mesh::Lent;
 
 // The columns of a cell.
 const CELL: usize = 8;
@@ -28,10 +30,8 @@ fn put_spaces(page: &mut [u8], at: usize, count: usize)
     requires { at + count ≤ length page.old }
     ensures { Puts (buffer_at page.old at) (replicate count space) (buffer_at page.new (at + count)) }
 {
-    let mut i: usize = 0;
-    while i < count {
+    for i in 0..count {
         page[at + i] = b' ';
-        i += 1;
     }
 }
 
@@ -76,16 +76,9 @@ fn put_cells(page: &mut [u8], at: usize, numbers: &[u8], v: usize, k: usize)
     ensures { Puts (buffer_at page.old at) (cells numbers.now v k)
         (buffer_at page.new (at + cell_width * k)) }
 {
-    let mut i: usize = 0;
-    while i < k {
+    for i in 0..k {
         let w = v + i;
-        put_cell(
-            page,
-            at + CELL * i,
-            w as u32,
-            tables::numbers::wide8(numbers[w]),
-        );
-        i += 1;
+        put_cell(page, at + CELL * i, w as u32, numbers[w] as u32);
     }
 }
 
@@ -119,32 +112,23 @@ fn put_sheet(page: &mut [u8], numbers: &[u8])
     ensures { page.new ≡ (put (buffer_at page.old 0) (sheet numbers.now)).bytes }
 {
     let count = lines(numbers.len());
-    let mut i: usize = 0;
-    while i < count {
+    for i in 0..count {
         put_line(page, (WIDTH + 1) * i, numbers, i);
-        i += 1;
     }
 }
 
-// Number 0 and the sheet's length in bytes; the sheet stands in front of the page, and later bytes keep their content. Or the refusal
-// number of questions 1 to 3 and 12 and the value 0; the page keeps its content.
-pub fn sheet(n: u32, links: &[u8], numbers: &[u8], order: &[u16], page: &mut [u8]) -> Value
-    ensures { SheetContract n (lent links.now numbers.now order.now) page.old result page.new }
+// The sheet's length in bytes; the sheet stands in front of the page, and later bytes keep their content. Refused by questions 1 to 3
+// and 12: then the page keeps its content.
+pub fn sheet(t: &Lent, page: &mut [u8]) -> Result<u32, Refusal>
+    ensures { SheetContract t.now.radios (read_of t.now) page.old (value_reply result) page.new }
 {
-    let number = soundness::refusal(n, links, numbers, order, true);
-    if number != 0 {
-        return Value { number, value: 0 };
+    if let Err(refusal) = soundness::ask(t, true) {
+        return Err(refusal);
     }
-    let size = (WIDTH + 1) * lines(n as usize);
+    let size = (WIDTH + 1) * lines(t.radios as usize);
     if page.len() < size {
-        return Value {
-            number: Refusal::PAGE,
-            value: 0,
-        };
+        return Err(Refusal::Page);
     }
-    put_sheet(page, numbers);
-    Value {
-        number: 0,
-        value: size as u32,
-    }
+    put_sheet(page, t.numbers);
+    Ok(size as u32)
 }

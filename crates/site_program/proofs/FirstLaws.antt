@@ -1,10 +1,11 @@
 -- The first line: where its end is found, byte by byte.
-use Rattle.std.specs.Prelude.{◌≡◌, ◌∷◌, ◌+◌, ◌-◌, ◌≤◌, ◌<◌}
+use Rattle.std.specs.Prelude.{Option, ◌≡◌, ◌∷◌, ◌+◌, ◌-◌, ◌≤◌, ◌<◌}
 use Rattle.lists.specs.Kit.{refl, sym, ap, ◌∙◌, cond, List, [], ℕ, zero, suc, arith, add-one, eqb, length, take, drop, get_or}
 use Rattle.lists.specs.Kit.{drop_of_length-le, drop-cons, eq-eqb, ne_eqb, lt-ltb, le-ltb}
 use Rattle.text.specs.Text.{line_feed}
-use Rattle.site_program.specs.{Errors.{form, no_feed}, Course.{further, first_end, first_room, named_radios, line_room, form_of, first_fault}}
-use Rattle.player.specs.Play.{radios_of}
+use Rattle.site_program.specs.declared.refusals.{Fault.{Fault}, Fault.TheVariants.{Form, NoFeed}}
+use Rattle.site_program.specs.Course.{further, first_end, first_room, named_radios, line_room, form_of, first_fault}
+use Rattle.player.specs.{First.{some_radios}, Play.{radios_of}}
 
 -- ---- places
 
@@ -87,21 +88,22 @@ module _ (m i : ℕ) (s : List ℕ) (so : Looked m i s) where
 
 -- ---- the first line
 
-pub named_is : (s : List ℕ) (end q : ℕ) → end ≡ first_end first_room s → q ≡ radios_of (take end s) → q ≡ named_radios s
+pub named_is : (s : List ℕ) (end : ℕ) (q : Option ℕ) → end ≡ first_end first_room s
+    → q ≡ some_radios (radios_of (take end s)) → q ≡ some_radios (named_radios s)
 unfolding named_radios
-named_is s end q is e = e ∙ ap (λ (j : ℕ). radios_of (take j s)) is
+named_is s end q is e = e ∙ ap (λ (j : ℕ). some_radios (radios_of (take j s))) is
 
 -- what is wrong with it
 
 module _ (s : List ℕ) (end : ℕ) (is : end ≡ first_end line_room s) where
-  pub fault_line : (q : ℕ) → (end ≡ 0 → ⊥) → q ≡ form_of (take end s) → q ≡ first_fault s
+  pub fault_line : (q : Fault) → (end ≡ 0 → ⊥) → q ≡ form_of (take end s) → q ≡ first_fault s
   unfolding first_fault
   fault_line q h e = rw (← is, ne_eqb end 0 h) e
 
-  pub fault_open : end ≡ 0 → length s < line_room → no_feed ≡ first_fault s
+  pub fault_open : end ≡ 0 → length s < line_room → NoFeed ≡ first_fault s
   unfolding first_fault
   fault_open h k = rw (← is, eq-eqb end 0 h, lt-ltb (length s) line_room k)
 
-  pub fault_long : end ≡ 0 → line_room ≤ length s → form ≡ first_fault s
+  pub fault_long : end ≡ 0 → line_room ≤ length s → Form ≡ first_fault s
   unfolding first_fault
   fault_long h k = rw (← is, eq-eqb end 0 h, le-ltb (length s) line_room k)

@@ -2,8 +2,8 @@
 use Rattle.std.specs.Prelude.{◌≡◌, ◌∷◌, ◌++◌, ◌+◌, ◌*◌, ◌<◌, ◌≤◌}
 use Rattle.lists.specs.Kit.{refl, List, [], ℕ, suc, arith, add-one, length, drop, get_or, length-drop, drop_of_length-le}
 use Rattle.lists.specs.Kit.{drop-cons}
-use Rattle.text.specs.Text.{bytes_of, decimal, printed_line}
-use Rattle.site_program.specs.Texts.{link_line, pair_lines, node_lines}
+use Rattle.mesh.specs.declared.Node.{Node}
+use Rattle.site_program.specs.Texts.{link_line, pair_lines, node_line, node_lines}
 
 -- ---- pair_lines
 
@@ -29,13 +29,11 @@ pair_end xs i h = pair_one (drop (2 * i) xs) (omega (arith, h, length-drop (2 * 
 
 -- ---- node_lines
 
-pub node_next : (xs ls ps : List ℕ) (i a l p : ℕ) → i < length xs → i < length ls → i < length ps
-    → a ≡ get_or xs i 0 → l ≡ get_or ls i 0 → p ≡ get_or ps i 0
-    → node_lines (drop i xs) (drop i ls) (drop i ps)
-    ≡ printed_line (bytes_of "node") (decimal a ∷ decimal l ∷ decimal p ∷ []) ++ node_lines (drop (i + 1) xs) (drop (i + 1) ls) (drop (i + 1) ps)
+pub node_next : (xs : List Node) (i : ℕ) (x d : Node) → i < length xs → x ≡ get_or xs i d
+    → node_lines (drop i xs) ≡ node_line x ++ node_lines (drop (i + 1) xs)
 unfolding node_lines
-node_next xs ls ps i a l p h k m d e f = rw (add-one i, drop-cons xs i 0 h, drop-cons ls i 0 k, drop-cons ps i 0 m, d, e, f)
+node_next xs i x d h e = rw (add-one i, drop-cons xs i d h, ← e)
 
-pub node_end : (xs ls ps : List ℕ) (i : ℕ) → length xs ≤ i → node_lines (drop i xs) (drop i ls) (drop i ps) ≡ []
+pub node_end : (xs : List Node) (i : ℕ) → length xs ≤ i → node_lines (drop i xs) ≡ []
 unfolding node_lines
-node_end xs ls ps i h = rw (drop_of_length-le xs h)
+node_end xs i h = rw (drop_of_length-le xs h)

@@ -1,6 +1,6 @@
 -- A buffer with room for the longest text holds the text of every verb: none is refused by 9, 12 or 13.
-use Rattle.std.specs.Prelude.{◌≡◌, ◌≤◌}
-use Rattle.lists.specs.Kit.{sym, ap, ◌∙◌, Bool, true, false, List, ℕ, zero, suc, arith, length, le-leb}
+use Rattle.std.specs.Prelude.{◌≡◌, ◌≤◌, Result, Ok, Err}
+use Rattle.lists.specs.Kit.{refl, sym, ap, ◌∙◌, Bool, true, false, List, ℕ, zero, suc, arith, length, le-leb}
 use Rattle.mesh.{specs.Limits.{max_radios, max_neighbours}, specs.Tables.{Tables, graph_in}, specs.Sound.{sound}, proofs.Tables.DegreeSum.{block_count_most}}
 use Rattle.mesh.{proofs.Images.Tables.{valid_graph_in}}
 use Rattle.calls.{specs.Outcomes.{Listing, listing, listing_outcome, write_outcome, sheet_outcome, script_outcome}, specs.CallContracts.{SheetContract}}
@@ -8,13 +8,12 @@ use Rattle.calls.{specs.CallContracts.{ScriptContract, WriteContract}, specs.Que
 use Rattle.calls.{specs.Questions.{lent_refusal, site_refusal}}
 use Rattle.calls.{specs.Sheet.{sheet_lines, sheet_length}}
 use Rattle.calls.{proofs.QuestionLaws.{ask_yes, ask_later}, proofs.ChainLaws.{lent_later}, proofs.ScriptLaws.{script_most}}
-use Rattle.site_program.specs.{declared.verbs.Text.{Text}, declared.names.Verb.{Verb}, declared.names.Verb.TheVariants.{Help, Check, Numbers, Sheet}}
+use Rattle.site_program.specs.{declared.names.Verb.{Verb}, declared.names.Verb.TheVariants.{Help, Check, Numbers, Sheet}}
 use Rattle.site_program.specs.{declared.names.Verb.TheVariants.{Script, Image, Backbone, Staircase, Tree, Core, Lift, Unknown}, Texts.{TextBy}}
-use Rattle.site_program.specs.{Said.{value_of, BackboneSaid, CoreSaid, LiftSaid, StaircaseSaid, TreeSaid, Said}, Room.{text_room, Held}}
+use Rattle.site_program.specs.{Said.{BackboneSaid, CoreSaid, LiftSaid, StaircaseSaid, TreeSaid, Said}, Room.{text_room, Held}}
 use Rattle.calls.specs.Questions.{by_number}
-use Rattle.calls.specs.Chains.{level_refusal, core_refusal, backbone_refusal, tree_refusal, staircase_refusal, write_refusal, sheet_refusal, script_refusal}
-use Rattle.calls.specs.Chains.{lift_refusal}
-use Rattle.calls.specs.declared.Value.{Value}
+use Rattle.calls.specs.Chains.{write_refusal, sheet_refusal, script_refusal}
+use Rattle.calls.specs.{Answers.{call_number, value_reply}, declared.Value.{Value}, declared.Refusal.{Refusal}}
 use Rattle.calls.specs.Chains.{holds_image, holds_sheet, holds_script}
 
 -- ---- numbers that are none of the three
@@ -90,12 +89,17 @@ module _ (n : ℕ) (t : Tables) (room : ℕ) (long : text_room ≤ room) where
 -- ---- the verbs
 
 -- an outcome's number is its refusal
-number_by : (q x : ℕ) (new old : List ℕ) (r : Text) (after : List ℕ) → listing (value_of r) after ≡ listing_outcome q x new old → r.number ≡ q
-unfolding listing_outcome by_number
-number_by zero x new old r after e = ap (λ (o : Listing Value (List ℕ)). o.reply.number) e
-number_by (suc q) x new old r after e = ap (λ (o : Listing Value (List ℕ)). o.reply.number) e
+value_number : (r : Result ℕ Refusal) → (value_reply r).number ≡ call_number r
+value_number (Ok k) = refl
+value_number (Err f) = refl
 
-text_by : (q : ℕ) (text old : List ℕ) (r : Text) (after : List ℕ) → TextBy q text old r after → r.number ≡ q
+number_by : (q x : ℕ) (new old : List ℕ) (r : Result ℕ Refusal) (after : List ℕ) → listing (value_reply r) after ≡ listing_outcome q x new old
+    → call_number r ≡ q
+unfolding listing_outcome by_number
+number_by zero x new old r after e = sym (value_number r) ∙ ap (λ (o : Listing Value (List ℕ)). o.reply.number) e
+number_by (suc q) x new old r after e = sym (value_number r) ∙ ap (λ (o : Listing Value (List ℕ)). o.reply.number) e
+
+text_by : (q : ℕ) (text old : List ℕ) (r : Result ℕ Refusal) (after : List ℕ) → TextBy q text old r after → call_number r ≡ q
 unfolding TextBy
 text_by zero text old r after h = h.number
 text_by (suc q) text old r after h = h.number
@@ -106,8 +110,9 @@ unfolding Said BackboneSaid CoreSaid LiftSaid StaircaseSaid TreeSaid
     SheetContract ScriptContract WriteContract sheet_outcome script_outcome write_outcome sound
 compute = tt
 
-pub verb_held : (verb : Verb) (v k n : ℕ) (t : Tables) (old : List ℕ) (r : Text) (after : List ℕ) → text_room ≤ length old → Said verb v k n t old r after
-    → Held r.number
+pub verb_held : (verb : Verb) (v k n : ℕ) (t : Tables) (old : List ℕ) (r : Result ℕ Refusal) (after : List ℕ)
+    → text_room ≤ length old → Said verb v k n t old r after
+    → Held (call_number r)
 unfolding compute
 verb_held Help v k n t old r after long h = held_is (text_by _ _ old r after h) held_zero
 verb_held Check v k n t old r after long h = held_is (text_by _ _ old r after h) held_zero

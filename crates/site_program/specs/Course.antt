@@ -9,17 +9,20 @@
 --   bytes_taken m n bs p   bytes in turn
 --   ReadsOnce, ReadsOn   one read; all reads, to the end of the input or of the run
 --   ReadsRest             the reads after a front, none where it has the end
---   ended s                the end of the input: a last line without a line feed
+--   closed s, ended s      a last line without a line feed; the same where the end of the input is found
 --   begin, Plays           the whole of a script, of which the front is read before
 -- No contract can say what a read brings: of it `Read` has some bytes. Definitions only.
-use Rattle.std.specs.Prelude.{◌≡◌, ◌⊎◌, ◌∷◌, ◌++◌, ◌+◌, ◌-◌}
+use Rattle.std.specs.Prelude.{◌≡◌, ◌⊎◌, ◌∷◌, ◌++◌, ◌+◌, ◌-◌, Some}
+use Rattle.std.specs.Option.{is_some}
 use Rattle.lists.specs.Kit.{Bool, true, false, cond, List, [], ℕ, zero, suc, leb, ltb, eqb, length, take, drop, get_or, replicate}
 use Rattle.mesh.specs.{Limits.{max_radios}, Tables.{Tables}}
 use Rattle.calls.specs.Outcomes.{clear_outcome, link_outcome}
 use Rattle.text.specs.{Text.{line_feed}, Print.{next_place}}
 use Rattle.script.specs.{Lines.{line_of}, declared.lines.Line.{Line}, declared.lines.Line.TheVariants.{Radios, Up, Down, Bad}}
 use Rattle.player.specs.{Play.{radios_of}, Reads.{at_end, Read, input_of, ToEnd}}
-use Rattle.site_program.specs.{Errors.{form, no_feed, carriage}, declared.course.Course.{Course}, declared.course.Turned.{Turned}}
+use Rattle.player.specs.declared.input.{State.{State}, State.TheVariants.{GoesOn, End, Failed}}
+use Rattle.site_program.specs.declared.refusals.{Fault.{Fault}, Fault.TheVariants.{Form, NoFeed, Carriage}}
+use Rattle.site_program.specs.{Errors.{fault_number}, declared.course.Course.{Course}, declared.course.Turned.{Turned}}
 
 -- ---- the first line
 
@@ -47,14 +50,14 @@ abbrev pub line_room : ℕ
 line_room = 17
 
 -- a carriage return before the last byte is told by name
-unfoldable pub form_of : (line : List ℕ) → ℕ
-form_of s = cond (ltb (length s) 2) form (cond (eqb (get_or s (length s - 2) 0) 13) carriage form)
+unfoldable pub form_of : (line : List ℕ) → Fault
+form_of s = cond (ltb (length s) 2) Form (cond (eqb (get_or s (length s - 2) 0) 13) Carriage Form)
 
 -- a first line of another form; one without a line feed is the whole input where it is shorter than the longest line
-unfoldable pub first_fault : (front : List ℕ) → ℕ
+unfoldable pub first_fault : (front : List ℕ) → Fault
 first_fault s =
     let end = first_end line_room s in
-    cond (eqb end 0) (cond (ltb (length s) line_room) no_feed form) (form_of (take end s))
+    cond (eqb end 0) (cond (ltb (length s) line_room) NoFeed Form) (form_of (take end s))
 
 -- the number that a line is refused by, or 0, and the tables after it
 pub record Lined : Type 0 where
@@ -71,10 +74,10 @@ called up n a b t =
     lined_with o.reply.number o.tables
 
 unfoldable pub lined : (n : ℕ) → (text : List ℕ) → Line → Tables → Lined
-lined n s (Radios m) t = lined_with (form_of s) t
+lined n s (Radios m) t = lined_with (fault_number (Some (form_of s))) t
 lined n s (Up a b) t = called true n a b t
 lined n s (Down a b) t = called false n a b t
-lined n s Bad t = lined_with (form_of s) t
+lined n s Bad t = lined_with (fault_number (Some (form_of s))) t
 
 -- ---- bytes
 
@@ -86,7 +89,7 @@ pub record Spot : Type 0 where
 
 -- the same, as the code keeps it
 unfoldable pub spot : Tables → (room : List ℕ) → Course → Spot
-spot t room s = record { tables = t; line = s.line; held = take s.held room; number = s.number }
+spot t room s = record { tables = t; line = s.line; held = take s.held room; number = fault_number s.fault }
 
 -- the run is over
 unfoldable pub stopped : (number : ℕ) → Spot → Spot
@@ -104,7 +107,7 @@ line_done o p =
 unfoldable pub byte_live : (m n byte : ℕ) → Spot → Spot
 byte_live m n b p =
     let s = p.held ++ (b ∷ []) in
-    cond (leb m (length p.held)) (stopped form p) (cond (eqb b line_feed) (line_done (lined n s (line_of s) p.tables) p) (held_on b p))
+    cond (leb m (length p.held)) (stopped (fault_number (Some Form)) p) (cond (eqb b line_feed) (line_done (lined n s (line_of s) p.tables) p) (held_on b p))
 
 -- after the end of the run nothing happens
 unfoldable pub byte_taken : (m n byte : ℕ) → Spot → Spot
@@ -133,17 +136,25 @@ pub record ReadsRest (m n : ℕ) (front : Turned) (p : Spot) (r : Turned) (q : S
   pub to_end : r.state ≡ at_end → (front.state ≡ at_end) ⊎ ToEnd reads
 
 -- a last line without a line feed
+unfoldable pub closed : Turned → Turned
+closed s =
+    let open_line : Turned = record { course = record { line = s.course.line; held = 0; fault = Some NoFeed }; state = s.state } in
+    cond (is_some s.course.fault) s (cond (eqb s.course.held 0) s open_line)
+
+unfoldable pub ended_by : State → Turned → Turned
+ended_by End s = closed s
+ended_by GoesOn s = s
+ended_by (Failed why) s = s
+
 unfoldable pub ended : Turned → Turned
-ended s =
-    let open_line : Turned = record { course = record { line = s.course.line; held = 0; number = no_feed }; state = s.state } in
-    cond (eqb s.state at_end) (cond (eqb s.course.number 0) (cond (eqb s.course.held 0) s open_line) s) s
+ended s = ended_by s.state s
 
 -- after the first line
 unfoldable pub begin : (n : ℕ) → Tables → Spot
 begin n t = record { tables = (clear_outcome n t).tables; line = 2; held = []; number = (clear_outcome n t).reply }
 
 -- what the front has after its first line, and then what the reads brought, is taken; the end is found by them or stands in the front
-pub record Plays (n : ℕ) (front : List ℕ) (state : ℕ) (t : Tables) (r : Turned) (after : Tables) : Type 0 where
+pub record Plays (n : ℕ) (front : List ℕ) (state : State) (t : Tables) (r : Turned) (after : Tables) : Type 0 where
   pub reads : List Read
   pub room : List ℕ
   pub last : Turned

@@ -7,14 +7,14 @@
 --   InputAnswered, InputAnswers   the same, with the reads of the front
 --   Asked, VerbAnswered, SiteStatus   the status of a run with these words
 -- No contract can say what a read brings or a write takes. Definitions only.
-use Rattle.std.specs.Prelude.{◌≡◌, ◌⊎◌, ◌≤◌}
-use Rattle.lists.specs.{Kit.{Bool, true, false, List, ℕ, take}, Lists.{same}}
+use Rattle.std.specs.Prelude.{◌≡◌, ◌⊎◌, ◌≤◌, Result, Some, None}
+use Rattle.lists.specs.Kit.{List, ℕ, take}
 use Rattle.mesh.specs.Tables.{Tables}
-use Rattle.calls.specs.CallContracts.{ReadContract}
+use Rattle.calls.specs.{CallContracts.{ReadContract}, Answers.{call_number}, declared.Refusal.{Refusal}}
 use Rattle.text.specs.Text.{bytes_of}
-use Rattle.player.specs.{Reads.{at_end, Fills}, declared.input.Brought.{Brought}}
-use Rattle.site_program.specs.{Course.{Plays}, Inputs.{is_script}, Names.{verb_of, numbers_of}, Given.{given_of}, Said.{Said}}
-use Rattle.site_program.specs.{declared.course.Turned.{Turned}, declared.verbs.Text.{Text}, declared.arguments.Numbers.{Numbers}}
+use Rattle.player.specs.{Reads.{at_end, NotFailed, Fills}, declared.input.Brought.{Brought}, declared.input.State.{State}}
+use Rattle.site_program.specs.{Course.{Plays}, Inputs.{kind_of}, Names.{verb_of, numbers_of}, Given.{given_of}, Said.{Said}}
+use Rattle.site_program.specs.declared.{course.Turned.{Turned}, kinds.Kind.{Kind}, kinds.Kind.TheVariants.{Script, Image}, arguments.Numbers.{Numbers}}
 use Rattle.site_program.specs.declared.names.{Verb.{Verb}, Verb.TheVariants.{Help}}
 
 -- ---- the input
@@ -22,23 +22,23 @@ use Rattle.site_program.specs.declared.names.{Verb.{Verb}, Verb.TheVariants.{Hel
 -- 0 only where no line is refused and the end of the input is found
 pub record Whole (end : Turned) (r : ℕ) : Type 0 where
   pub few : r ≤ 1
-  pub accepted : r ≡ 0 → end.course.number ≡ 0
+  pub accepted : r ≡ 0 → end.course.fault ≡ None
   pub to_end : r ≡ 0 → end.state ≡ at_end
 
-pub record ScriptRead (n : ℕ) (front : List ℕ) (state : ℕ) (t after : Tables) : Type 0 where
+pub record ScriptRead (n : ℕ) (front : List ℕ) (state : State) (t after : Tables) : Type 0 where
   pub end : Turned
   pub plays : Plays n front state t end after
-  pub accepted : end.course.number ≡ 0
+  pub accepted : end.course.fault ≡ None
   pub to_end : end.state ≡ at_end
 
 -- an image is accepted by its call
-unfoldable pub SiteRead : (script : Bool) → (n : ℕ) → (front : List ℕ) → (state : ℕ) → (t after : Tables) → Type 0
-SiteRead true n s state t after = ScriptRead n s state t after
-SiteRead false n s state t after = ReadContract n s t 0 after
+unfoldable pub SiteRead : Kind → (n : ℕ) → (front : List ℕ) → (state : State) → (t after : Tables) → Type 0
+SiteRead Script n s state t after = ScriptRead n s state t after
+SiteRead Image n s state t after = ReadContract n s t 0 after
 
-pub record SourceRead (n : ℕ) (front : List ℕ) (state : ℕ) (t : Tables) (r : ℕ) (after : Tables) : Type 0 where
+pub record SourceRead (n : ℕ) (front : List ℕ) (state : State) (t : Tables) (r : ℕ) (after : Tables) : Type 0 where
   pub few : r ≤ 1
-  pub read : r ≡ 0 → SiteRead (is_script front) n front state t after
+  pub read : r ≡ 0 → SiteRead (kind_of front) n front state t after
 
 pub record ImageRead (n : ℕ) (image : List ℕ) (t : Tables) (r : ℕ) (after : Tables) : Type 0 where
   pub few : r ≤ 1
@@ -48,25 +48,25 @@ pub record ImageRead (n : ℕ) (image : List ℕ) (t : Tables) (r : ℕ) (after 
 
 pub record SaidRight (verb : Verb) (given : Numbers) (n : ℕ) (t : Tables) : Type 0 where
   pub old : List ℕ
-  pub text : Text
+  pub text : Result ℕ Refusal
   pub new : List ℕ
   pub said : Said verb given.v given.k n t old text new
-  pub accepted : text.number ≡ 0
+  pub accepted : call_number text ≡ 0
 
 pub record Prints (verb : Verb) (given : Numbers) (n : ℕ) (t : Tables) (r : ℕ) : Type 0 where
   pub few : r ≤ 1
   pub right : r ≡ 0 → SaidRight verb given n t
 
 -- no read of the front failed; `state` is what its last one found
-pub record Answered (front : List ℕ) (state : ℕ) (verb : Verb) (given : Numbers) : Type 0 where
-  pub unbroken : state ≤ at_end
+pub record Answered (front : List ℕ) (state : State) (verb : Verb) (given : Numbers) : Type 0 where
+  pub unbroken : NotFailed state
   pub radios : ℕ
   pub before : Tables
   pub after : Tables
-  pub site : SiteRead (is_script front) radios front state before after
+  pub site : SiteRead (kind_of front) radios front state before after
   pub says : SaidRight verb given radios after
 
-pub record Answers (front : List ℕ) (state : ℕ) (verb : Verb) (given : Numbers) (r : ℕ) : Type 0 where
+pub record Answers (front : List ℕ) (state : State) (verb : Verb) (given : Numbers) (r : ℕ) : Type 0 where
   pub few : r ≤ 1
   pub right : r ≡ 0 → Answered front state verb given
 
@@ -86,12 +86,13 @@ pub record InputAnswers (verb : Verb) (given : Numbers) (r : ℕ) : Type 0 where
 
 -- what asks what the program is: the page of help, or the version
 abbrev pub Asked : (word : List ℕ) → Type 0
-Asked w = (same w (bytes_of "--help") ≡ true) ⊎ ((same w (bytes_of "--version") ≡ true) ⊎ (verb_of w ≡ Help))
+Asked w = (w ≡ bytes_of "--help") ⊎ ((w ≡ bytes_of "--version") ⊎ (verb_of w ≡ Help))
 
 -- the verb has the numbers that it takes, and is answered
 pub record VerbAnswered (word : List ℕ) (count : ℕ) (v k : List ℕ) : Type 0 where
-  pub formed : (given_of (numbers_of (verb_of word)) count v k).ok ≡ true
-  pub input : InputAnswered (verb_of word) (given_of (numbers_of (verb_of word)) count v k)
+  pub given : Numbers
+  pub formed : given_of (numbers_of (verb_of word)) count v k ≡ Some given
+  pub input : InputAnswered (verb_of word) given
 
 pub record SiteStatus (word : List ℕ) (count : ℕ) (v k : List ℕ) (r : ℕ) : Type 0 where
   pub few : r ≤ 1

@@ -1,74 +1,52 @@
 // The text of each verb.
 ghost use Rattle.std.specs.Prelude.{◌≡◌};
-ghost use Rattle.mesh.specs.Lent.{lent};
-ghost use Rattle.calls.specs.Replay.{numbers_line};
-ghost use Rattle.site_program.specs.Texts.{accepted_line, TextAccepted};
-ghost use Rattle.site_program.specs.Said.{value_of, Said};
+ghost use Rattle.mesh.specs.Lent.{read_of};
+ghost use Rattle.text.specs.Print.{buffer_at, Puts};
+ghost use Rattle.site_program.specs.Texts.{accepted_line};
+ghost use Rattle.site_program.specs.Said.{Said};
 
-use super::verbs::{Text, Verb};
+use super::arguments::Numbers;
+use super::verbs::Verb;
 use super::{listing, trees};
-use calls::Value;
+use calls::Refusal;
+use mesh::Lent;
 use script::{printing, writer};
 
 // What a call that writes a text itself answers.
-fn written(reply: Value) -> Text
-    ensures { value_of result ≡ reply }
+fn written(answer: Result<u32, Refusal>) -> Result<usize, Refusal>
+    ensures { result ≡ answer }
 {
-    Text {
-        number: reply.number,
-        length: reply.value as usize,
+    match answer {
+        Ok(length) => Ok(length as usize),
+        Err(refusal) => Err(refusal),
     }
 }
 
-// The line of a site that nothing is wrong with.
-fn check(n: u32, out: &mut [u8]) -> Text
-    ensures { TextAccepted (accepted_line n) out.old result out.new }
+// Puts the line of a site that nothing is wrong with.
+fn put_check(n: u32, out: &mut [u8]) -> usize
+    ensures { Puts (buffer_at out.old 0) (accepted_line n) (buffer_at out.new result) }
 {
     let word = text::put_text(out, 0, b"0 accepted: a site of ");
     let size = text::put_decimal(out, word, n as u64);
-    let length = text::put_text(out, size, b" radios\n");
-    Text { number: 0, length }
+    text::put_text(out, size, b" radios\n")
 }
 
-// The numbers, as the replay program prints them.
-fn numbers_of(numbers: &[u8], out: &mut [u8]) -> Text
-    ensures { TextAccepted (numbers_line numbers.now) out.old result out.new }
-{
-    let length = printing::put_numbers_line(out, 0, numbers);
-    Text { number: 0, length }
-}
-
-// The text of a verb, in front of the buffer. v and k are the numbers that it takes. Refused by the numbers of the verb's call.
-pub fn answer<'a>(
-    verb: Verb,
-    v: u32,
-    k: u32,
-    n: u32,
-    links: &'a [u8],
-    numbers: &'a [u8],
-    order: &'a [u16],
-    out: &mut [u8],
-) -> Text
-    ensures { Said verb v k n (lent links.now numbers.now order.now) out.old result out.new }
+// The text of a verb, in front of the buffer: its length. It is refused as the verb's call is.
+pub fn answer(verb: Verb, given: Numbers, t: &Lent, out: &mut [u8]) -> Result<usize, Refusal>
+    ensures { Said verb given.v given.k t.now.radios (read_of t.now) out.old result out.new }
 {
     match verb {
-        Verb::Help => Text {
-            number: 0,
-            length: 0,
-        },
-        Verb::Check => check(n, out),
-        Verb::Numbers => numbers_of(numbers, out),
-        Verb::Sheet => written(sheet::sheet(n, links, numbers, order, out)),
-        Verb::Script => written(writer::write(n, links, numbers, order, out)),
-        Verb::Image => written(image_writer::writer::write(n, links, numbers, order, out)),
-        Verb::Backbone => listing::backbone(n, links, numbers, order, out),
-        Verb::Staircase => listing::staircase(n, links, numbers, order, out),
-        Verb::Tree => trees::tree(n, links, numbers, order, out),
-        Verb::Core => listing::core(n, v, k, links, numbers, order, out),
-        Verb::Lift => listing::lift(n, v, links, numbers, order, out),
-        Verb::Unknown => Text {
-            number: 0,
-            length: 0,
-        },
+        Verb::Help => Ok(0),
+        Verb::Check => Ok(put_check(t.radios, out)),
+        Verb::Numbers => Ok(printing::put_numbers_line(out, 0, t.numbers)),
+        Verb::Sheet => written(sheet::sheet(t, out)),
+        Verb::Script => written(writer::write(t, out)),
+        Verb::Image => written(image_writer::writer::write(t, out)),
+        Verb::Backbone => listing::backbone(t, out),
+        Verb::Staircase => listing::staircase(t, out),
+        Verb::Tree => trees::tree(t, out),
+        Verb::Core => listing::core(t, given.v, given.k, out),
+        Verb::Lift => listing::lift(t, given.v, out),
+        Verb::Unknown => Ok(0),
     }
 }

@@ -5,13 +5,17 @@ ghost use Rattle.player.specs.Counts.{IsPrefixLen};
 ghost use Rattle.script.specs.Lines.{line_of};
 ghost use Rattle.mesh.specs.Lent.{lent};
 ghost use Rattle.text.specs.Print.{next_place};
+ghost use Rattle.calls.specs.Answers.{call_number};
+ghost use Rattle.player.specs.First.{some_radios};
+ghost use Rattle.site_program.specs.Errors.{fault_number};
 ghost use Rattle.site_program.specs.Course.{first_end, named_radios, first_fault, form_of, lined_with, called, lined, spot, byte_taken, bytes_taken};
-ghost use Rattle.site_program.specs.Course.{ended as Course·ended, ReadsOnce, ReadsOn, ReadsRest, Plays};
+ghost use Rattle.site_program.specs.Course.{closed as Course·closed, ended as Course·ended, ReadsOnce, ReadsOn, ReadsRest, Plays};
 
-use super::refusals;
+use super::refusals::Fault;
+use calls::Refusal;
 use mesh::Site;
 use player::input;
-use player::input::Ends;
+use player::input::{Ends, State, Unread};
 use script::lines::Line;
 use std::io::{Read, Write};
 
@@ -24,19 +28,19 @@ const LINE_BYTES: usize = 17;
 // The bytes that one read brings at most.
 const CHUNK_BYTES: usize = 65536;
 
-// Where the run stands: the number of the line, how many of its bytes are held, and the number that ended the run, or 0.
+// Where the run stands: the number of the line, how many of its bytes are held, and what ended the run.
 #[derive(Clone, Copy)]
 pub struct Course {
     pub line: u64,
     pub held: usize,
-    pub number: u32,
+    pub fault: Option<Fault>,
 }
 
 // The same, and what the last read found.
 #[derive(Clone, Copy)]
 pub struct Turned {
     pub course: Course,
-    pub state: u32,
+    pub state: State,
 }
 
 // The place after the first line, where it has at most so many bytes; 0 where none of these is a line feed.
@@ -44,42 +48,40 @@ fn first_end(front: &[u8], most: usize) -> usize
     ensures counts { IsPrefixLen result front.now }
     ensures end { result ≡ first_end most front.now }
 {
-    let mut i: usize = 0;
-    while i < most {
+    for i in 0..most {
         if front.len() <= i {
             return 0;
         }
         if front[i] == b'\n' {
             return i + 1;
         }
-        i += 1;
     }
     0
 }
 
-// The radios that the first line names; 0 where it is of another form or names no size.
-pub fn radios(front: &[u8]) -> u32
-    ensures { result ≡ named_radios front.now }
+// The radios that the first line names; none where it is of another form or names no size.
+pub fn radios(front: &[u8]) -> Option<u32>
+    ensures { result ≡ some_radios (named_radios front.now) }
 {
     let end = first_end(front, FIRST_BYTES);
     player::radios_of(&front[..end])
 }
 
 // What is wrong with a line of another form: a carriage return before its line feed, or something else.
-fn form_of(line: &[u8]) -> u32
+fn form_of(line: &[u8]) -> Fault
     ensures { result ≡ form_of line.now }
 {
     if line.len() < 2 {
-        return refusals::FORM;
+        return Fault::Form;
     }
     if line[line.len() - 2] == b'\r' {
-        return refusals::CARRIAGE;
+        return Fault::Carriage;
     }
-    refusals::FORM
+    Fault::Form
 }
 
 // What is wrong with a first line of another form: that, or no line feed in the whole input.
-pub fn first_fault(front: &[u8]) -> u32
+pub fn first_fault(front: &[u8]) -> Fault
     ensures { result ≡ first_fault front.now }
 {
     let end = first_end(front, LINE_BYTES);
@@ -87,9 +89,9 @@ pub fn first_fault(front: &[u8]) -> u32
         return form_of(&front[..end]);
     }
     if front.len() < LINE_BYTES {
-        return refusals::NO_FEED;
+        return Fault::NoFeed;
     }
-    refusals::FORM
+    Fault::Form
 }
 
 // The number of the next line: counting stops at the largest number.
@@ -102,7 +104,17 @@ fn next_line(line: u64) -> u64
     line
 }
 
-// Takes a link up or down: the number that it is refused by, or 0.
+// What is wrong where a call is refused.
+fn fault_of<T: Drop>(answer: Result<T, Refusal>) -> Option<Fault>
+    ensures { fault_number result ≡ call_number answer }
+{
+    match answer {
+        Ok(_) => None,
+        Err(refusal) => Some(Fault::Refused(refusal)),
+    }
+}
+
+// Takes a link up or down: what is wrong with that.
 fn call(
     up: bool,
     n: u32,
@@ -111,23 +123,30 @@ fn call(
     links: &mut [u8],
     numbers: &mut [u8],
     order: &mut [u16],
-) -> u32
-    ensures { lined_with result (lent links.new numbers.new order.new) ≡ called up n a b (lent links.old numbers.old order.old) }
+) -> Option<Fault>
+    ensures { lined_with (fault_number result) (lent links.new numbers.new order.new)
+        ≡ called up n a b (lent links.old numbers.old order.old) }
 {
     let mut answer = [0u16; Site::RADIOS as usize];
-    links::link::link(up, n, a, b, links, numbers, order, &mut answer).number
+    fault_of(links::link::link(up, n, a, b, links, numbers, order, &mut answer))
 }
 
-// Plays a line: the number that it is refused by, or 0.
-fn play_line(n: u32, line: &[u8], links: &mut [u8], numbers: &mut [u8], order: &mut [u16]) -> u32
-    ensures { lined_with result (lent links.new numbers.new order.new)
+// Plays a line: what is wrong with it.
+fn play_line(
+    n: u32,
+    line: &[u8],
+    links: &mut [u8],
+    numbers: &mut [u8],
+    order: &mut [u16],
+) -> Option<Fault>
+    ensures { lined_with (fault_number result) (lent links.new numbers.new order.new)
         ≡ lined n line.now (line_of line.now) (lent links.old numbers.old order.old) }
 {
     match script::lines::parse(line) {
         Line::Up(a, b) => call(true, n, a, b, links, numbers, order),
         Line::Down(a, b) => call(false, n, a, b, links, numbers, order),
-        Line::Radios(_) => form_of(line),
-        Line::Bad => form_of(line),
+        Line::Radios(_) => Some(form_of(line)),
+        Line::Bad => Some(form_of(line)),
     }
 }
 
@@ -144,38 +163,37 @@ fn take_byte(
     ensures { spot (lent links.new numbers.new order.new) line.new result
         ≡ byte_taken (length line.old) n byte (spot (lent links.old numbers.old order.old) line.old s) }
 {
-    if s.number != 0 {
+    if s.fault.is_some() {
         return s;
     }
-    let held = s.held;
-    if line.len() <= held {
+    if line.len() <= s.held {
         return Course {
             line: s.line,
             held: 0,
-            number: refusals::FORM,
+            fault: Some(Fault::Form),
         };
     }
-    line[held] = byte;
-    let len = held + 1;
+    line[s.held] = byte;
+    let held = s.held + 1;
     if byte != b'\n' {
         return Course {
             line: s.line,
-            held: len,
-            number: 0,
+            held,
+            fault: None,
         };
     }
-    let number = play_line(n, &line[..len], links, numbers, order);
-    if number != 0 {
+    let fault = play_line(n, &line[..held], links, numbers, order);
+    if fault.is_some() {
         return Course {
             line: s.line,
             held: 0,
-            number,
+            fault,
         };
     }
     Course {
         line: next_line(s.line),
         held: 0,
-        number: 0,
+        fault: None,
     }
 }
 
@@ -194,10 +212,8 @@ fn take_chunk(
         (spot (lent links.old numbers.old order.old) line.old s) }
 {
     let mut s = s;
-    let mut i: usize = 0;
-    while i < chunk.len() {
-        s = take_byte(s, chunk[i], n, line, links, numbers, order);
-        i += 1;
+    for byte in chunk {
+        s = take_byte(s, *byte, n, line, links, numbers, order);
     }
     s
 }
@@ -238,14 +254,13 @@ fn turn<I: Read, O, E: Write>(
     let mut chunk = [0u8; CHUNK_BYTES];
     let got = input::read(&mut ends.input, most, &mut chunk);
     show(&mut ends.errors, shown, s.line);
-    let count = got.count;
     Turned {
-        course: take_chunk(s, &chunk[..count], n, line, links, numbers, order),
+        course: take_chunk(s, &chunk[..got.count], n, line, links, numbers, order),
         state: got.state,
     }
 }
 
-// Reads to the end of the input or of the run. The loop counts its reads down, from a number that no run uses up; a run that still goes on
+// Reads to the end of the input or of the run. The loop counts its reads, up to a number that no run uses up; a run that still goes on
 // then is not read to its end.
 fn read_on<I: Read, O, E: Write>(
     ends: &mut Ends<I, O, E>,
@@ -262,21 +277,19 @@ fn read_on<I: Read, O, E: Write>(
         result (spot (lent links.new numbers.new order.new) line.new result.course) }
 {
     let mut s = s;
-    let mut left = input::most();
-    while left > 0 {
-        left -= 1;
+    for _ in 0..input::most() {
         let done = turn(ends, most, shown, s, n, line, links, numbers, order);
-        if done.state != input::GOES_ON {
+        let State::GoesOn = done.state else {
             return done;
-        }
-        if done.course.number != 0 {
+        };
+        if done.course.fault.is_some() {
             return done;
         }
         s = done.course;
     }
     Turned {
         course: s,
-        state: input::UNREAD,
+        state: State::Failed(Unread::Other),
     }
 }
 
@@ -296,10 +309,10 @@ fn read_rest<I: Read, O, E: Write>(
         (spot (lent links.old numbers.old order.old) line.old front.course)
         result (spot (lent links.new numbers.new order.new) line.new result.course) }
 {
-    if front.state != input::GOES_ON {
+    let State::GoesOn = front.state else {
         return front;
-    }
-    if front.course.number != 0 {
+    };
+    if front.course.fault.is_some() {
         return front;
     }
     read_on(
@@ -316,13 +329,10 @@ fn read_rest<I: Read, O, E: Write>(
 }
 
 // The end of the input: a last line without a line feed is of another form.
-fn ended(s: Turned) -> Turned
-    ensures { result ≡ Course·ended s }
+fn closed(s: Turned) -> Turned
+    ensures { result ≡ Course·closed s }
 {
-    if s.state != input::END {
-        return s;
-    }
-    if s.course.number != 0 {
+    if s.course.fault.is_some() {
         return s;
     }
     if s.course.held == 0 {
@@ -332,9 +342,20 @@ fn ended(s: Turned) -> Turned
         course: Course {
             line: s.course.line,
             held: 0,
-            number: refusals::NO_FEED,
+            fault: Some(Fault::NoFeed),
         },
         state: s.state,
+    }
+}
+
+// What is left of the run where no read follows: at the end of the input a last line without a line feed is of another form.
+fn ended(s: Turned) -> Turned
+    ensures { result ≡ Course·ended s }
+{
+    match s.state {
+        State::End => closed(s),
+        State::GoesOn => s,
+        State::Failed(_) => s,
     }
 }
 
@@ -346,7 +367,7 @@ pub fn play<I: Read, O, E: Write>(
     shown: bool,
     n: u32,
     front: &[u8],
-    state: u32,
+    state: State,
     links: &mut [u8],
     numbers: &mut [u8],
     order: &mut [u16],
@@ -358,7 +379,7 @@ pub fn play<I: Read, O, E: Write>(
     let start = Course {
         line: 2,
         held: 0,
-        number: tables::clear::clear(n, links, numbers, order),
+        fault: fault_of(tables::clear::clear(n, links, numbers, order)),
     };
     let from = first_end(front, FIRST_BYTES);
     let course = take_chunk(start, &front[from..], n, &mut line, links, numbers, order);

@@ -10,7 +10,6 @@ use super::refusals;
 use crate::sizes;
 use calls::Refusal;
 use image::{form, header, layout};
-use mesh::Site;
 use std::io::Write;
 
 // How many radios the image says; 1 where that is no size, and then no question but 1 gets another answer.
@@ -21,13 +20,7 @@ pub(crate) fn radios(image: &[u8]) -> u32
         return 1;
     }
     let n = header::header_of(image).radios;
-    if n == 0 {
-        return 1;
-    }
-    if Site::RADIOS < n {
-        return 1;
-    }
-    n
+    if tables::sizes::is_size(n) { n } else { 1 }
 }
 
 // The first block that does not pass its check; their count where all pass.
@@ -35,12 +28,10 @@ fn bad_block(image: &[u8]) -> usize
     ensures { FirstBad image.now result }
 {
     let count = image.len() / layout::BLOCK;
-    let mut i: usize = 0;
-    while i < count {
+    for i in 0..count {
         if !image::checks::is_good(image, i) {
             return i;
         }
-        i += 1;
     }
     count
 }
@@ -58,19 +49,21 @@ fn is_formed(image: &[u8], n: u32) -> bool {
 }
 
 // Where the image got "no": its length, a block, its form or its content.
-fn say_where<E: Write>(errors: &mut E, n: u32, image: &[u8], number: u32) -> u32
+fn say_where<E: Write>(errors: &mut E, n: u32, image: &[u8], refusal: Refusal) -> u32
     ensures { result ≡ wrong }
 {
-    if number == Refusal::IMAGE_SIZE {
-        return refusals::say_image(errors, number, b"length", image.len() as u64);
+    match refusal {
+        Refusal::ImageSize => {
+            refusals::say_image(errors, refusal, b"length", image.len() as u64)
+        }
+        Refusal::ImageCheck => {
+            refusals::say_image(errors, refusal, b"block", bad_block(image) as u64)
+        }
+        _ if is_formed(image, n) => {
+            refusals::say_image(errors, refusal, b"order or links of radios", n as u64)
+        }
+        _ => refusals::say_image(errors, refusal, b"form of an image of radios", n as u64),
     }
-    if number == Refusal::IMAGE_CHECK {
-        return refusals::say_image(errors, number, b"block", bad_block(image) as u64);
-    }
-    if is_formed(image, n) {
-        return refusals::say_image(errors, number, b"order or links of radios", n as u64);
-    }
-    refusals::say_image(errors, number, b"form of an image of radios", n as u64)
 }
 
 // Reads the image: the status.
@@ -91,9 +84,8 @@ pub(crate) fn read<E: Write>(
             b"no script, and longer than the longest image, 44032 bytes",
         );
     }
-    let number = image_reader::reader::read(n, links, numbers, order, image);
-    if number == 0 {
-        return 0;
+    match image_reader::reader::read(n, links, numbers, order, image) {
+        Ok(()) => 0,
+        Err(refusal) => say_where(errors, n, image, refusal),
     }
-    say_where(errors, n, image, number)
 }

@@ -1,16 +1,26 @@
 // What an input is, by its first bytes: a script or an image.
 ghost use Rattle.std.specs.Prelude.{◌≡◌};
-ghost use Rattle.site_program.specs.Inputs.{is_script};
+ghost use Rattle.site_program.specs.Inputs.{kind_of};
 
 use player::input;
 
 // The word that a script begins with.
 const WORD_BYTES: usize = 6;
 
-// Whether the input is a script: it begins with `radios`. Any other input is read as an image.
-pub fn is_script(front: &[u8]) -> bool
-    ensures { result ≡ is_script front.now }
+#[derive(Clone, Copy)]
+pub enum Kind {
+    Script,
+    Image,
+}
+
+// A script begins with `radios`. Any other input is read as an image.
+pub fn kind_of(front: &[u8]) -> Kind
+    ensures { result ≡ kind_of front.now }
 {
     let count = input::within(WORD_BYTES, front);
-    tables::fill::same8(&front[..count], b"radios")
+    if tables::fill::is_same(&front[..count], b"radios") {
+        Kind::Script
+    } else {
+        Kind::Image
+    }
 }

@@ -5,8 +5,9 @@
 ghost use Rattle.std.specs.Prelude.{◌≡◌, ◌≤◌};
 ghost use Rattle.lists.specs.Kit.{length};
 ghost use Rattle.mesh.specs.Limits.{max_radios};
-ghost use Rattle.mesh.specs.Lent.{lent};
-ghost use Rattle.player.specs.Reads.{at_end};
+ghost use Rattle.mesh.specs.Lent.{read_of};
+ghost use Rattle.calls.specs.Answers.{call_number};
+ghost use Rattle.player.specs.Reads.{NotFailed};
 ghost use Rattle.site_program.specs.Inputs.{wrong};
 ghost use Rattle.site_program.specs.Given.{is_name};
 ghost use Rattle.site_program.specs.Room.{text_room, Held};
@@ -29,52 +30,42 @@ mod verbs;
 pub mod words;
 
 use arguments::Numbers;
-use mesh::Site;
-use player::input::Ends;
+use calls::Refusal;
+use mesh::{Lent, Site};
+use player::input::{Ends, State};
 use player::words::WORD_BYTES;
 use player::{faults, input};
 use std::env::Env;
 use std::fs::Files;
 use std::io::{IsTerminal, Read, Write};
-use verbs::{Text, Verb};
+use verbs::Verb;
 
 // The text of a verb, in a buffer that holds every text: whatever the tables are, no verb is refused by 9, 12 or 13.
-fn text_of<'a>(
-    verb: Verb,
-    given: Numbers,
-    n: u32,
-    links: &'a [u8],
-    numbers: &'a [u8],
-    order: &'a [u16],
-    out: &mut [u8],
-) -> Text
+fn text_of(verb: Verb, given: Numbers, t: &Lent, out: &mut [u8]) -> Result<usize, Refusal>
     requires { text_room ≤ length out.old }
-    ensures held { Held result.number }
-    ensures said { Said verb given.v given.k n (lent links.now numbers.now order.now)
-        out.old result out.new }
+    ensures held { Held (call_number result) }
+    ensures said { Said verb given.v given.k t.now.radios (read_of t.now) out.old result out.new }
 {
-    verbs::answer(verb, given.v, given.k, n, links, numbers, order, out)
+    verbs::answer(verb, given, t, out)
 }
 
 // Prints what the verb says of the site: the status.
-fn print<'a, I, O: Write, E: Write>(
+fn print<I, O: Write, E: Write>(
     ends: &mut Ends<I, O, E>,
     verb: Verb,
     given: Numbers,
-    n: u32,
-    links: &'a [u8],
-    numbers: &'a [u8],
-    order: &'a [u16],
+    t: &Lent,
 ) -> u32
-    ensures { Prints verb given n (lent links.now numbers.now order.now) result }
+    ensures { Prints verb given t.now.radios (read_of t.now) result }
 {
     let mut out = [0u8; sizes::TEXT_BYTES];
-    let text = text_of(verb, given, n, links, numbers, order, &mut out);
-    if text.number != 0 {
-        return refusals::say_call(&mut ends.errors, text.number);
+    match text_of(verb, given, t, &mut out) {
+        Ok(size) => {
+            let length = input::within(size, &out);
+            faults::print(ends, b"site", &out[..length])
+        }
+        Err(refusal) => refusals::say_call(&mut ends.errors, refusal),
     }
-    let length = input::within(text.length, &out);
-    faults::print(ends, b"site", &out[..length])
 }
 
 // Reads the site into the tables and prints: the status. `state` is what the last read of the front found.
@@ -86,19 +77,25 @@ fn run_on<I: Read, O: Write, E: Write>(
     given: Numbers,
     n: u32,
     front: &[u8],
-    state: u32,
+    state: State,
     links: &mut [u8],
     numbers: &mut [u8],
     order: &mut [u16],
 ) -> u32
-    requires { state ≤ at_end }
+    requires { NotFailed state }
     ensures { Answers front.now state verb given result }
 {
     let status = source::read(ends, most, shown, n, front, state, links, numbers, order);
     if status != 0 {
         return status;
     }
-    print(ends, verb, given, n, links, numbers, order)
+    let t = Lent {
+        radios: n,
+        links,
+        numbers,
+        order,
+    };
+    print(ends, verb, given, &t)
 }
 
 // The same on a site of n radios, whose tables are parts of the largest ones.
@@ -110,10 +107,10 @@ fn run_site<I: Read, O: Write, E: Write>(
     given: Numbers,
     n: u32,
     front: &[u8],
-    state: u32,
+    state: State,
 ) -> u32
     requires few { n ≤ max_radios }
-    requires unbroken { state ≤ at_end }
+    requires unbroken { NotFailed state }
     ensures { Answers front.now state verb given result }
 {
     let many = n as usize;
@@ -144,21 +141,18 @@ fn run_front<I: Read, O: Write, E: Write>(
     verb: Verb,
     given: Numbers,
     front: &[u8],
-    state: u32,
+    state: State,
 ) -> u32
+    requires { NotFailed state }
     ensures { Answers front.now state verb given result }
 {
-    if input::END < state {
-        return refusals::say_unread(&mut ends.errors, state);
-    }
     if front.len() == 0 {
         return refusals::say(&mut ends.errors, b"the input is empty");
     }
-    let n = source::radios(front);
-    if n == 0 {
-        return refusals::say_line(&mut ends.errors, 1, course::first_fault(front));
+    match source::radios(front) {
+        Some(n) => run_site(ends, most, shown, verb, given, n, front, state),
+        None => refusals::say_line(&mut ends.errors, 1, course::first_fault(front)),
     }
-    run_site(ends, most, shown, verb, given, n, front, state)
 }
 
 // Reads the front of the input, which holds any image whole, and goes on: the status.
@@ -171,10 +165,15 @@ fn run_input<I: Read, O: Write, E: Write>(
 ) -> u32
     ensures { InputAnswers verb given result }
 {
-    let mut front = [0u8; sizes::FRONT_BYTES];
-    let got = input::fill(&mut ends.input, most, false, &mut front);
-    let count = got.count;
-    run_front(ends, most, shown, verb, given, &front[..count], got.state)
+    let mut buffer = [0u8; sizes::FRONT_BYTES];
+    let got = input::fill(&mut ends.input, most, false, &mut buffer);
+    let front = &buffer[..got.count];
+    match got.state {
+        State::Failed(why) => refusals::say_unread(&mut ends.errors, why),
+        State::GoesOn | State::End => {
+            run_front(ends, most, shown, verb, given, front, got.state)
+        }
+    }
 }
 
 // Whether the word may be a file's name: it does not begin with a digit.
@@ -226,11 +225,10 @@ fn run_verb<I: Read, O: Write, E: Write>(
         Verb::Help => return faults::print(ends, b"site", &help::PAGE),
         _ => {}
     }
-    let given = arguments::given(verbs::takes(verb), count, v, k);
-    if given.ok {
-        return run_input(ends, most, shown, verb, given);
+    match arguments::given(verbs::takes(verb), count, v, k) {
+        Some(given) => run_input(ends, most, shown, verb, given),
+        None => say_words(&mut ends.errors, verb, word, v),
     }
-    say_words(&mut ends.errors, verb, word, v)
 }
 
 // The same, and the words that ask what the program is.
@@ -245,10 +243,10 @@ pub fn run<I: Read, O: Write, E: Write>(
 ) -> u32
     ensures { SiteStatus word.now count v.now k.now result }
 {
-    if tables::fill::same8(word, b"--help") {
+    if tables::fill::is_same(word, b"--help") {
         return faults::print(ends, b"site", &help::PAGE);
     }
-    if tables::fill::same8(word, b"--version") {
+    if tables::fill::is_same(word, b"--version") {
         return faults::print(ends, b"site", &input::VERSION);
     }
     run_verb(ends, most, shown, word, count, v, k)

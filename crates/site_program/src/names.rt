@@ -4,7 +4,7 @@ ghost use Rattle.lists.specs.Kit.{cond};
 ghost use Rattle.lists.specs.Lists.{same};
 ghost use Rattle.site_program.specs.Names.{plain_verb_of, verb_of, numbers_of};
 
-use tables::fill::same8;
+use tables::fill::is_same;
 
 #[derive(Clone, Copy)]
 pub enum Verb {
@@ -26,7 +26,7 @@ pub enum Verb {
 fn named(word: &[u8], name: &[u8], verb: Verb, other: Verb) -> Verb
     ensures { result ≡ cond (same word.now name.now) verb other }
 {
-    if same8(word, name) {
+    if is_same(word, name) {
         return verb;
     }
     other

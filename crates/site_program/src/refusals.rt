@@ -5,18 +5,23 @@ ghost use Rattle.site_program.specs.Inputs.{wrong};
 ghost use Rattle.site_program.specs.Errors.{line_words, script_text, image_text, usage_words, file_words};
 
 use super::words::put_refused;
+use calls::Refusal;
+use player::input::Unread;
 use player::{faults, input};
 use std::io::Write;
 
 // The status of a run that went wrong.
 pub const WRONG: u32 = 1;
 
-// In place of a refusal number: a line of another form, a last line without a line feed, a carriage return before one.
-pub const FORM: u32 = 1000;
-
-pub const NO_FEED: u32 = 1001;
-
-pub const CARRIAGE: u32 = 1002;
+// What is wrong with a line of a script: it is of another form, the last one has no line feed, a carriage return stands before the line
+// feed, or the call is refused.
+#[derive(Clone, Copy)]
+pub enum Fault {
+    Form,
+    NoFeed,
+    Carriage,
+    Refused(Refusal),
+}
 
 // Longer than any line.
 const LINE_BYTES: usize = 256;
@@ -29,11 +34,11 @@ pub fn say<E: Write>(errors: &mut E, words: &[u8]) -> u32
     WRONG
 }
 
-// An input that cannot be read, by what a read found.
-pub fn say_unread<E: Write>(errors: &mut E, state: u32) -> u32
+// An input that cannot be read.
+pub fn say_unread<E: Write>(errors: &mut E, why: Unread) -> u32
     ensures { result ≡ wrong }
 {
-    faults::say_unread(errors, b"site", state);
+    faults::say_unread(errors, b"site", why);
     WRONG
 }
 
@@ -46,66 +51,64 @@ fn say_front<E: Write>(errors: &mut E, words: &[u8], length: usize) -> u32
 }
 
 // A verb's call that is refused.
-pub fn say_call<E: Write>(errors: &mut E, number: u32) -> u32
+pub fn say_call<E: Write>(errors: &mut E, refusal: Refusal) -> u32
     ensures { result ≡ wrong }
 {
     let mut words = [0u8; LINE_BYTES];
-    let end = put_refused(&mut words, 0, number);
+    let end = put_refused(&mut words, 0, u32::from(refusal));
     say_front(errors, &words, end)
 }
 
 // Puts what is wrong with a line of a script.
-fn put_line(out: &mut [u8], at: usize, number: u32) -> usize
-    ensures { Puts (buffer_at out.old at) (line_words number) (buffer_at out.new result) }
+fn put_line(out: &mut [u8], at: usize, fault: Fault) -> usize
+    ensures { Puts (buffer_at out.old at) (line_words fault) (buffer_at out.new result) }
 {
-    if number == FORM {
-        return text::put_text(out, at, b"no line of the language stands here");
+    match fault {
+        Fault::Form => text::put_text(out, at, b"no line of the language stands here"),
+        Fault::NoFeed => text::put_text(out, at, b"the last line has no line feed"),
+        Fault::Carriage => {
+            text::put_text(out, at, b"a carriage return stands before the line feed")
+        }
+        Fault::Refused(refusal) => put_refused(out, at, u32::from(refusal)),
     }
-    if number == NO_FEED {
-        return text::put_text(out, at, b"the last line has no line feed");
-    }
-    if number == CARRIAGE {
-        return text::put_text(out, at, b"a carriage return stands before the line feed");
-    }
-    put_refused(out, at, number)
 }
 
 // Puts which line of a script is refused or of another form, and why.
-fn put_script(out: &mut [u8], line: u64, number: u32) -> usize
-    ensures { Puts (buffer_at out.old 0) (script_text line number) (buffer_at out.new result) }
+fn put_script(out: &mut [u8], line: u64, fault: Fault) -> usize
+    ensures { Puts (buffer_at out.old 0) (script_text line fault) (buffer_at out.new result) }
 {
     let word = text::put_text(out, 0, b"script, line");
     let digits = text::put_field(out, word, line);
     let colon = text::put_text(out, digits, b": ");
-    put_line(out, colon, number)
+    put_line(out, colon, fault)
 }
 
 // A line of a script that is refused, or of another form.
-pub fn say_line<E: Write>(errors: &mut E, line: u64, number: u32) -> u32
+pub fn say_line<E: Write>(errors: &mut E, line: u64, fault: Fault) -> u32
     ensures { result ≡ wrong }
 {
     let mut words = [0u8; LINE_BYTES];
-    let end = put_script(&mut words, line, number);
+    let end = put_script(&mut words, line, fault);
     say_front(errors, &words, end)
 }
 
 // Puts where an image is refused, and why.
-fn put_image(out: &mut [u8], number: u32, place: &[u8], x: u64) -> usize
-    ensures { Puts (buffer_at out.old 0) (image_text number place.now x) (buffer_at out.new result) }
+fn put_image(out: &mut [u8], refusal: Refusal, place: &[u8], x: u64) -> usize
+    ensures { Puts (buffer_at out.old 0) (image_text refusal place.now x) (buffer_at out.new result) }
 {
     let word = text::put_text(out, 0, b"no script; image, ");
     let named = text::put_text(out, word, place);
     let digits = text::put_field(out, named, x);
     let colon = text::put_text(out, digits, b": ");
-    put_refused(out, colon, number)
+    put_refused(out, colon, u32::from(refusal))
 }
 
 // An image that is refused, and where.
-pub fn say_image<E: Write>(errors: &mut E, number: u32, place: &[u8], x: u64) -> u32
+pub fn say_image<E: Write>(errors: &mut E, refusal: Refusal, place: &[u8], x: u64) -> u32
     ensures { result ≡ wrong }
 {
     let mut words = [0u8; LINE_BYTES];
-    let end = put_image(&mut words, number, place, x);
+    let end = put_image(&mut words, refusal, place, x);
     say_front(errors, &words, end)
 }
 

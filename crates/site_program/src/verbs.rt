@@ -3,10 +3,3 @@
 
 pub use super::answers::answer;
 pub use super::names::{Verb, takes, verb_of};
-
-// A refusal number, or 0 and the length of what was put into the buffer.
-#[derive(Clone, Copy)]
-pub struct Text {
-    pub number: u32,
-    pub length: usize,
-}

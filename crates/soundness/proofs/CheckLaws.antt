@@ -1,10 +1,11 @@
 -- The whole check on plain values: what its parts come back with decides soundness, and the calls over it.
 use Rattle.std.specs.Prelude.{◌≡◌, ◌&&◌, ◌≤◌}
-use Rattle.lists.{specs.Kit.{refl, sym, ap, ◌∙◌, Bool, true, false, and-false, List, ℕ, arith, length, get_or}}
+use Rattle.lists.{specs.Kit.{refl, sym, ap, ◌∙◌, Bool, true, false, cond, and-false, List, ℕ, arith, length, get_or}}
 use Rattle.lists.{specs.Lists.{range, all, EntriesBelow}, specs.Facts.{EachOnce}, proofs.Tests.{never}, proofs.Range.{once_below}, proofs.Member.{in_get_d}}
 use Rattle.mesh.{specs.Limits.{max_radios, max_neighbours}, specs.Orders.{each_once, rising}, specs.Tables.{Tables}, specs.Sound.{rows_proper, number_in}}
 use Rattle.mesh.{specs.Sound.{sound, sound_within}, proofs.Cores.Orders.{each_once_of}}
 use Rattle.calls.{specs.Questions.{ask, lengths_of, size_good, site_lengths, lent_refusal, site_refusal, tables_refusal}, specs.CallContracts.{CheckContract}}
+use mir.Val.{bool_byte}
 use Rattle.calls.{specs.Outcomes.{check_outcome}, proofs.ContractLaws.{value_refused, value_answered}}
 use Rattle.calls.{proofs.ChainLaws.{LentGood, lent_zero, lent_yes, site_zero}}
 use Rattle.conditions.{specs.Conditions.{Placed, row_good}, proofs.RowByRow.{sound_rows}}
@@ -110,31 +111,17 @@ module _ (n : ℕ) (t : Tables) (others : Bool) (q : ℕ) (gave : q ≡ lent_ref
 
 -- ---- the check: its number is that of questions 1 and 2
 
-module _ (n : ℕ) (t : Tables) (q : ℕ) (asked : q ≡ site_refusal n (lengths_of t) true (sound n t) 0) where
-  pub check_sound : q ≡ 0 → CheckContract n t (record { number = 0; value = 1 })
-  unfolding CheckContract check_outcome sound tables_refusal
-  check_sound e =
-      let good = (site_zero n (lengths_of t) true (sound n t) 0 (sym asked ∙ e)).0 in
-      value_answered _ _ _ (lent_yes n (lengths_of t) true 0 good.lent) (rw good.is_sound)
+module _ (n : ℕ) (t : Tables) where
+  pub check_refused : (q : ℕ) → q ≡ tables_refusal n (lengths_of t) → (q ≡ 0 → ⊥) → CheckContract n t (record { number = q; value = 0 })
+  unfolding CheckContract check_outcome
+  check_refused q e h = value_refused _ _ q e h
 
-  pub check_unsound : q ≡ 3 → CheckContract n t (record { number = 0; value = 0 })
-  unfolding CheckContract check_outcome sound tables_refusal site_refusal lent_refusal ask
-  check_unsound e = let h = go (size_good n) (site_lengths n (lengths_of t) && true) (sound n t) (sym asked ∙ e) in value_answered _ _ _ h.0 (rw h.1)
-    where
-      go : (a b c : Bool) → ask 1 a (ask 2 b (ask 3 c 0)) ≡ 3 → (ask 1 a (ask 2 b 0) ≡ 0) × (c ≡ false)
-      go false b c z = absurd (omega (arith, z))
-      go true false c z = absurd (omega (arith, z))
-      go true true false z = (refl, refl)
-      go true true true z = absurd (omega (arith, z))
+  module _ (zero : tables_refusal n (lengths_of t) ≡ 0) where
+    pub check_sizes : (p h : ℕ) → max_radios ≤ p → max_radios ≤ h → Sizes n (lengths_of t) p h
+    unfolding tables_refusal
+    check_sizes = asked_sizes n t true 0 (sym zero) refl
 
-  pub check_refused : (q ≡ 0 → ⊥) → (q ≡ 3 → ⊥) → CheckContract n t (record { number = q; value = 0 })
-  unfolding CheckContract check_outcome sound tables_refusal site_refusal lent_refusal ask
-  check_refused h k = value_refused _ _ q (asked ∙ go (size_good n) (site_lengths n (lengths_of t) && true) (sound n t) (λ z. h (asked ∙ z))
-      (λ z. k (asked ∙ z))) h
-    where
-      go : (a b c : Bool) → (ask 1 a (ask 2 b (ask 3 c 0)) ≡ 0 → ⊥) → (ask 1 a (ask 2 b (ask 3 c 0)) ≡ 3 → ⊥) → ask 1 a (ask 2 b (ask 3 c 0)) ≡ ask 1 a
-          (ask 2 b 0)
-      go false b c z w = refl
-      go true false c z w = refl
-      go true true false z w = absurd (w refl)
-      go true true true z w = absurd (z refl)
+    pub check_answered : (r : Bool) → r ≡ sound n t → CheckContract n t (record { number = 0; value = bool_byte r })
+    unfolding CheckContract check_outcome
+    check_answered true e = value_answered _ _ _ zero (ap (λ b. cond b 1 0) e)
+    check_answered false e = value_answered _ _ _ zero (ap (λ b. cond b 1 0) e)

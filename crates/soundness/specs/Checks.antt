@@ -15,6 +15,8 @@ use Rattle.lists.specs.{Kit.{Bool, true, List, [], ℕ, min, leb, length, get_or
 use Rattle.mesh.specs.{Limits.{max_radios, max_neighbours, row_bytes}, Orders.{each_once, later_in, nobody}, Tables.{Tables, marked, graph_in}, Graph.{linked}}
 use Rattle.mesh.specs.{Cores.{numbers}, Sound.{symmetric, irreflexive, within, few, sound}}
 use Rattle.calls.specs.Questions.{Lengths, lengths_of, size_good, site_lengths, site_refusal}
+use Rattle.std.specs.Prelude.{Option, None, Some}
+use Rattle.soundness.specs.declared.{Walk.{Walk}, Ends.{Ends}}
 use Rattle.rows.specs.Rows.{neighbours_of}
 use Rattle.conditions.specs.Conditions.{Placed, NotLower, later_count, first_key, high_count, ends_good, row_good, highest_word}
 
@@ -65,6 +67,28 @@ pub record Tallied (numbers places : List ℕ) (a : ℕ) (s : Tally) (whole left
   pub few_later : t.later ≤ t.count
   pub few_high : t.high ≤ t.count
   pub few_key : t.key ≤ 4294967295
+
+-- what a walk over a word comes back with: where an end does not mark its radio, nothing
+abbrev pub walk_tally : Option Walk → Tally
+walk_tally None = tally 0 0 0 0
+walk_tally (Some w) = tally w.count w.later w.high w.key
+
+-- and the walk over a row
+abbrev pub ends_later : Option Ends → ℕ
+ends_later None = 0
+ends_later (Some e) = e.later
+
+abbrev pub ends_high : Option Ends → ℕ
+ends_high None = 0
+ends_high (Some e) = e.high
+
+abbrev pub ends_first : Option Ends → ℕ
+ends_first None = 0
+ends_first (Some e) = e.first
+
+abbrev pub byte_or_zero : Option ℕ → ℕ
+byte_or_zero None = 0
+byte_or_zero (Some x) = x
 
 -- whether the radios xs mark a, and then what they and s come to
 pub record Walked (links numbers places : List ℕ) (a : ℕ) (s : Tally) (xs : List ℕ) (good : Bool) (t : Tally) : Type 0 where

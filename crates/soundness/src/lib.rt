@@ -3,23 +3,25 @@
 #![tactic(auto)]
 
 ghost use Rattle.std.specs.Prelude.{◌≡◌, ◌+◌, ◌*◌, ◌/◌, ◌≤◌, ◌<◌};
-ghost use Rattle.lists.specs.Kit.{true, length};
+ghost use Rattle.std.specs.Option.{is_some};
+ghost use Rattle.lists.specs.Kit.{length};
 ghost use Rattle.mesh.specs.Limits.{max_radios, row_bytes};
 ghost use Rattle.mesh.specs.Orders.{rising};
 ghost use Rattle.mesh.specs.Sound.{number_in, sound};
-ghost use Rattle.mesh.specs.Lent.{lent};
-ghost use Rattle.mesh.specs.Tables.{marked, tables};
+ghost use Rattle.mesh.specs.Lent.{read_of};
+ghost use Rattle.mesh.specs.Tables.{marked};
 ghost use Rattle.calls.specs.Questions.{lengths_of, site_refusal};
+ghost use Rattle.calls.specs.Answers.{call_number, value_reply};
 ghost use Rattle.calls.specs.CallContracts.{CheckContract};
 ghost use Rattle.lists.specs.Lists.{EntriesBelow};
 ghost use Rattle.rows.specs.Rows.{set_bits};
 ghost use Rattle.conditions.specs.Conditions.{sooner_key, highest_word};
 ghost use Rattle.soundness.specs.Checks.{Placing, PlacesFound, HighestWords, tally, WalkRoom, Walked, EndsRoom, EndsCounted};
-ghost use Rattle.soundness.specs.Checks.{RowsRoom, RowChecked, RowsChecked};
+ghost use Rattle.soundness.specs.Checks.{walk_tally, ends_later, ends_high, ends_first, byte_or_zero, RowsRoom, RowChecked, RowsChecked};
 ghost use Rattle.soundness.specs.Checks.{Sizes, Held, Asked};
 
-use calls::{Refusal, Value};
-use mesh::Site;
+use calls::Refusal;
+use mesh::{Lent, Site};
 
 pub mod wake;
 
@@ -32,6 +34,24 @@ const NO_KEY: u32 = 4294967295;
 // A word with all bits set.
 const ALL_BITS: u64 = 18446744073709551615;
 
+// What the check finds beside its answer: where each radio stands in the order, and how many of its neighbours have a number that is not
+// below its own.
+#[derive(Drop)]
+pub struct Found {
+    pub places: [u16; Site::RADIOS as usize],
+    pub not_lower: [u8; Site::RADIOS as usize],
+}
+
+impl Found {
+    // Nothing is found yet.
+    pub fn new() -> Self {
+        Self {
+            places: [0; Site::RADIOS as usize],
+            not_lower: [0; Site::RADIOS as usize],
+        }
+    }
+}
+
 // Writes the place of each radio into `places`. Comes back with whether the order holds each radio below its length once;
 // where it does not, `places` holds anything.
 pub(crate) fn place(order: &[u16], places: &mut [u16]) -> bool
@@ -39,9 +59,8 @@ pub(crate) fn place(order: &[u16], places: &mut [u16]) -> bool
     ensures { Placing order.now places.old places.new result }
 {
     let many = order.len();
-    tables::fill::fill16(&mut places[..many], NOWHERE);
-    let mut i: usize = 0;
-    while i < order.len() {
+    tables::fill::fill(&mut places[..many], &NOWHERE);
+    for i in 0..order.len() {
         let v = order[i] as usize;
         if order.len() <= v {
             return false;
@@ -50,7 +69,6 @@ pub(crate) fn place(order: &[u16], places: &mut [u16]) -> bool
             return false;
         }
         places[v] = i as u16;
-        i += 1;
     }
     true
 }
@@ -75,15 +93,13 @@ fn rises(numbers: &[u8], order: &[u16]) -> bool
     ensures { result ≡ rising (number_in numbers.now) order.now }
 {
     let mut last: u8 = 0;
-    let mut i: usize = 0;
-    while i < order.len() {
+    for i in 0..order.len() {
         let v = order[i] as usize;
         let x = numbers[v];
         if x < last {
             return false;
         }
         last = x;
-        i += 1;
     }
     true
 }
@@ -145,46 +161,37 @@ fn marks(links: &[u8], b: u32, a: u32) -> bool
 // how many have a number that is not below, and the key of the first later one.
 #[derive(Clone, Copy)]
 struct Walk {
-    good: bool,
     count: u8,
     later: u8,
     high: u8,
     key: u32,
 }
 
-// Counts the ends that a word marks, from radio `first` on, to what is counted of row a before; good where each of them marks a too.
+// Counts the ends that a word marks, from radio `first` on, to what is counted of row a before; none where one of them does not mark a.
 // A word above the highest marks a radio that has no row, and so does not mark a; of 0, which most words are, that is not asked.
 fn walk_word(
-    links: &[u8],
-    numbers: &[u8],
+    t: &Lent,
     places: &[u16],
     a: u32,
     first: u32,
     highest: u64,
     word: u64,
     walk: Walk,
-) -> Walk
-    requires { EndsRoom a (length links.now) (length numbers.now) (length places.now)
+) -> Option<Walk>
+    requires { EndsRoom a (length t.now.links.now) (length t.now.numbers.now) (length places.now)
         × WalkRoom first (tally walk.count walk.later walk.high walk.key)
-        × (highest ≡ highest_word (length numbers.now) first) × (walk.good ≡ true) }
-    ensures { Walked links.now numbers.now places.now a
+        × (highest ≡ highest_word (length t.now.numbers.now) first) }
+    ensures { Walked t.now.links.now t.now.numbers.now places.now a
         (tally walk.count walk.later walk.high walk.key) (set_bits 64 first word)
-        result.good (tally result.count result.later result.high result.key) }
+        (is_some result) (walk_tally result) }
 {
-    let bad = Walk {
-        good: false,
-        count: 0,
-        later: 0,
-        high: 0,
-        key: 0,
-    };
     let place = places[a as usize];
-    let number = numbers[a as usize];
+    let number = t.numbers[a as usize];
     if word == 0 {
-        return walk;
+        return Some(walk);
     }
     if highest < word {
-        return bad;
+        return None;
     }
     let mut count = walk.count;
     let mut later = walk.later;
@@ -193,243 +200,162 @@ fn walk_word(
     let mut rest = word;
     while rest != 0 {
         let b = first + u64::trailing_zeros(rest);
-        if !marks(links, b, a) {
-            return bad;
+        if !marks(t.links, b, a) {
+            return None;
         }
         let p = places[b as usize];
         count += 1;
         later += (place < p) as u8;
         key = sooner(place, p, b as u16, key);
-        high += (number <= numbers[b as usize]) as u8;
+        high += (number <= t.numbers[b as usize]) as u8;
         rest = rest & (rest - 1);
     }
-    Walk {
-        good: true,
+    Some(Walk {
         count,
         later,
         high,
         key,
-    }
+    })
 }
 
-#[derive(Drop)]
+// Of the ends of a row: how many stand later in the order than its radio, how many have a number that is not below its own, and the first
+// of the later ones, 65,535 when there are none.
+#[derive(Clone, Copy)]
 pub(crate) struct Ends {
-    pub(crate) good: bool,
     pub(crate) later: u8,
     pub(crate) high: u8,
     pub(crate) first: u16,
 }
 
-// Whether row a marks at most `Site::NEIGHBOURS` radios, and these are of the site, are not a, and mark a too; how many of them stand later in the
-// order than a, and the first of these, 65,535 when there are none; and how many have a number that is not below that of a.
+// The ends of row a, where it marks at most `Site::NEIGHBOURS` radios, and these are of the site, are not a, and mark a too.
 // It is small enough that the compiler gives each caller its own: the check then does not pay for the first.
 pub(crate) fn count_ends(
-    links: &[u8],
-    numbers: &[u8],
+    t: &Lent,
     places: &[u16],
     highest: &[u64; rows::ROW_WORDS as usize],
     a: u32,
-) -> Ends
-    requires { EndsRoom a (length links.now) (length numbers.now) (length places.now)
-        × HighestWords (length numbers.now) highest.now }
-    ensures { EndsCounted (length numbers.now) links.now numbers.now places.now a
-        result.good result.later result.high result.first }
+) -> Option<Ends>
+    requires { EndsRoom a (length t.now.links.now) (length t.now.numbers.now) (length places.now)
+        × HighestWords (length t.now.numbers.now) highest.now }
+    ensures { EndsCounted (length t.now.numbers.now) t.now.links.now t.now.numbers.now places.now a
+        (is_some result) (ends_later result) (ends_high result) (ends_first result) }
 {
-    let bad = Ends {
-        good: false,
-        later: 0,
-        high: 0,
-        first: 0,
-    };
-    if rows::is_marked(links, a, a) {
-        return bad;
+    if rows::is_marked(t.links, a, a) {
+        return None;
     }
     let start = Site::ROW_BYTES * a as usize;
     let end = start + Site::ROW_BYTES;
-    let row = &links[start..end];
+    let row = &t.links[start..end];
     let mut walk = Walk {
-        good: true,
         count: 0,
         later: 0,
         high: 0,
         key: NO_KEY,
     };
-    let mut k: u32 = 0;
-    while k < rows::ROW_WORDS {
+    for k in 0..rows::ROW_WORDS {
         let word = rows::word_of(row, k);
         let limit = highest[k as usize];
-        walk = walk_word(
-            links,
-            numbers,
-            places,
-            a,
-            rows::WORD_BITS * k,
-            limit,
-            word,
-            walk,
-        );
-        if !walk.good {
-            return bad;
+        let Some(further) = walk_word(t, places, a, rows::WORD_BITS * k, limit, word, walk) else {
+            return None;
+        };
+        if Site::NEIGHBOURS < further.count as u32 {
+            return None;
         }
-        if Site::NEIGHBOURS < walk.count as u32 {
-            return bad;
-        }
-        k += 1;
+        walk = further;
     }
-    Ends {
-        good: true,
+    Some(Ends {
         later: walk.later,
         high: walk.high,
         first: (walk.key % 65536) as u16,
-    }
+    })
 }
 
-#[derive(Clone, Copy)]
-struct Row {
-    good: bool,
-    high: u8,
-}
-
-// Whether document 01's conditions on radio a hold, and then how many of its neighbours have a number that is not below its own.
+// How many neighbours of a have a number that is not below its own, where document 01's conditions on radio a hold.
 fn row_checked(
-    n: u32,
-    links: &[u8],
-    numbers: &[u8],
+    t: &Lent,
     places: &[u16],
     highest: &[u64; rows::ROW_WORDS as usize],
     a: u32,
-) -> Row
-    requires { RowsRoom n (length links.now) (length numbers.now) (length places.now) × HighestWords n highest.now × (a < n) }
-    ensures { RowChecked n links.now numbers.now places.now a result.good result.high }
+) -> Option<u8>
+    requires { RowsRoom t.now.radios (length t.now.links.now) (length t.now.numbers.now) (length places.now)
+        × HighestWords t.now.radios highest.now × (a < t.now.radios) }
+    ensures { RowChecked t.now.radios t.now.links.now t.now.numbers.now places.now a (is_some result) (byte_or_zero result) }
 {
-    let bad = Row {
-        good: false,
-        high: 0,
+    let Some(ends) = count_ends(t, places, highest, a) else {
+        return None;
     };
-    let ends = count_ends(links, numbers, places, highest, a);
-    if !ends.good {
-        return bad;
-    }
-    let number = numbers[a as usize];
+    let number = t.numbers[a as usize];
     if number < ends.later {
-        return bad;
+        return None;
     }
     if ends.high < number {
-        return bad;
+        return None;
     }
-    Row {
-        good: true,
-        high: ends.high,
-    }
+    Some(ends.high)
 }
 
-// Whether document 01's conditions hold of every radio below n, and then `not_lower` holds for each of them how many of its
-// neighbours have a number that is not below its own; else `not_lower` holds anything.
-fn rows_checked(n: u32, links: &[u8], numbers: &[u8], places: &[u16], not_lower: &mut [u8]) -> bool
-    requires { RowsRoom n (length links.now) (length numbers.now) (length places.now) × (n ≤ length not_lower.old) }
-    ensures { RowsChecked n links.now numbers.now places.now not_lower.old
+// Whether document 01's conditions hold of every radio, and then `not_lower` holds for each of them how many of its neighbours have a
+// number that is not below its own; else `not_lower` holds anything.
+fn rows_checked(t: &Lent, places: &[u16], not_lower: &mut [u8]) -> bool
+    requires { RowsRoom t.now.radios (length t.now.links.now) (length t.now.numbers.now) (length places.now)
+        × (t.now.radios ≤ length not_lower.old) }
+    ensures { RowsChecked t.now.radios t.now.links.now t.now.numbers.now places.now not_lower.old
         not_lower.new result }
 {
-    let highest = highest_words(n);
-    let mut a: u32 = 0;
-    while a < n {
-        let row = row_checked(n, links, numbers, places, &highest, a);
-        if !row.good {
+    let highest = highest_words(t.radios);
+    for a in 0..t.radios {
+        let Some(high) = row_checked(t, places, &highest, a) else {
             return false;
-        }
-        not_lower[a as usize] = row.high;
-        a += 1;
+        };
+        not_lower[a as usize] = high;
     }
     true
 }
 
-// Whether tables of the right lengths are sound. Then `places` holds where each radio stands in the order, and `not_lower` how many of
-// its neighbours have a number that is not below its own; else both hold anything.
-fn is_sound(
-    n: u32,
-    links: &[u8],
-    numbers: &[u8],
-    order: &[u16],
-    places: &mut [u16],
-    not_lower: &mut [u8],
-) -> bool
-    requires { Sizes n (lengths_of (tables links.now numbers.now order.now)) (length places.old) (length not_lower.old) }
-    ensures { Held n (lent links.now numbers.now order.now) places.new not_lower.new result }
+// Whether tables of the right lengths are sound. Then `found` tells of each radio of theirs; else it holds anything.
+fn is_sound(t: &Lent, found: &mut Found) -> bool
+    requires { Sizes t.now.radios (lengths_of (read_of t.now)) (length found.old.places) (length found.old.not_lower) }
+    ensures { Held t.now.radios (read_of t.now) found.new.places found.new.not_lower result }
 {
-    if !place(order, places) {
+    if !place(t.order, &mut found.places) {
         return false;
     }
-    if !rises(numbers, order) {
+    if !rises(t.numbers, t.order) {
         return false;
     }
-    rows_checked(n, links, numbers, places, not_lower)
+    rows_checked(t, &found.places, &mut found.not_lower)
 }
 
-// Questions 1 to 3, where `others` is the answer that 2 gets for further tables: the number of the first that got no, or 0. At 0,
-// `places` holds where each radio stands in the order, and `not_lower` how many of its neighbours have a number that is not below its
-// own; else both hold anything.
-pub fn asked(
-    n: u32,
-    links: &[u8],
-    numbers: &[u8],
-    order: &[u16],
-    others: bool,
-    places: &mut [u16],
-    not_lower: &mut [u8],
-) -> u32
-    requires { (max_radios ≤ length places.old) × (max_radios ≤ length not_lower.old) }
-    ensures { Asked n (lent links.now numbers.now order.now) others places.new not_lower.new result }
+// Questions 1 to 3, where `others` is the answer that 2 gets for further tables: the first that gets no. Where none does, `found` tells of
+// each radio; else it holds anything.
+pub fn asked(t: &Lent, others: bool, found: &mut Found) -> Result<(), Refusal>
+    ensures { Asked t.now.radios (read_of t.now) others found.new.places found.new.not_lower (call_number result) }
 {
-    let number = tables::sizes::with_others(
-        Site { radios: n },
-        links.len(),
-        numbers.len(),
-        order.len(),
-        others,
-    );
-    if number != 0 {
-        return number;
+    if let Err(refusal) = tables::sizes::with_others(t, others) {
+        return Err(refusal);
     }
-    if !is_sound(n, links, numbers, order, places, not_lower) {
-        return Refusal::UNSOUND;
+    if !is_sound(t, found) {
+        return Err(Refusal::Unsound);
     }
-    0
+    Ok(())
 }
 
 // Questions 1 to 3 alone.
-pub fn refusal(n: u32, links: &[u8], numbers: &[u8], order: &[u16], others: bool) -> u32
-    ensures { result ≡ site_refusal n (lengths_of (lent links.now numbers.now order.now)) others
-        (sound n (lent links.now numbers.now order.now)) 0 }
+pub fn ask(t: &Lent, others: bool) -> Result<(), Refusal>
+    ensures { call_number result ≡ site_refusal t.now.radios (lengths_of (read_of t.now)) others
+        (sound t.now.radios (read_of t.now)) 0 }
 {
-    let mut places = [0u16; Site::RADIOS as usize];
-    let mut not_lower = [0u8; Site::RADIOS as usize];
-    asked(
-        n,
-        links,
-        numbers,
-        order,
-        others,
-        &mut places,
-        &mut not_lower,
-    )
+    let mut found = Found::new();
+    asked(t, others, &mut found)
 }
 
-// The soundness check: refusal number 1 or 2 and the value 0, or number 0 and the value 1 when the tables are sound, 0 when not.
-pub fn check(n: u32, links: &[u8], numbers: &[u8], order: &[u16]) -> Value
-    ensures { CheckContract n (lent links.now numbers.now order.now) result }
+// The soundness check: 1 when the tables are sound, 0 when not. Refused by 1 and 2.
+pub fn check(t: &Lent) -> Result<u32, Refusal>
+    ensures { CheckContract t.now.radios (read_of t.now) (value_reply result) }
 {
-    let number = refusal(n, links, numbers, order, true);
-    if number == 0 {
-        return Value {
-            number: 0,
-            value: 1,
-        };
+    if let Err(refusal) = tables::sizes::of_tables(t) {
+        return Err(refusal);
     }
-    if number == Refusal::UNSOUND {
-        return Value {
-            number: 0,
-            value: 0,
-        };
-    }
-    Value { number, value: 0 }
+    let mut found = Found::new();
+    Ok(is_sound(t, &mut found) as u32)
 }

@@ -8,8 +8,8 @@ use Rattle.calls.{proofs.SheetLaws.{numbers_two_digits}, proofs.ChainLaws.{SiteG
 use Rattle.calls.{proofs.ContractLaws.{listing_refused, listing_answered}}
 use Rattle.rows.{specs.Links.{links_from, RowsListed}, proofs.GraphLinks.{rows_listed_few}}
 use Rattle.soundness.proofs.SoundSite.{SoundSite, site_good_sound}
-use Rattle.forests.specs.Growing.{growing, grown_all, table_weight, levels_falling}
-use Rattle.staircase.specs.Rows.{Mutual}
+use Rattle.forests.specs.Growing.{table_weight, levels_falling}
+use Rattle.staircase.specs.{Taking.{growth, Taken}, Parts.{roots}, Rows.{Mutual}, declared.forest.Forest.{Forest}}
 use Rattle.staircase.proofs.LevelLaws.{staircase_count, staircase_table}
 
 module _ (n : ℕ) (t : Tables) (old : List ℕ) (q : ℕ) (asked : q ≡ site_refusal n (lengths_of t) (leb (2 * n) (length old)) (sound n t) 0) where
@@ -38,14 +38,15 @@ module _ (n : ℕ) (t : Tables) (old : List ℕ) (q : ℕ) (asked : q ≡ site_r
     staircase_low = greatest_le t.numbers max_neighbours
         (λ v l. numbers_two_digits n t site.numbers_long good.is_sound site.small v (omega (arith, site.numbers_long)))
 
-    pub staircase_answered : (labels table : List ℕ) (count : ℕ)
-        → growing labels table count ≡ grown_all
-        (levels_falling (table_weight t.numbers) (greatest t.numbers) (links_from (length t.numbers) t.links 0 0))
-        (growing (range 0 (length t.numbers)) old 0)
-        → StaircaseContract n t old (value 0 count) table
+    -- from the forest where each radio is a part of its own
+    pub staircase_answered : (f end : Forest)
+        → Taken (levels_falling (table_weight t.numbers) (greatest t.numbers) (links_from (length t.numbers) t.links 0 0)) f end
+        → roots f.parents.now ≡ range 0 (length t.numbers) → f.table.now ≡ old → f.count ≡ 0 → (table : List ℕ) → table ≡ end.table.now
+        → StaircaseContract n t old (value 0 end.count) table
     unfolding StaircaseContract staircase_outcome sound
-    staircase_answered labels table count h =
+    staircase_answered f end taken own lent none table same =
         let room = leb-true (2 * n) (length old) good.lent.further in
-        listing_answered _ _ _ old count table (sym asked ∙ e)
-        (staircase_count n t site good.lent.least old room (growing labels table count) h)
-        (staircase_table n t site good.lent.least old room (growing labels table count) h)
+        let h = rw (own, lent, none) at taken.is in
+        listing_answered _ _ _ old end.count table (sym asked ∙ e)
+        (staircase_count n t site good.lent.least old room (growth end) h)
+        (same ∙ staircase_table n t site good.lent.least old room (growth end) h)

@@ -6,7 +6,7 @@
 --   level_links       the links of the listed rows are the links of the level's weight
 use Rattle.std.specs.Prelude.{◌≡◌, ◌⊎◌, ◌&&◌, ◌∷◌, ◌++◌, ◌+◌, ◌*◌, ◌-◌, ◌≤◌, ◌<◌}
 use Rattle.lists.{specs.Kit.{refl, sym, ap, ap₂, ◌∙◌, inl, inr, Bool, true, false, not, cond, List, [], flat_map, append-nil, ℕ}}
-use Rattle.lists.{specs.Kit.{min, arith, ltb, leb, eqb, length, get_or, take, replicate, length-take, List·getD-eq-default, take_all}}
+use Rattle.lists.{specs.Kit.{min, arith, ltb, leb, eqb, length, get_or, take, replicate, length-replicate, length-take, List·getD-eq-default, take_all}}
 use Rattle.lists.{specs.Kit.{ltb-true, lt-ltb, leb-true, leb-false, le-leb, lt-leb, eqb-true, eqb-false, eq-eqb, ne_eqb}, specs.Lists.{range, filter, member}}
 use Rattle.lists.{specs.Lists.{overwrite, In, EntriesBelow}, proofs.Tests.{bool_cases, never, and_left, and_right, and_both, or_left, or_right, iff_eq}}
 use Rattle.lists.{proofs.Range.{range_in, in_range, range_append, length_range}, proofs.Filter.{in_filter, filter_in, filter_none, filter_ext, filter_le}}
@@ -48,12 +48,10 @@ above_next ns k next reach e less h x l = h x l ∙ ap (λ (b : Bool). ltb x (le
     high (inr a) b = a
 
 -- the radios of higher levels taken out
-pub level_sets : (ns : List ℕ) (k : ℕ) (higher reach own : List ℕ) → length reach ≡ 8 → length own ≡ 8
-    → AboveSet ns k higher → LevelSet ns k reach → SetTaken higher reach own → LevelSets ns k own reach
+pub level_sets : (ns : List ℕ) (k : ℕ) (higher reach own : List ℕ) → AboveSet ns k higher → LevelSet ns k reach → SetTaken higher reach own → LevelSets ns k own reach
 unfolding of_level
-level_sets ns k higher reach own lr lw above level taken = record {
-  own_long = lw;
-  reach_long = lr;
+level_sets ns k higher reach own above level taken = record {
+  own_long = taken.long;
   own_radios = λ v l. taken.bits v ∙ ap₂ (λ (a b : Bool). a && not b) (level v l) (above v l)
       ∙ rest v (ltb v (length ns)) (bool_cases (eqb (get_or ns v 0) k));
   reach_radios = level;
@@ -86,8 +84,8 @@ pub record RadiosPutting (list : List ℕ) (i : ℕ) (set : List ℕ) : Type 0 w
   pub long : length set ≡ 8
   pub own : (j : ℕ) → j < i → in_set set (get_or list j 0) ≡ true
 
-pub radios_putting_none : (list set : List ℕ) → length set ≡ 8 → RadiosPutting list 0 set
-radios_putting_none list set l = record { low = omega arith; long = l; own = λ j h. absurd (omega arith) }
+pub radios_putting_none : (list set : List ℕ) → set ≡ replicate 8 0 → RadiosPutting list 0 set
+radios_putting_none list set e = record { low = omega arith; long = ap length e ∙ length-replicate {A = ℕ} 8 0; own = λ j h. absurd (omega arith) }
 
 pub radios_putting_turn : (list : List ℕ) (i : ℕ) (set put : List ℕ) → i < length list → get_or list i 0 < max_radios → put ≡ put_in (get_or list i 0) set
     → RadiosPutting list i set → RadiosPutting list (i + 1) put
@@ -113,18 +111,16 @@ radios_putting_end list i set l h = record { own = λ j r. h.own j (omega arith)
 
 pub record NeighboursPutting (ts list old : List ℕ) (i : ℕ) (set : List ℕ) : Type 0 where
   pub low : i ≤ length list
-  pub long : length set ≡ 8
   pub kept : (x : ℕ) → in_set old x ≡ true → in_set set x ≡ true
   pub near : (j x : ℕ) → j < i → member x (row_listed ts (get_or list j 0)) ≡ true → in_set set x ≡ true
 
-pub neighbours_putting_none : (ts list old : List ℕ) → length old ≡ 8 → NeighboursPutting ts list old 0 old
-neighbours_putting_none ts list old l = record { low = omega arith; long = l; kept = λ x m. m; near = λ j x h m. absurd (omega arith) }
+pub neighbours_putting_none : (ts list old : List ℕ) → NeighboursPutting ts list old 0 old
+neighbours_putting_none ts list old = record { low = omega arith; kept = λ x m. m; near = λ j x h m. absurd (omega arith) }
 
-pub neighbours_putting_turn : (ts list old : List ℕ) (i : ℕ) (set after : List ℕ) → i < length list → length after ≡ length set
+pub neighbours_putting_turn : (ts list old : List ℕ) (i : ℕ) (set after : List ℕ) → i < length list
     → RowJoined ts (get_or list i 0) set after → NeighboursPutting ts list old i set → NeighboursPutting ts list old (i + 1) after
-neighbours_putting_turn ts list old i set after l same joined h = record {
+neighbours_putting_turn ts list old i set after l joined h = record {
   low = omega arith;
-  long = same ∙ h.long;
   kept = λ x m. stays x (h.kept x m);
   near = λ j x r m. go j x (bool_cases (eqb j i)) r m;
 }
@@ -156,7 +152,7 @@ listed_front xs old list r fits counted listed =
 few_radios : (f : ℕ → Bool) → length (filter f (range 0 max_radios)) ≤ max_radios
 few_radios f = filter_le f (range 0 max_radios) max_radios (length_range 0 max_radios)
 
-module _ (ts own : List ℕ) (long : length own ≡ 8) (old list : List ℕ) (r : ℕ) (room : length old ≡ max_radios)
+module _ (ts own : List ℕ) (old list : List ℕ) (r : ℕ) (room : length old ≡ max_radios)
     (first : Listed own old r list) where
   own_listed : take r list ≡ filter (in_set own) (range 0 max_radios)
   unfolding members
@@ -193,11 +189,11 @@ module _ (ts own : List ℕ) (long : length own ≡ 8) (old list : List ℕ) (r 
       and_yes false = refl
 
   -- the rows that the set has of reach
-  pub level_rows : (reach put set after end : List ℕ) (m : ℕ) → length reach ≡ 8 → length set ≡ 8 → length list ≡ max_radios
+  pub level_rows : (reach put set after end : List ℕ) (m : ℕ) → length own ≡ 8 → length list ≡ max_radios
       → RadiosPut (take r list) put → NeighboursPut ts (take r list) put set
       → CommonTaken reach set list m after end → LevelRows ts own reach m end
   unfolding common
-  level_rows reach put set after end m lr ls list_room owns nears taken =
+  level_rows reach put set after end m long list_room owns nears taken =
       let few = few_radios (λ v. in_set reach v && in_set set v) in
       let front = listed_front (common reach set) list end m (omega arith) taken.counted taken.listed in
       record {

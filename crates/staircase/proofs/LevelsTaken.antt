@@ -1,16 +1,16 @@
 -- Levels taken in turn.
 --   levels_next       a level and the next one that some radio has
 --   levels_takeable   the links of all levels may be taken
---   levels_all        from each radio its own parent, and the greatest number on
+--   first_parents, first_roots   each radio its own parent
 use Rattle.std.specs.Prelude.{◌≡◌, ◌⊎◌, ◌∷◌, ◌++◌, ◌+◌, ◌*◌, ◌-◌, ◌≤◌, ◌<◌}
 use Rattle.lists.{specs.Kit.{refl, ap, ◌∙◌, inl, inr, Bool, true, false, cond, List, [], flat_map, ℕ, zero, suc}}
 use Rattle.lists.{specs.Kit.{arith, eqb, length, length-append}, specs.Lists.{range}, proofs.Map.{length-map}}
-use Rattle.mesh.{specs.Limits.{max_radios, max_neighbours}, specs.Graph.{Link, InLinks, link_of}, specs.Connected.{greatest}, specs.Staircase.{filter_links}}
+use Rattle.mesh.{specs.Limits.{max_radios, max_neighbours}, specs.Graph.{Link, InLinks, link_of}, specs.Staircase.{filter_links}}
 use Rattle.mesh.{specs.Staircase.{of_weight}, proofs.Tables.AscendingLinks.{in_links_cases}}
 use Rattle.tables.{specs.Widths.{values}, proofs.WidthLaws.{values_index}}
 use Rattle.rows.specs.{Rows.{neighbours_above}, Links.{links_above, links_from, RowsListed}}
-use Rattle.forests.{proofs.Keeping.{in_of_weight}, specs.Growing.{Growing, growing, grown_all, table_weight, levels_falling}}
-use Rattle.staircase.specs.{Taking.{greatest_below, Takeable}, Parts.{Parents, roots}}
+use Rattle.forests.{proofs.Keeping.{in_of_weight}, specs.Growing.{table_weight, levels_falling}}
+use Rattle.staircase.specs.{Taking.{greatest_below, Takeable}, Parts.{Parents, roots}, declared.forest.Forest.{Forest}}
 use Rattle.staircase.proofs.{PartLaws.{parents_own, roots_own}, SkipLaws.{number_radio, levels_skip}}
 
 pub levels_next : (ns : List ℕ) (ls : List Link) (w : ℕ) → 0 < w
@@ -71,31 +71,29 @@ length_rows ts n rows i (suc k) h =
       length_rows ts n rows (suc i) k (omega arith),
     )
 
-pub levels_takeable : (ns ts : List ℕ) (many top : ℕ) → many ≡ length ns → RowsListed (length ns) ts max_neighbours → top ≤ max_neighbours
-    → Takeable many (levels_falling (table_weight ns) top (links_from (length ns) ts 0 0)) 0
+pub levels_takeable : (ns ts : List ℕ) (f : Forest) (top : ℕ) → length f.parents.now ≡ length ns → f.count ≡ 0
+    → RowsListed (length ns) ts max_neighbours → top ≤ max_neighbours
+    → Takeable f (levels_falling (table_weight ns) top (links_from (length ns) ts 0 0))
 unfolding links_from
-levels_takeable ns ts many top e rows low = rw e (record {
-  inside = λ l i. weighty_inside ns l (levels_weigh (table_weight ns) (links_from (length ns) ts 0 0) top l i);
+levels_takeable ns ts f top e none rows low = record {
+  inside = λ l i. rw e (weighty_inside ns l (levels_weigh (table_weight ns) (links_from (length ns) ts 0 0) top l i));
   few =
       omega (
         arith,
+        none,
         length_levels (table_weight ns) (links_from (length ns) ts 0 0) top
             (omega (arith, length_rows ts (length ns) rows 0 (length ns - 0) (omega arith), rows.most)),
       );
-})
+}
 
 -- ---- from each radio its own parent
 
-module _ (ns parents : List ℕ) (many : ℕ) (filled : parents ≡ values 16 (λ (i : ℕ). i) many) (long : many ≡ length ns) (small : length ns ≤ max_radios) where
-  own_parents : parents ≡ range 0 (length ns)
-  own_parents = filled ∙ ap (λ (k : ℕ). values 16 (λ (i : ℕ). i) k) long ∙ values_index 16 (length ns) (omega arith)
+module _ (parents : List ℕ) (many : ℕ) (filled : parents ≡ values 16 (λ (i : ℕ). i) many) (small : many ≤ max_radios) where
+  own_parents : parents ≡ range 0 many
+  own_parents = filled ∙ values_index 16 many (omega arith)
 
   pub first_parents : Parents parents
-  first_parents = rw own_parents (parents_own (length ns))
+  first_parents = rw own_parents (parents_own many)
 
-  pub levels_all : (ls : List Link) (old : List ℕ) (top : ℕ) (now : Growing) → top ≡ greatest ns
-      → now ≡ grown_all (levels_falling (table_weight ns) top ls) (growing (roots parents) old 0)
-      → now ≡ grown_all (levels_falling (table_weight ns) (greatest ns) ls) (growing (range 0 (length ns)) old 0)
-  levels_all ls old top now t p =
-      p ∙ ap (λ (w : ℕ). grown_all (levels_falling (table_weight ns) w ls) (growing (roots parents) old 0)) t
-      ∙ ap (λ (xs : List ℕ). grown_all (levels_falling (table_weight ns) (greatest ns) ls) (growing xs old 0)) (ap roots own_parents ∙ roots_own (length ns))
+  pub first_roots : roots parents ≡ range 0 many
+  first_roots = ap roots own_parents ∙ roots_own many

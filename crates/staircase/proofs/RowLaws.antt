@@ -13,7 +13,7 @@ use Rattle.mesh.{specs.Limits.{max_radios, row_bytes}, specs.Graph.{Link, InLink
 use Rattle.mesh.{proofs.Tables.Digits.{digit_suc}}
 use Rattle.rows.{specs.Rows.{row_from, set_bits, word_of}, proofs.WordLaws.{word_at_less}, proofs.RowWords.{row_split, row_from_end, word_of_row}}
 use Rattle.rows.{proofs.SetLaws.{member_word}, proofs.AboveWords.{above_words}, specs.Sets.{in_set}, specs.Links.{links_to}}
-use Rattle.staircase.specs.{Taking.{Takeable}, Rows.{row_among, level_row}}
+use Rattle.staircase.specs.{Taking.{Takeable}, Rows.{row_among, level_row}, declared.forest.Forest.{Forest}}
 
 -- ---- set bits of two words
 
@@ -89,11 +89,14 @@ module _ (ts : List ℕ) (bytes : (j : ℕ) → get_or ts j 0 < 256) (s : List �
   words_none k h = rw (row_from_end ts a k h)
 
   -- words that no radio of n has
-  pub words_past : (n k c : ℕ) → min 8 (n / 64 + 1) ≤ k → Takeable n (links_to a (filter (in_set s) (row_from ts a k))) c
+  pub words_past : (f : Forest) (k : ℕ) → min 8 (length f.parents.now / 64 + 1) ≤ k → Takeable f (links_to a (filter (in_set s) (row_from ts a k)))
       → links_to a (filter (in_set s) (row_from ts a k)) ≡ []
   unfolding row_from
-  words_past n k c h t = go (bool_cases (ltb k 8))
+  words_past f k h t = go (bool_cases (ltb k 8))
     where
+      n : ℕ
+      n = length f.parents.now
+
       past : n < 64 * k → (x : ℕ) → In x (filter (in_set s) (row_from ts a k)) → ⊥
       past l x i =
           let row = (in_filter (in_set s) (row_from ts a k) x i).0 in

@@ -1,5 +1,5 @@
 -- The functions that other crates call, as they stand in a linked program: the crate's table of names and codes, and that each has its code there,
--- with the code of all that it calls, where this table and those of the crates below stand in it.
+-- with the code of all that it calls, where this table and those of the crates below stand in it. Written by tools/worlds.
 use mathlib.Core.Bool.{true}
 use prog.{Linked.{Tree, World, Holds, in_world}, LinkedThreads.{HasT}}
 use Rattle.staircase.proofs.TheLink as link
@@ -17,7 +17,46 @@ abbrev pub Stand : World → Type 0
 Stand W = Holds W "staircase" table × floods.Stand W × rows.Stand W × soundness.Stand W × tables.Stand W
 
 below : (W : World) → Stand W → link.Below W
-below W h = (floods.has_level_at_least W h.1, (rows.has_sets_is_in W h.2, (rows.has_sets_join_row W h.2, (rows.has_sets_list W h.2, (rows.has_sets_put_in W h.2, (rows.has_sets_take_common W h.2, (rows.has_sets_take_set W h.2, (rows.has_word_of W h.2, (soundness.has_refusal W h.3, (tables.has_fill_index16 W h.4, (tables.has_fill_least W h.4, (tables.has_fill_put16 W h.4, (tables.has_numbers_greatest W h.4, (tables.has_numbers_larger W h.4, (tables.has_numbers_larger16 W h.4, (tables.has_numbers_lower16 W h.4, tt))))))))))))))))
+below W h = (
+  floods.has_level_at_least W h.1,
+  (
+    rows.has_sets_RadioSet_empty W h.2,
+    (
+      rows.has_sets_RadioSet_has W h.2,
+      (
+        rows.has_sets_RadioSet_join_row W h.2,
+        (
+          rows.has_sets_RadioSet_list W h.2,
+          (
+            rows.has_sets_RadioSet_put_in W h.2,
+            (
+              rows.has_sets_RadioSet_take_common W h.2,
+              (
+                rows.has_sets_RadioSet_take_set W h.2,
+                (
+                  rows.has_sets_RadioSet_word W h.2,
+                  (
+                    rows.has_word_of W h.2,
+                    (
+                      soundness.has_ask W h.3,
+                      (
+                        tables.has_fill_index16 W h.4,
+                        (
+                          tables.has_fill_least W h.4,
+                          (tables.has_fill_put16 W h.4, (tables.has_numbers_greatest W h.4, (tables.has_numbers_larger W h.4, tt))),
+                        ),
+                      ),
+                    ),
+                  ),
+                ),
+              ),
+            ),
+          ),
+        ),
+      ),
+    ),
+  ),
+)
 
 pub has_staircase : (W : World) → Stand W → HasT (in_world W) true staircase.code
 has_staircase W h = link.linked-staircase::staircase W h.0 (below W h)

@@ -3,12 +3,9 @@
 --   root k ps v      where k steps from radio to parent lead from v
 --   roots ps         of each radio the lowest of its part: its label
 --   Rooted           the root of v was searched, and ways to roots may be shorter
---   Taken ls         the links ls were taken in turn
 -- Definitions only.
 use Rattle.std.specs.Prelude.{◌≡◌, ◌≤◌}
 use Rattle.lists.specs.{Kit.{List, map, ℕ, zero, suc, length, get_or}, Lists.{range}}
-use Rattle.mesh.specs.Graph.{Link}
-use Rattle.forests.specs.Growing.{growing, grown_all}
 
 abbrev pub Parents : List ℕ → Type 0
 Parents ps = (v : ℕ) → get_or ps v 0 ≤ v
@@ -26,8 +23,3 @@ pub record Rooted (ps : List ℕ) (v : ℕ) (qs : List ℕ) (r : ℕ) : Type 0 w
   pub parents : Parents qs
   pub same : roots qs ≡ roots ps
   pub found : r ≡ get_or (roots ps) v 0
-
--- ps, old and count are the parents, the lent table and the count before, qs, new and r after
-pub record Taken (ls : List Link) (ps old : List ℕ) (count : ℕ) (qs new : List ℕ) (r : ℕ) : Type 0 where
-  pub parents : Parents qs
-  pub is : growing (roots qs) new r ≡ grown_all ls (growing (roots ps) old count)

@@ -37,7 +37,6 @@ pub record NeighboursPut (ts list old set : List ℕ) : Type 0 where
 -- own are the radios with number k, reach the ones with number k or more
 pub record LevelSets (ns : List ℕ) (k : ℕ) (own reach : List ℕ) : Type 0 where
   pub own_long : length own ≡ 8
-  pub reach_long : length reach ≡ 8
   pub own_radios : (x : ℕ) → x < max_radios → in_set own x ≡ (ltb x (length ns) && eqb (get_or ns x 0) k)
   pub reach_radios : (x : ℕ) → x < max_radios → in_set reach x ≡ of_level ns k x
 

@@ -14,10 +14,8 @@ pub fn level_below(numbers: &[u8], level: u8) -> u8
     ensures { result ≡ greatest_below level numbers.now }
 {
     let mut top: u8 = 0;
-    let mut v: usize = 0;
-    while v < numbers.len() {
-        top = tables::numbers::larger(top, number_below(numbers[v], level));
-        v += 1;
+    for x in numbers {
+        top = tables::numbers::larger(top, number_below(*x, level));
     }
     top
 }

@@ -5,8 +5,5 @@ pub mod Runs
 mod CommitStep
 -- a node of the shell tree, in cells
 mod NodeRow
--- the lent list of nodes: filled place by place, from three tables to the list
-mod NodesLaws
-mod NodesAnswer
 -- and so in one linked program
 pub mod World

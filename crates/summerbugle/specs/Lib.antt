@@ -1,2 +1,1 @@
--- The lent list of nodes.
-pub mod Nodes
+-- The exported calls say what crate calls says of them: nothing is defined here.

@@ -15,15 +15,11 @@ ghost use Rattle.calls.specs.CallContracts.{StaircaseContract, SetContract, Remo
 
 use calls::{Block, Later, Pair, Reply, Value};
 use hearing::hear;
-use links::{ask, commit};
-use mesh::{Node, Site};
-use queries::backbone;
+use links::{ask, batch, commit};
+use mesh::{Lent, Node};
+use queries::{backbone, cores, radios};
 use script::writer;
-
-mod nodes;
-
-// The most nodes that a tree may have: one for each radio, and the root.
-const PLACES: usize = Site::RADIOS as usize + 1;
+use soundness::wake;
 
 // The version of the calls and of what they are lent.
 const VERSION: u32 = 1;
@@ -42,7 +38,7 @@ pub extern "C" fn sb_clear(n: u32, links: &mut [u8], numbers: &mut [u8], order: 
     ensures { ClearContract n (lent links.old numbers.old order.old) result
         (lent links.new numbers.new order.new) }
 {
-    tables::clear::clear(n, links, numbers, order)
+    calls::number(tables::clear::clear(n, links, numbers, order))
 }
 
 // Checks the tables: value 1 when they are sound, 0 when not. Refused by 1 and 2: then the value is 0.
@@ -55,7 +51,12 @@ pub extern "C" fn sb_check<'a>(
 ) -> Value
     ensures { CheckContract n (lent links.now numbers.now order.now) result }
 {
-    soundness::check(n, links, numbers, order)
+    Value::from(soundness::check(&Lent {
+        radios: n,
+        links,
+        numbers,
+        order,
+    }))
 }
 
 // Takes the link between a and b up. Accepted: step +1, or 0 when no number changed, and the changed radios ascending in front
@@ -73,7 +74,8 @@ pub extern "C" fn sb_link_up(
     ensures { LinkContract true n a b (lent links.old numbers.old order.old) answer.old result
         (lent links.new numbers.new order.new) answer.new }
 {
-    links::link::link(true, n, a, b, links, numbers, order, answer)
+    let change = links::link::link(true, n, a, b, links, numbers, order, answer);
+    Reply::from(change)
 }
 
 // Takes the link between a and b down: as `sb_link_up`, with the step -1, or 0 when no number changed. Refused by 1 to 6.
@@ -90,7 +92,8 @@ pub extern "C" fn sb_link_down(
     ensures { LinkContract false n a b (lent links.old numbers.old order.old) answer.old result
         (lent links.new numbers.new order.new) answer.new }
 {
-    links::link::link(false, n, a, b, links, numbers, order, answer)
+    let change = links::link::link(false, n, a, b, links, numbers, order, answer);
+    Reply::from(change)
 }
 
 // Takes the links of the list, two entries each, up one by one, and stops at the first that 4 to 7 refuse. The number is that of the link
@@ -107,7 +110,7 @@ pub extern "C" fn sb_link_batch(
     ensures { BatchContract n list.now (lent links.old numbers.old order.old) result
         (lent links.new numbers.new order.new) }
 {
-    links::batch::batch(n, links, numbers, order, list)
+    batch::reply(batch::batch(n, links, numbers, order, list))
 }
 
 // Brings the site to the links that both ends hear: links that are not agreed go down, by lower radio and then higher, then agreed links
@@ -125,7 +128,7 @@ pub extern "C" fn sb_hear(
     ensures { HearContract n heard.now (lent links.old numbers.old order.old) further.old result
         (lent links.new numbers.new order.new) further.new }
 {
-    hear::hear(n, links, numbers, order, heard, further)
+    Value::from(hear::hear(n, links, numbers, order, heard, further))
 }
 
 // What taking the link between a and b up would change: the step and count that `sb_link_up` would answer now, and the changed radios
@@ -144,7 +147,18 @@ pub extern "C" fn sb_ask_up<'a>(
     ensures { AskContract true n a b (lent links.now numbers.now order.now) answer.old result
         answer.new }
 {
-    ask::ask(true, n, a, b, links, numbers, order, answer)
+    Reply::from(ask::ask(
+        true,
+        &Lent {
+            radios: n,
+            links,
+            numbers,
+            order,
+        },
+        a,
+        b,
+        answer,
+    ))
 }
 
 // What taking the link between a and b down would change: as `sb_ask_up`. Refused by 1 to 6.
@@ -161,7 +175,18 @@ pub extern "C" fn sb_ask_down<'a>(
     ensures { AskContract false n a b (lent links.now numbers.now order.now) answer.old result
         answer.new }
 {
-    ask::ask(false, n, a, b, links, numbers, order, answer)
+    Reply::from(ask::ask(
+        false,
+        &Lent {
+            radios: n,
+            links,
+            numbers,
+            order,
+        },
+        a,
+        b,
+        answer,
+    ))
 }
 
 // Takes the link between a and b up where `step` and `changed` are exactly what `sb_ask_up` would give now. Accepted: step and count as
@@ -180,7 +205,7 @@ pub extern "C" fn sb_commit_up(
     ensures { CommitContract true n a b step changed.now (lent links.old numbers.old order.old) result
         (lent links.new numbers.new order.new) }
 {
-    commit::commit(true, n, a, b, step, links, numbers, order, changed)
+    Reply::from(commit::commit(true, n, a, b, step, links, numbers, order, changed))
 }
 
 // Takes the link between a and b down: as `sb_commit_up`, with what `sb_ask_down` would give now. Refused by 1 to 6 and 16.
@@ -198,7 +223,7 @@ pub extern "C" fn sb_commit_down(
     ensures { CommitContract false n a b step changed.now (lent links.old numbers.old order.old) result
         (lent links.new numbers.new order.new) }
 {
-    commit::commit(false, n, a, b, step, links, numbers, order, changed)
+    Reply::from(commit::commit(false, n, a, b, step, links, numbers, order, changed))
 }
 
 // The number of radio v. Refused by 1 to 4: then the value is 0.
@@ -212,7 +237,15 @@ pub extern "C" fn sb_number<'a>(
 ) -> Value
     ensures { NumberContract n v (lent links.now numbers.now order.now) result }
 {
-    queries::radios::number(n, v, links, numbers, order)
+    Value::from(radios::number(
+        &Lent {
+            radios: n,
+            links,
+            numbers,
+            order,
+        },
+        v,
+    ))
 }
 
 // How many neighbours radio v has. Refused by 1 to 4.
@@ -226,7 +259,15 @@ pub extern "C" fn sb_neighbours<'a>(
 ) -> Value
     ensures { NeighboursContract n v (lent links.now numbers.now order.now) result }
 {
-    queries::radios::neighbours(n, v, links, numbers, order)
+    Value::from(radios::neighbours(
+        &Lent {
+            radios: n,
+            links,
+            numbers,
+            order,
+        },
+        v,
+    ))
 }
 
 // 1 when a and b are linked, 0 when not; a radio with itself: 0. Refused by 1 to 4.
@@ -241,7 +282,16 @@ pub extern "C" fn sb_linked<'a>(
 ) -> Value
     ensures { LinkedContract n a b (lent links.now numbers.now order.now) result }
 {
-    queries::radios::linked(n, a, b, links, numbers, order)
+    Value::from(radios::linked(
+        &Lent {
+            radios: n,
+            links,
+            numbers,
+            order,
+        },
+        a,
+        b,
+    ))
 }
 
 // Which of a and b stands first in the order; the same radio twice: that radio. Refused by 1 to 4.
@@ -256,7 +306,16 @@ pub extern "C" fn sb_first<'a>(
 ) -> Value
     ensures { FirstContract n a b (lent links.now numbers.now order.now) result }
 {
-    queries::radios::first(n, a, b, links, numbers, order)
+    Value::from(radios::first(
+        &Lent {
+            radios: n,
+            links,
+            numbers,
+            order,
+        },
+        a,
+        b,
+    ))
 }
 
 // How many neighbours of radio v stand after it in the order, and the first of them, 65,535 when there are none. Refused by 1 to 4:
@@ -271,7 +330,15 @@ pub extern "C" fn sb_later_of<'a>(
 ) -> Later
     ensures { LaterContract n v (lent links.now numbers.now order.now) result }
 {
-    soundness::wake::later_of(n, v, links, numbers, order)
+    Later::from(wake::later_of(
+        &Lent {
+            radios: n,
+            links,
+            numbers,
+            order,
+        },
+        v,
+    ))
 }
 
 // The first pair, by lower radio and then higher, whose link is down, would be taken up now, and would raise the number of radio v.
@@ -286,7 +353,15 @@ pub extern "C" fn sb_lift<'a>(
 ) -> Pair
     ensures { LiftContract n v (lent links.now numbers.now order.now) result }
 {
-    lift::lift(n, v, links, numbers, order)
+    Pair::from(lift::lift(
+        &Lent {
+            radios: n,
+            links,
+            numbers,
+            order,
+        },
+        v,
+    ))
 }
 
 // The connected core of v at level k: the count, and the radios ascending in front of the answer table. Refused by 1 to 4 and 8:
@@ -303,7 +378,17 @@ pub extern "C" fn sb_core<'a>(
 ) -> Value
     ensures { CoreContract n v k (lent links.now numbers.now order.now) answer.old result answer.new }
 {
-    queries::cores::core(n, v, k, links, numbers, order, answer)
+    Value::from(cores::core(
+        &Lent {
+            radios: n,
+            links,
+            numbers,
+            order,
+        },
+        v,
+        k,
+        answer,
+    ))
 }
 
 // The backbone, part by part: the count, and the radios ascending in front of the answer table. Refused by 1 to 3: then the
@@ -318,7 +403,15 @@ pub extern "C" fn sb_backbone<'a>(
 ) -> Value
     ensures { BackboneContract n (lent links.now numbers.now order.now) answer.old result answer.new }
 {
-    backbone::backbone(n, links, numbers, order, answer)
+    Value::from(backbone::backbone(
+        &Lent {
+            radios: n,
+            links,
+            numbers,
+            order,
+        },
+        answer,
+    ))
 }
 
 // The shell tree: the count of nodes, the root with them. The nodes stand by level and then name in front of the list of nodes,
@@ -336,23 +429,16 @@ pub extern "C" fn sb_tree<'a, 's, 't>(
     ensures { TreeContract n (lent links.now numbers.now order.now) nodes.old answer.old result
         nodes.new answer.new }
 {
-    let mut names = [0u16; PLACES];
-    let mut levels = [0u16; PLACES];
-    let mut parents = [0u16; PLACES];
-    let reply = tree::levels::shell_tree(
-        n,
-        links,
-        numbers,
-        order,
-        nodes.len(),
-        &mut names,
-        &mut levels,
-        &mut parents,
+    Value::from(tree::levels::shell_tree(
+        &Lent {
+            radios: n,
+            links,
+            numbers,
+            order,
+        },
+        nodes,
         answer,
-    );
-    let count = reply.value as usize;
-    nodes::fill(nodes, &names, &levels, &parents, count);
-    reply
+    ))
 }
 
 // The staircase tree: the count of the kept links, and the links in front of the table, which must have 2 n entries, two entries each,
@@ -367,7 +453,15 @@ pub extern "C" fn sb_staircase<'a>(
 ) -> Value
     ensures { StaircaseContract n (lent links.now numbers.now order.now) table.old result table.new }
 {
-    staircase::staircase(n, links, numbers, order, table)
+    Value::from(staircase::staircase(
+        &Lent {
+            radios: n,
+            links,
+            numbers,
+            order,
+        },
+        table,
+    ))
 }
 
 // Writes the site's image in front of the buffer: the value is its length in bytes, and bytes past it keep their content. Refused
@@ -382,7 +476,15 @@ pub extern "C" fn sb_image_write(
 ) -> Value
     ensures { WriteContract n (lent links.now numbers.now order.now) buffer.old result buffer.new }
 {
-    image_writer::writer::write(n, links, numbers, order, buffer)
+    Value::from(image_writer::writer::write(
+        &Lent {
+            radios: n,
+            links,
+            numbers,
+            order,
+        },
+        buffer,
+    ))
 }
 
 // Writes the site sheet in front of the page, in lines of 64 columns and a line feed: the value is its length in bytes, and bytes past it
@@ -397,7 +499,15 @@ pub extern "C" fn sb_sheet(
 ) -> Value
     ensures { SheetContract n (lent links.now numbers.now order.now) page.old result page.new }
 {
-    sheet::sheet(n, links, numbers, order, page)
+    Value::from(sheet::sheet(
+        &Lent {
+            radios: n,
+            links,
+            numbers,
+            order,
+        },
+        page,
+    ))
 }
 
 // The length in bytes of the script that rebuilds the site. Refused by 1 to 3: then the value is 0.
@@ -405,7 +515,12 @@ pub extern "C" fn sb_sheet(
 pub extern "C" fn sb_script_length(n: u32, links: &[u8], numbers: &[u8], order: &[u16]) -> Value
     ensures { ScriptLengthContract n (lent links.now numbers.now order.now) result }
 {
-    writer::length(n, links, numbers, order)
+    Value::from(writer::length(&Lent {
+        radios: n,
+        links,
+        numbers,
+        order,
+    }))
 }
 
 // Writes the script that rebuilds the site in front of the text buffer: the value is its length in bytes, and bytes past it keep their
@@ -420,7 +535,15 @@ pub extern "C" fn sb_script_write(
 ) -> Value
     ensures { ScriptContract n (lent links.now numbers.now order.now) text.old result text.new }
 {
-    writer::write(n, links, numbers, order, text)
+    Value::from(writer::write(
+        &Lent {
+            radios: n,
+            links,
+            numbers,
+            order,
+        },
+        text,
+    ))
 }
 
 // Reads an image of n radios into the tables: links and order as the image lists them, the numbers worked out. Refused by 1, 2,
@@ -436,7 +559,7 @@ pub extern "C" fn sb_image_read(
     ensures { ReadContract n image.now (lent links.old numbers.old order.old) result
         (lent links.new numbers.new order.new) }
 {
-    image_reader::reader::read(n, links, numbers, order, image)
+    calls::number(image_reader::reader::read(n, links, numbers, order, image))
 }
 
 // Sets the mark of the name in the store: the image of the tables, in place of a mark of that name. Refused by 1, 2, 3, 17 and 19: then
@@ -453,7 +576,16 @@ pub extern "C" fn sb_mark_set(
     ensures { SetContract n name.now (lent links.now numbers.now order.now) store.old result
         store.new }
 {
-    marks::set(n, links, numbers, order, name, store)
+    calls::number(marks::set(
+        &Lent {
+            radios: n,
+            links,
+            numbers,
+            order,
+        },
+        name,
+        store,
+    ))
 }
 
 // Removes the mark of the name from the store: its place serves another. Refused by 1, 2, 3, 17 and 18: then the store keeps its
@@ -470,7 +602,16 @@ pub extern "C" fn sb_mark_remove(
     ensures { RemoveContract n name.now (lent links.now numbers.now order.now) store.old result
         store.new }
 {
-    marks::remove(n, links, numbers, order, name, store)
+    calls::number(marks::remove(
+        &Lent {
+            radios: n,
+            links,
+            numbers,
+            order,
+        },
+        name,
+        store,
+    ))
 }
 
 // Comes back to the mark of the name: links, numbers and order as they were when it was set. Refused by 1, 2, 3, 17 and 18: then every
@@ -487,7 +628,7 @@ pub extern "C" fn sb_mark_return(
     ensures { ReturnContract n name.now store.now (lent links.old numbers.old order.old) result
         (lent links.new numbers.new order.new) }
 {
-    marks::come_back(n, links, numbers, order, name, store)
+    calls::number(marks::come_back(n, links, numbers, order, name, store))
 }
 
 // A step of the block reader whose next block is `next`: where the payload lies in the image, and the number of the next block;

@@ -1,9 +1,49 @@
 // Tables of both widths, the 8-bit numbers and the 16-bit lists: filled, copied, compared, and lists written in front.
 // Nothing is refused: of what does not fit, as much is written as fits.
-ghost use Rattle.std.specs.Prelude.{◌≡◌};
+ghost use Rattle.std.specs.Prelude.{◌≡◌, ◌↔◌, IsTrue};
 ghost use Rattle.lists.specs.Kit.{ℕ, min, length, take, replicate, set};
-ghost use Rattle.lists.specs.Lists.{same, overwrite};
+ghost use Rattle.lists.specs.Lists.{overwrite};
 ghost use Rattle.tables.specs.Widths.{values};
+
+// An entry of a table. It can be written and compared, whatever its width; what is said of tables of entries is said once. The trait is
+// our own: the program that is exported has no code but its own, and `Copy` and `PartialEq` would bring std's into it.
+pub trait Entry {
+    // The entry is the other's value after.
+    fn set(&mut self, other: &Self)
+        ensures { self.new ≡ other.now };
+
+    // Whether the entry has the other's value.
+    fn is(&self, other: &Self) -> bool
+        ensures { IsTrue result ↔ (self.now ≡ other.now) };
+}
+
+impl Entry for u8 {
+    fn set(&mut self, other: &Self)
+        ensures { self.new ≡ other.now }
+    {
+        *self = *other;
+    }
+
+    fn is(&self, other: &Self) -> bool
+        ensures { IsTrue result ↔ (self.now ≡ other.now) }
+    {
+        *self == *other
+    }
+}
+
+impl Entry for u16 {
+    fn set(&mut self, other: &Self)
+        ensures { self.new ≡ other.now }
+    {
+        *self = *other;
+    }
+
+    fn is(&self, other: &Self) -> bool
+        ensures { IsTrue result ↔ (self.now ≡ other.now) }
+    {
+        *self == *other
+    }
+}
 
 // The smaller of two lengths.
 pub fn least(a: usize, b: usize) -> usize
@@ -12,25 +52,12 @@ pub fn least(a: usize, b: usize) -> usize
     if a < b { a } else { b }
 }
 
-// Every 8-bit entry of d is x after.
-pub fn fill8(d: &mut [u8], x: u8)
-    ensures { d.new ≡ replicate (length d.old) x }
+// Every entry of d is x after.
+pub fn fill<T: Entry>(d: &mut [T], x: &T)
+    ensures { d.new ≡ replicate (length d.old) x.now }
 {
-    let mut i: usize = 0;
-    while i < d.len() {
-        d[i] = x;
-        i += 1;
-    }
-}
-
-// Every 16-bit entry of d is x after.
-pub fn fill16(d: &mut [u16], x: u16)
-    ensures { d.new ≡ replicate (length d.old) x }
-{
-    let mut i: usize = 0;
-    while i < d.len() {
-        d[i] = x;
-        i += 1;
+    for y in d.iter_mut() {
+        y.set(x);
     }
 }
 
@@ -38,67 +65,32 @@ pub fn fill16(d: &mut [u16], x: u16)
 pub fn index16(d: &mut [u16])
     ensures { d.new ≡ values 16 (λ (i : ℕ). i) (length d.old) }
 {
-    let mut v: usize = 0;
-    while v < d.len() {
+    for v in 0..d.len() {
         d[v] = (v % 65536) as u16;
-        v += 1;
     }
 }
 
-// The 8-bit entries of s stand in front of d after, as many as fit; later entries of d keep their content.
-pub fn copy8(d: &mut [u8], s: &[u8])
+// The entries of s stand in front of d after, as many as fit; later entries of d keep their content.
+pub fn copy<T: Entry>(d: &mut [T], s: &[T])
     ensures { d.new ≡ overwrite (take (length d.old) s.now) d.old }
 {
     let k = least(d.len(), s.len());
-    let mut i: usize = 0;
-    while i < k {
-        d[i] = s[i];
-        i += 1;
+    for i in 0..k {
+        d[i].set(&s[i]);
     }
 }
 
-// The 16-bit entries of s stand in front of d after, as many as fit; later entries of d keep their content.
-pub fn copy16(d: &mut [u16], s: &[u16])
-    ensures { d.new ≡ overwrite (take (length d.old) s.now) d.old }
-{
-    let k = least(d.len(), s.len());
-    let mut i: usize = 0;
-    while i < k {
-        d[i] = s[i];
-        i += 1;
-    }
-}
-
-// Whether both tables have the same 8-bit entries, and as many. It stops at the first difference.
-pub fn same8(a: &[u8], b: &[u8]) -> bool
-    ensures { result ≡ same a.now b.now }
+// Whether both tables have the same entries, and as many. It stops at the first difference.
+pub fn is_same<T: Entry>(a: &[T], b: &[T]) -> bool
+    ensures { IsTrue result ↔ (a.now ≡ b.now) }
 {
     if a.len() != b.len() {
         return false;
     }
-    let mut i: usize = 0;
-    while i < a.len() {
-        if a[i] != b[i] {
+    for i in 0..a.len() {
+        if !a[i].is(&b[i]) {
             return false;
         }
-        i += 1;
-    }
-    true
-}
-
-// Whether both tables have the same 16-bit entries, and as many. It stops at the first difference.
-pub fn same16(a: &[u16], b: &[u16]) -> bool
-    ensures { result ≡ same a.now b.now }
-{
-    if a.len() != b.len() {
-        return false;
-    }
-    let mut i: usize = 0;
-    while i < a.len() {
-        if a[i] != b[i] {
-            return false;
-        }
-        i += 1;
     }
     true
 }

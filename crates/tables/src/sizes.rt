@@ -1,17 +1,18 @@
-// Questions 1 and 2 for every combination of tables that a public call takes. Tables come as their lengths, which may be any;
-// what comes back is the refusal number so far: 1, 2, or 0 when both questions got yes.
+// Questions 1 and 2 for every combination of tables that a public call takes. Tables may have any length; what comes back is the
+// first of the questions that gets "no".
 ghost use Rattle.std.specs.Prelude.{◌≡◌};
-ghost use Rattle.calls.specs.Questions.{size_good, site_lengths, tables_refusal, lent_refusal};
-ghost use Rattle.tables.specs.Sizes.{lengths};
+ghost use Rattle.mesh.specs.Lent.{read_of};
+ghost use Rattle.mesh.specs.Limits.{size_good};
+ghost use Rattle.calls.specs.Answers.{call_number};
+ghost use Rattle.calls.specs.Questions.{lengths_of, site_lengths, tables_refusal, lent_refusal};
 
 use calls::Refusal;
-use mesh::Site;
+use mesh::{Lent, Site};
 
 // Question 1: has the site 1 to 512 radios?
-pub fn is_size(site: Site) -> bool
-    ensures { result ≡ size_good site.radios }
+pub fn is_size(n: u32) -> bool
+    ensures { result ≡ size_good n }
 {
-    let n = site.radios;
     if n < 1 {
         return false;
     }
@@ -19,38 +20,38 @@ pub fn is_size(site: Site) -> bool
 }
 
 // Question 2 of links, numbers and order.
-fn are_lengths(site: Site, links: usize, numbers: usize, order: usize) -> bool
-    ensures { result ≡ site_lengths site.radios (lengths links numbers order) }
+fn are_lengths(t: &Lent) -> bool
+    ensures { result ≡ site_lengths t.now.radios (lengths_of (read_of t.now)) }
 {
-    let n = site.radios as usize;
-    if links != Site::ROW_BYTES * n {
+    let n = t.radios as usize;
+    if t.links.len() != Site::ROW_BYTES * n {
         return false;
     }
-    if numbers != n {
+    if t.numbers.len() != n {
         return false;
     }
-    order == n
+    t.order.len() == n
 }
 
 // Links, numbers and order, where `others` is the answer that question 2 gets for further tables.
-pub fn with_others(site: Site, links: usize, numbers: usize, order: usize, others: bool) -> u32
-    ensures { result ≡ lent_refusal site.radios (lengths links numbers order) others 0 }
+pub fn with_others(t: &Lent, others: bool) -> Result<(), Refusal>
+    ensures { call_number result ≡ lent_refusal t.now.radios (lengths_of (read_of t.now)) others 0 }
 {
-    if !is_size(site) {
-        return Refusal::SIZE;
+    if !is_size(t.radios) {
+        return Err(Refusal::Size);
     }
-    if !are_lengths(site, links, numbers, order) {
-        return Refusal::LENGTH;
+    if !are_lengths(t) {
+        return Err(Refusal::Length);
     }
     if !others {
-        return Refusal::LENGTH;
+        return Err(Refusal::Length);
     }
-    0
+    Ok(())
 }
 
 // Links, numbers and order.
-pub fn of_tables(site: Site, links: usize, numbers: usize, order: usize) -> u32
-    ensures { result ≡ tables_refusal site.radios (lengths links numbers order) }
+pub fn of_tables(t: &Lent) -> Result<(), Refusal>
+    ensures { call_number result ≡ tables_refusal t.now.radios (lengths_of (read_of t.now)) }
 {
-    with_others(site, links, numbers, order, true)
+    with_others(t, true)
 }

@@ -32,9 +32,7 @@ pub fn step_numbers(numbers: &mut [u8], changed: &[u16], k: u32, step: i8)
     ensures { numbers.new ≡ all_stepped (take k changed.now) step numbers.old }
 {
     let m = super::fill::least(k as usize, changed.len());
-    let mut i: usize = 0;
-    while i < m {
+    for i in 0..m {
         step_at(numbers, changed[i] as usize, step);
-        i += 1;
     }
 }

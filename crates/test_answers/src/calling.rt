@@ -2,13 +2,13 @@
 ghost use Rattle.std.specs.Prelude.{◌≤◌};
 ghost use Rattle.mesh.specs.Limits.{max_radios};
 
-use crate::compare;
 use crate::compare::{KEPT, Tally};
-use mesh::Site;
-use queries::backbone;
+use mesh::{Lent, Node, Site};
+use queries::{backbone, cores};
 use std::io;
 use std::io::Read;
 use test_parts::words;
+use tree::levels;
 
 // Two places more than the largest tree needs.
 const PLACES: usize = 515;
@@ -19,127 +19,102 @@ const ANSWER: usize = 2 * PLACES;
 // The bytes of a site's largest links table.
 const LINKS_BYTES: usize = Site::ROW_BYTES * Site::RADIOS as usize;
 
-// A shell tree, with as many places for nodes as the file says beside the places of the three tables.
-fn tree<'a>(
-    file: &mut impl Read,
-    n: u32,
-    links: &'a [u8],
-    numbers: &'a [u8],
-    order: &'a [u16],
-    answer: &mut [u16],
-    t: Tally,
-) -> io::Result<Tally> {
-    let mut names = [KEPT; PLACES];
-    let mut levels = [KEPT; PLACES];
-    let mut parents = [KEPT; PLACES];
-    let room = words::half(file)? as usize;
-    let r = tree::levels::shell_tree(
-        n,
-        links,
-        numbers,
-        order,
-        room,
-        &mut names,
-        &mut levels,
-        &mut parents,
-        answer,
-    );
-    let after = compare::reply(file, r, t)?;
-    let named = compare::entries(file, &names, after)?;
-    let levelled = compare::entries(file, &levels, named)?;
-    let nodes = compare::entries(file, &parents, levelled)?;
-    compare::entries(file, answer, nodes)
+// What a place for a node holds before a call.
+const BLANK: Node = Node {
+    name: KEPT,
+    level: KEPT,
+    parent: KEPT,
+};
+
+// The calls, by the numbers that a file gives them; another number is a core's.
+const TREE: u16 = 1;
+
+const BACKBONE: u16 = 2;
+
+const STAIRCASE: u16 = 4;
+
+// A shell tree, with as many places for nodes as the file says.
+fn tree(file: &mut impl Read, t: &Lent, answer: &mut [u16], tally: &mut Tally) -> io::Result<()> {
+    let mut nodes = [BLANK; PLACES];
+    let room = PLACES.min(words::half(file)? as usize);
+    tally.reply(file, levels::shell_tree(t, &mut nodes[..room], answer))?;
+    tally.entries(file, &nodes.map(|node| node.name))?;
+    tally.entries(file, &nodes.map(|node| node.level))?;
+    tally.entries(file, &nodes.map(|node| node.parent))?;
+    tally.entries(file, answer)
 }
 
 // A backbone.
-fn backbone<'a>(
+fn backbone(
     file: &mut impl Read,
-    n: u32,
-    links: &'a [u8],
-    numbers: &'a [u8],
-    order: &'a [u16],
+    t: &Lent,
     answer: &mut [u16],
-    t: Tally,
-) -> io::Result<Tally> {
-    let r = backbone::backbone(n, links, numbers, order, answer);
-    let after = compare::reply(file, r, t)?;
-    compare::entries(file, answer, after)
+    tally: &mut Tally,
+) -> io::Result<()> {
+    tally.reply(file, backbone::backbone(t, answer))?;
+    tally.entries(file, answer)
 }
 
 // A staircase tree.
-fn staircase<'a>(
+fn staircase(
     file: &mut impl Read,
-    n: u32,
-    links: &'a [u8],
-    numbers: &'a [u8],
-    order: &'a [u16],
+    t: &Lent,
     table: &mut [u16],
-    t: Tally,
-) -> io::Result<Tally> {
-    let r = staircase::staircase(n, links, numbers, order, table);
-    let after = compare::reply(file, r, t)?;
-    compare::entries(file, table, after)
+    tally: &mut Tally,
+) -> io::Result<()> {
+    tally.reply(file, staircase::staircase(t, table))?;
+    tally.entries(file, table)
 }
 
 // A connected core, of the radio and the level that the file names.
-fn core<'a>(
-    file: &mut impl Read,
-    n: u32,
-    links: &'a [u8],
-    numbers: &'a [u8],
-    order: &'a [u16],
-    answer: &mut [u16],
-    t: Tally,
-) -> io::Result<Tally> {
+fn core(file: &mut impl Read, t: &Lent, answer: &mut [u16], tally: &mut Tally) -> io::Result<()> {
     let v = words::half(file)? as u32;
     let k = words::half(file)? as u32;
-    let r = queries::cores::core(n, v, k, links, numbers, order, answer);
-    let after = compare::reply(file, r, t)?;
-    compare::entries(file, answer, after)
+    tally.reply(file, cores::core(t, v, k, answer))?;
+    tally.entries(file, answer)
 }
 
-// One call: its kind, n and the length of its answer table come first.
-fn call<'a>(
+// One call on the tables: its kind, n and the length of its answer table come first.
+fn call(
     file: &mut impl Read,
-    links: &'a [u8],
-    numbers: &'a [u8],
-    order: &'a [u16],
+    links: &[u8],
+    numbers: &[u8],
+    order: &[u16],
     answer: &mut [u16],
-    t: Tally,
-) -> io::Result<Tally> {
+    tally: &mut Tally,
+) -> io::Result<()> {
     let kind = words::half(file)?;
-    let n = words::half(file)? as u32;
-    let w = tables::fill::least(words::half(file)? as usize, answer.len());
-    tables::fill::fill16(answer, KEPT);
-    if kind == 1 {
-        return tree(file, n, links, numbers, order, &mut answer[..w], t);
+    let lent = Lent {
+        radios: words::half(file)? as u32,
+        links,
+        numbers,
+        order,
+    };
+    let w = answer.len().min(words::half(file)? as usize);
+    answer.fill(KEPT);
+    let front = &mut answer[..w];
+    match kind {
+        TREE => tree(file, &lent, front, tally),
+        BACKBONE => backbone(file, &lent, front, tally),
+        STAIRCASE => staircase(file, &lent, front, tally),
+        _ => core(file, &lent, front, tally),
     }
-    if kind == 2 {
-        return backbone(file, n, links, numbers, order, &mut answer[..w], t);
-    }
-    if kind == 4 {
-        return staircase(file, n, links, numbers, order, &mut answer[..w], t);
-    }
-    core(file, n, links, numbers, order, &mut answer[..w], t)
 }
 
 // As many calls as the file says.
-fn calls<'a>(
+fn calls(
     file: &mut impl Read,
-    links: &'a [u8],
-    numbers: &'a [u8],
-    order: &'a [u16],
+    links: &[u8],
+    numbers: &[u8],
+    order: &[u16],
     answer: &mut [u16],
-    t: Tally,
-) -> io::Result<Tally> {
+    tally: &mut Tally,
+) -> io::Result<()> {
     let count = words::half(file)?;
-    let mut u = t;
-    let mut i: u16 = 0;
-    while i < count {
-        u = call(file, links, numbers, order, answer, u)?;
-        i += 1;
+    for _ in 0..count {
+        call(file, links, numbers, order, answer, tally)?;
     }
-    Ok(u)
+    Ok(())
 }
 
 // Clears the site and takes up each link that the file lists, after their count.
@@ -151,14 +126,12 @@ fn link_all(
     order: &mut [u16],
     answer: &mut [u16],
 ) -> io::Result<()> {
-    tables::clear::clear(n, links, numbers, order);
+    let _ = tables::clear::clear(n, links, numbers, order);
     let count = words::half(file)?;
-    let mut i: u16 = 0;
-    while i < count {
+    for _ in 0..count {
         let a = words::half(file)? as u32;
         let b = words::half(file)? as u32;
-        links::link::link(true, n, a, b, links, numbers, order, answer);
-        i += 1;
+        let _ = links::link::link(true, n, a, b, links, numbers, order, answer);
     }
     Ok(())
 }
@@ -172,15 +145,12 @@ fn play(
     order: &mut [u16],
     answer: &mut [u16],
 ) -> io::Result<Tally> {
-    let none = Tally {
-        calls: 0,
-        compared: 0,
-        wrong: 0,
-    };
+    let mut tally = Tally::none();
     link_all(file, n, links, numbers, order, answer)?;
-    let sound = calls(file, links, numbers, order, answer, none)?;
-    tables::fill::fill8(numbers, 255);
-    calls(file, links, numbers, order, answer, sound)
+    calls(file, links, numbers, order, answer, &mut tally)?;
+    numbers.fill(255);
+    calls(file, links, numbers, order, answer, &mut tally)?;
+    Ok(tally)
 }
 
 // The site of n radios, whose tables are parts of the largest ones.
@@ -203,14 +173,13 @@ fn cut(file: &mut impl Read, n: u32) -> io::Result<Tally>
     )
 }
 
-// The site that the file has.
+// The site that the file has. One that is too large is wrong.
 pub fn site(file: &mut impl Read) -> io::Result<Tally> {
     let n = words::half(file)? as u32;
     if n > Site::RADIOS {
         return Ok(Tally {
-            calls: 0,
-            compared: 0,
             wrong: 1,
+            ..Tally::none()
         });
     }
     cut(file, n)

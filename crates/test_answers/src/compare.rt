@@ -1,5 +1,5 @@
 // What came back, value by value, against the words of the file.
-use calls::Value;
+use calls::{Refusal, Value};
 use std::io;
 use std::io::Read;
 use test_parts::words;
@@ -15,48 +15,37 @@ pub struct Tally {
     pub wrong: u64,
 }
 
-// One value more.
-fn counted(t: Tally, x: u16, y: u16) -> Tally {
-    let compared = std::num::wrapping_add_u64(t.compared, 1);
-    let mut wrong = t.wrong;
-    if x != y {
-        wrong = std::num::wrapping_add_u64(t.wrong, 1);
+impl Tally {
+    pub fn none() -> Self {
+        Self {
+            calls: 0,
+            compared: 0,
+            wrong: 0,
+        }
     }
-    Tally {
-        calls: t.calls,
-        compared,
-        wrong,
-    }
-}
 
-// The word owed for entry i of a list of `count`: later entries keep their content.
-fn owed(file: &mut impl Read, i: usize, count: u16) -> io::Result<u16> {
-    if i < count as usize {
-        return words::half(file);
+    // One value more.
+    fn value(&mut self, x: u16, y: u16) {
+        self.compared = self.compared.wrapping_add(1);
+        self.wrong = self.wrong.wrapping_add((x != y) as u64);
     }
-    Ok(KEPT)
-}
 
-// A call's number and value.
-pub fn reply(file: &mut impl Read, r: Value, t: Tally) -> io::Result<Tally> {
-    let calls = std::num::wrapping_add_u64(t.calls, 1);
-    let started = Tally {
-        calls,
-        compared: t.compared,
-        wrong: t.wrong,
-    };
-    let number = counted(started, (r.number % 65536) as u16, words::half(file)?);
-    Ok(counted(number, (r.value % 65536) as u16, words::half(file)?))
-}
-
-// Every entry of a list, whose first ones, after their count, are in the file.
-pub fn entries(file: &mut impl Read, list: &[u16], t: Tally) -> io::Result<Tally> {
-    let count = words::half(file)?;
-    let mut u = t;
-    let mut i: usize = 0;
-    while i < list.len() {
-        u = counted(u, list[i], owed(file, i, count)?);
-        i += 1;
+    // A call's number and value.
+    pub fn reply(&mut self, file: &mut impl Read, answer: Result<u32, Refusal>) -> io::Result<()> {
+        let r = Value::from(answer);
+        self.calls = self.calls.wrapping_add(1);
+        self.value((r.number % 65536) as u16, words::half(file)?);
+        self.value((r.value % 65536) as u16, words::half(file)?);
+        Ok(())
     }
-    Ok(u)
+
+    // Every entry of a list, whose first ones, after their count, are in the file: later entries keep their content.
+    pub fn entries(&mut self, file: &mut impl Read, list: &[u16]) -> io::Result<()> {
+        let count = words::half(file)? as usize;
+        for (i, x) in list.iter().enumerate() {
+            let owed = if i < count { words::half(file)? } else { KEPT };
+            self.value(*x, owed);
+        }
+        Ok(())
+    }
 }

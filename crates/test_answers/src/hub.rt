@@ -3,18 +3,26 @@ ghost use Rattle.std.specs.Prelude.{◌≤◌};
 ghost use Rattle.mesh.specs.Limits.{max_radios};
 
 use crate::compare::KEPT;
-use calls::Value;
-use mesh::Site;
+use calls::{Refusal, Reply, Value};
+use mesh::{Lent, Node, Site};
 use queries::backbone;
 use std::io;
 use std::io::Read;
 use test_parts::{digest, words};
+use tree::levels;
 
 // The bytes of a site's largest links table.
 const LINKS_BYTES: usize = Site::ROW_BYTES * Site::RADIOS as usize;
 
 // How many nodes the largest shell tree has.
 const NODES: usize = Site::RADIOS as usize + 1;
+
+// What a place for a node holds before a call.
+const BLANK: Node = Node {
+    name: KEPT,
+    level: KEPT,
+    parent: KEPT,
+};
 
 // How many calls were made, the sum of their refusal numbers, and the digests.
 #[derive(Clone, Copy)]
@@ -30,65 +38,47 @@ pub struct Hub {
 }
 
 // A call's number and value.
-fn reply(r: Value) -> u64 {
+fn reply(answer: Result<u32, Refusal>) -> u64 {
+    let r = Value::from(answer);
     digest::mixed(digest::mixed(0, r.number as u64), r.value as u64)
 }
 
 // The shell tree: its nodes, and each radio's node name.
-fn tree<'a>(n: u32, links: &'a [u8], numbers: &'a [u8], order: &'a [u16]) -> u64 {
-    let mut names = [KEPT; NODES];
-    let mut levels = [KEPT; NODES];
-    let mut parents = [KEPT; NODES];
+fn tree(t: &Lent) -> u64 {
+    let mut nodes = [BLANK; NODES];
     let mut answer = [KEPT; NODES];
-    let r = tree::levels::shell_tree(
-        n,
-        links,
-        numbers,
-        order,
-        NODES,
-        &mut names,
-        &mut levels,
-        &mut parents,
-        &mut answer,
-    );
-    let d = digest::entries(reply(r), &names);
-    let e = digest::entries(d, &levels);
-    let f = digest::entries(e, &parents);
-    digest::entries(f, &answer)
+    let d = reply(levels::shell_tree(t, &mut nodes, &mut answer));
+    let e = digest::of(d, &nodes.map(|node| node.name));
+    let f = digest::of(e, &nodes.map(|node| node.level));
+    let g = digest::of(f, &nodes.map(|node| node.parent));
+    digest::of(g, &answer)
 }
 
 // The backbone.
-fn backbone<'a>(n: u32, links: &'a [u8], numbers: &'a [u8], order: &'a [u16]) -> u64 {
+fn backbone(t: &Lent) -> u64 {
     let mut answer = [KEPT; NODES];
-    let r = backbone::backbone(n, links, numbers, order, &mut answer);
-    digest::entries(reply(r), &answer)
+    let d = reply(backbone::backbone(t, &mut answer));
+    digest::of(d, &answer)
 }
 
 // The staircase tree.
-fn staircase<'a>(n: u32, links: &'a [u8], numbers: &'a [u8], order: &'a [u16]) -> u64 {
+fn staircase(t: &Lent) -> u64 {
     let mut table = [KEPT; 2 * NODES];
-    let r = staircase::staircase(n, links, numbers, order, &mut table);
-    digest::entries(reply(r), &table)
+    let d = reply(staircase::staircase(t, &mut table));
+    digest::of(d, &table)
 }
 
 // What a hub holds and answers.
-fn held<'a>(
-    n: u32,
-    links: &'a [u8],
-    numbers: &'a [u8],
-    order: &'a [u16],
-    calls: u64,
-    refusals: u64,
-) -> Hub {
+fn held(t: &Lent, calls: u64, refusals: u64) -> Hub {
     Hub {
         calls,
         refusals,
-        links: digest::bytes(0, links),
-        numbers: digest::bytes(0, numbers),
-        tree: tree(n, links, numbers, order),
-        backbone: backbone(n, links, numbers, order),
-        staircase: staircase(n, links, numbers, order),
-        order: digest::entries(0, order),
+        links: digest::of(0, t.links),
+        numbers: digest::of(0, t.numbers),
+        tree: tree(t),
+        backbone: backbone(t),
+        staircase: staircase(t),
+        order: digest::of(0, t.order),
     }
 }
 
@@ -103,14 +93,12 @@ fn play(
     answer: &mut [u16],
 ) -> io::Result<u64> {
     let mut refusals: u64 = 0;
-    let mut i: u16 = 0;
-    while i < count {
+    for _ in 0..count {
         let up = words::half(file)? == 1;
         let a = words::half(file)? as u32;
         let b = words::half(file)? as u32;
-        let r = links::link::link(up, n, a, b, links, numbers, order, answer);
-        refusals = std::num::wrapping_add_u64(refusals, r.number as u64);
-        i += 1;
+        let change = links::link::link(up, n, a, b, links, numbers, order, answer);
+        refusals = refusals.wrapping_add(Reply::from(change).number as u64);
     }
     Ok(refusals)
 }
@@ -125,9 +113,15 @@ fn taken(
     answer: &mut [u16],
 ) -> io::Result<Hub> {
     let count = words::half(file)?;
-    tables::clear::clear(n, links, numbers, order);
+    let _ = tables::clear::clear(n, links, numbers, order);
     let refusals = play(file, count, n, links, numbers, order, answer)?;
-    Ok(held(n, links, numbers, order, count as u64, refusals))
+    let lent = Lent {
+        radios: n,
+        links,
+        numbers,
+        order,
+    };
+    Ok(held(&lent, count as u64, refusals))
 }
 
 // The site of n radios, whose tables are parts of the largest ones.
@@ -152,8 +146,5 @@ fn cut(file: &mut impl Read, n: u32) -> io::Result<Hub>
 
 // The next hub of the file; the largest site where n is too large.
 pub fn next(file: &mut impl Read, n: u32) -> io::Result<Hub> {
-    if n > Site::RADIOS {
-        return cut(file, Site::RADIOS);
-    }
-    cut(file, n)
+    cut(file, n.min(Site::RADIOS))
 }

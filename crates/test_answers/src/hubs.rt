@@ -12,28 +12,23 @@ use test_parts::{say, words};
 
 // What is held, at the end of a line.
 fn say_held(rt: &impl Print, h: Hub) -> io::Result<()> {
-    say::number(rt, b" links", h.links)?;
-    say::number(rt, b" numbers", h.numbers)?;
-    say::number(rt, b" tree", h.tree)?;
-    say::number(rt, b" backbone", h.backbone)?;
-    say::number(rt, b" staircase", h.staircase)?;
-    say::line(rt, b" order", h.order)
+    print!(rt; " links {} numbers {} tree {}", h.links, h.numbers, h.tree)?;
+    println!(rt;
+        " backbone {} staircase {} order {}",
+        h.backbone, h.staircase, h.order
+    )
 }
 
 // A hub's line.
 fn line(rt: &impl Print, name: &Name, h: Hub) -> io::Result<()> {
     say::name(rt, name)?;
-    say::number(rt, b" calls", h.calls)?;
-    say::number(rt, b" refusals", h.refusals)?;
+    print!(rt; " calls {} refusals {}", h.calls, h.refusals)?;
     say_held(rt, h)
 }
 
 // 1 when they are equal, 0 when not.
 fn equal(x: u64, y: u64) -> u64 {
-    if x == y {
-        return 1;
-    }
-    0
+    (x == y) as u64
 }
 
 // Which counts and digests of two hubs are equal.
@@ -53,7 +48,7 @@ fn equals(one: Hub, other: Hub) -> Hub {
 // Which digests of two hubs are equal.
 fn compared(rt: &impl Print, name: &Name, one: Hub, other: Hub) -> io::Result<()> {
     say::name(rt, name)?;
-    say::text(rt, b" equal:")?;
+    print!(rt; " equal:")?;
     say_held(rt, equals(one, other))
 }
 
@@ -71,7 +66,7 @@ fn case(rt: &impl Print, file: &mut impl Read) -> io::Result<()> {
 // All cases of the file, after their count.
 pub fn play(rt: &impl Print, file: &mut impl Read) -> io::Result<()> {
     let count = words::half(file)?;
-    for i in 0..count {
+    for _ in 0..count {
         case(rt, file)?;
     }
     Ok(())

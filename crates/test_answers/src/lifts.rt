@@ -5,16 +5,12 @@ use crate::asking;
 use crate::tally::Tally;
 use std::io;
 use std::rt::Files;
-use test_parts::{files, say};
+use test_parts::files;
 
 // A file's line.
 fn line(rt: &impl Print, path: &str, t: Tally) -> io::Result<()> {
-    say::text(rt, path.as_bytes())?;
-    say::number(rt, b" sites", t.sites)?;
-    say::number(rt, b" asked", t.asked)?;
-    say::number(rt, b" pairs", t.pairs)?;
-    say::number(rt, b" none", t.none)?;
-    say::line(rt, b" digest", t.digest)
+    print!(rt; "{path} sites {} asked {}", t.sites, t.asked)?;
+    println!(rt; " pairs {} none {} digest {}", t.pairs, t.none, t.digest)
 }
 
 // One file.

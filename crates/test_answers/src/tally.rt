@@ -1,5 +1,5 @@
 // What is added up over the answers of a file.
-use calls::{Pair, Refusal};
+use calls::{Ends, Pair, Refusal};
 use test_parts::digest;
 
 // How many sites there were, for how many radios was asked, how many of them have a pair, how many none, and the digest of the answers.
@@ -12,47 +12,34 @@ pub struct Tally {
     pub digest: u64,
 }
 
-pub fn nothing() -> Tally {
-    Tally {
-        sites: 0,
-        asked: 0,
-        pairs: 0,
-        none: 0,
-        digest: 0,
-    }
-}
-
 // The digest h with one more value.
 fn mixed(h: u64, x: u32) -> u64 {
     digest::mixed(h, x as u64)
 }
 
-// One more where the test says so.
-fn counted(x: u64, yes: bool) -> u64 {
-    if yes {
-        return std::num::wrapping_add_u64(x, 1);
+impl Tally {
+    pub fn none() -> Self {
+        Self {
+            sites: 0,
+            asked: 0,
+            pairs: 0,
+            none: 0,
+            digest: 0,
+        }
     }
-    x
-}
 
-// One more site where it is a new one.
-pub fn site(t: Tally, fresh: bool) -> Tally {
-    Tally {
-        sites: counted(t.sites, fresh),
-        asked: t.asked,
-        pairs: t.pairs,
-        none: t.none,
-        digest: t.digest,
+    // One more site where it is a new one.
+    pub fn site(&mut self, fresh: bool) {
+        self.sites = self.sites.wrapping_add(fresh as u64);
     }
-}
 
-// One more answer.
-pub fn answer(t: Tally, r: Pair) -> Tally {
-    Tally {
-        sites: t.sites,
-        asked: counted(t.asked, true),
-        pairs: counted(t.pairs, r.number == 0),
-        none: counted(t.none, r.number == Refusal::NO_LIFT),
-        digest: mixed(mixed(mixed(t.digest, r.number), r.low), r.high),
+    // One more answer.
+    pub fn answer(&mut self, answer: Result<Ends, Refusal>) {
+        let r = Pair::from(answer);
+        let none = r.number == u32::from(Refusal::NoLift);
+        self.asked = self.asked.wrapping_add(1);
+        self.pairs = self.pairs.wrapping_add((r.number == 0) as u64);
+        self.none = self.none.wrapping_add(none as u64);
+        self.digest = mixed(mixed(mixed(self.digest, r.number), r.low), r.high);
     }
 }

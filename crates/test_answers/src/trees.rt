@@ -11,15 +11,16 @@ use test_parts::{say, words};
 fn site(rt: &impl Print, file: &mut impl Read) -> io::Result<()> {
     say::next_name(rt, file)?;
     let t = calling::site(file)?;
-    say::number(rt, b" calls", t.calls)?;
-    say::number(rt, b" compared", t.compared)?;
-    say::line(rt, b" wrong", t.wrong)
+    println!(rt;
+        " calls {} compared {} wrong {}",
+        t.calls, t.compared, t.wrong
+    )
 }
 
 // All sites of the file, after their count.
 pub fn play(rt: &impl Print, file: &mut impl Read) -> io::Result<()> {
     let count = words::half(file)?;
-    for i in 0..count {
+    for _ in 0..count {
         site(rt, file)?;
     }
     Ok(())

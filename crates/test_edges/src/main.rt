@@ -8,19 +8,20 @@ mod pictures;
 mod say;
 mod site;
 
+use site::Shape;
 use std::io;
 
 fn main(rt: HostRuntime) -> io::Result<()> {
-    site::none(&rt, 0)?;
-    site::none(&rt, 1)?;
-    site::none(&rt, 252)?;
-    site::none(&rt, 253)?;
-    site::none(&rt, 512)?;
-    site::none(&rt, 513)?;
-    site::line(&rt, 126)?;
-    site::line(&rt, 127)?;
-    site::all(&rt, 33)?;
-    site::all(&rt, 41)?;
-    site::all(&rt, 42)?;
+    site::run(&rt, Shape::Alone, 0)?;
+    site::run(&rt, Shape::Alone, 1)?;
+    site::run(&rt, Shape::Alone, 252)?;
+    site::run(&rt, Shape::Alone, 253)?;
+    site::run(&rt, Shape::Alone, 512)?;
+    site::run(&rt, Shape::Alone, 513)?;
+    site::run(&rt, Shape::Line, 126)?;
+    site::run(&rt, Shape::Line, 127)?;
+    site::run(&rt, Shape::All, 33)?;
+    site::run(&rt, Shape::All, 41)?;
+    site::run(&rt, Shape::All, 42)?;
     pictures::canary(&rt)
 }

@@ -11,50 +11,28 @@ mod picking;
 mod play;
 mod trouble;
 
-use picking::Plan;
+use picking::{Groups, Kind, Plan};
+use play::Counts;
 use std::io;
-use test_parts::say;
-
-fn end_line(rt: &impl Print) -> io::Result<()> {
-    say::text(rt, b"\n")
-}
 
 // Prints a line: a name, a number, then the counts.
-fn line(rt: &impl Print, name: &[u8], n: u32, counts: &play::Counts) -> io::Result<()> {
-    say::text(rt, name)?;
-    say::field(rt, n as u64)?;
-    let mut i: usize = 0;
-    while i < play::KINDS {
-        say::field(rt, counts[i])?;
-        i += 1;
+fn line(rt: &impl Print, name: &str, n: u32, counts: &Counts) -> io::Result<()> {
+    print!(rt; "{name} {n}")?;
+    for x in counts.answers {
+        print!(rt; " {x}")?;
     }
-    end_line(rt)
+    println!(rt;
+        " {} {} {} {}",
+        counts.changed, counts.calls, counts.different, counts.canaries
+    )
 }
 
-// Adds a history's counts to the sums of all.
-fn add_up(counts: &play::Counts, sums: &mut play::Counts) {
-    let mut i: usize = 0;
-    while i < play::KINDS {
-        let more = counts[i] % 4294967296;
-        play::count(sums, i, more as u32);
-        i += 1;
-    }
-}
-
-// Plays a history and prints its counts.
-fn history(rt: &impl Print, name: &[u8], plan: Plan, sums: &mut play::Counts) -> io::Result<()> {
-    let mut counts = [0u64; play::KINDS];
-    play::play(plan, &mut counts);
+// Plays a history and prints its counts, which are added to the sums of all.
+fn history(rt: &impl Print, name: &str, plan: Plan, sums: &mut Counts) -> io::Result<()> {
+    let counts = play::play(plan);
     line(rt, name, plan.n, &counts)?;
-    add_up(&counts, sums);
+    sums.add(&counts);
     Ok(())
-}
-
-fn least(x: u32, y: u32) -> u32 {
-    if x < y {
-        return x;
-    }
-    y
 }
 
 // The three histories of n radios. Sparse: about as many links go down as up, and four neighbours are enough. Dense: many links among
@@ -66,48 +44,36 @@ fn site(
     calls: u32,
     m: u32,
     pairs: u32,
-    sums: &mut play::Counts,
+    sums: &mut Counts,
 ) -> io::Result<()> {
     let sparse = Plan {
-        pairs: 0,
-        group: 0,
-        reach: 0,
+        kind: Kind::Random { most: 4, ups: 10 },
         n,
         m: n,
-        most: 4,
-        ups: 10,
         calls,
         seed: 88172645463325252,
     };
-    history(rt, b"sparse", sparse, sums)?;
+    history(rt, "sparse", sparse, sums)?;
     let dense = Plan {
-        pairs: 0,
-        group: 0,
-        reach: 0,
+        kind: Kind::Random { most: 48, ups: 14 },
         n,
-        m: least(n, 48),
-        most: 48,
-        ups: 14,
+        m: n.min(48),
         calls,
         seed: 362436069521288629,
     };
-    history(rt, b"dense", dense, sums)?;
+    history(rt, "dense", dense, sums)?;
     let clique = Plan {
-        pairs,
-        group: 0,
-        reach: 0,
+        kind: Kind::Clique { pairs },
         n,
         m,
-        most: 0,
-        ups: 0,
-        calls: std::num::wrapping_add_u32(pairs, pairs),
+        calls: pairs.wrapping_mul(2),
         seed: 123456789123456789,
     };
-    history(rt, b"clique", clique, sums)
+    history(rt, "clique", clique, sums)
 }
 
 // The sites, with how many calls are made, of how many radios the clique is, and how many pairs are asked for.
-fn sites(rt: &impl Print, sums: &mut play::Counts) -> io::Result<()> {
+fn sites(rt: &impl Print, sums: &mut Counts) -> io::Result<()> {
     site(rt, 1, 500, 1, 1, sums)?;
     site(rt, 2, 1000, 2, 4, sums)?;
     site(rt, 41, 1800, 41, 1681, sums)?;
@@ -120,42 +86,40 @@ fn sites(rt: &impl Print, sums: &mut play::Counts) -> io::Result<()> {
 // A history of n radios in groups, asked for n times the reach pairs, both ways, with 200 links from the first in the order to others after.
 fn groups(
     rt: &impl Print,
-    name: &[u8],
+    name: &str,
     n: u32,
-    group: u32,
-    reach: u32,
-    pairs: u32,
-    sums: &mut play::Counts,
+    groups: Groups,
+    sums: &mut Counts,
 ) -> io::Result<()> {
     let plan = Plan {
-        pairs,
-        group,
-        reach,
+        kind: Kind::Groups(groups),
         n,
         m: n,
-        most: 0,
-        ups: 0,
-        calls: std::num::wrapping_add_u32(std::num::wrapping_add_u32(pairs, pairs), 200),
+        calls: groups.pairs.wrapping_mul(2).wrapping_add(200),
         seed: 521288629362436069,
     };
     history(rt, name, plan, sums)
 }
 
+// Groups of so many radios, each linked with the next `reach`.
+fn groups_of(size: u32, reach: u32, pairs: u32) -> Groups {
+    Groups { size, reach, pairs }
+}
+
 // Groups: where the first in the order is an end, most radios of its level cannot change.
-fn all_groups(rt: &impl Print, sums: &mut play::Counts) -> io::Result<()> {
-    groups(rt, b"pairs", 512, 2, 1, 512, sums)?;
-    groups(rt, b"paths", 126, 3, 1, 126, sums)?;
-    groups(rt, b"triangles", 126, 3, 2, 252, sums)?;
-    groups(rt, b"cliques", 128, 4, 3, 384, sums)
+fn all_groups(rt: &impl Print, sums: &mut Counts) -> io::Result<()> {
+    groups(rt, "pairs", 512, groups_of(2, 1, 512), sums)?;
+    groups(rt, "paths", 126, groups_of(3, 1, 126), sums)?;
+    groups(rt, "triangles", 126, groups_of(3, 2, 252), sums)?;
+    groups(rt, "cliques", 128, groups_of(4, 3, 384), sums)
 }
 
 fn main(rt: HostRuntime) -> io::Result<()> {
-    let mut sums = [0u64; play::KINDS];
-    say::text(
-        &rt,
-        b"history radios: accepted, refused by 1 to 7, changed radios, calls, differences, canaries\n",
+    println!(rt;
+        "history radios: accepted, refused by 1 to 7, changed radios, calls, differences, canaries"
     )?;
+    let mut sums = Counts::none();
     sites(&rt, &mut sums)?;
     all_groups(&rt, &mut sums)?;
-    line(&rt, b"all", 0, &sums)
+    line(&rt, "all", 0, &sums)
 }

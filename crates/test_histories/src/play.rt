@@ -1,66 +1,77 @@
 // A history, played on the engine and on the expected tables beside it, compared after every call.
 use super::picking::Plan;
+use super::trouble::Trouble;
 use super::{canaries, engine, picking, trouble};
 use calls::Reply;
 use test_model::expected::{Call, Owed};
-use test_model::model::{Links, Model, Numbers, Radios};
-use test_model::{expected, model, own_check, same};
+use test_model::model::{Model, Tables};
+use test_model::{expected, own_check, same};
 
-// What is counted: calls by refusal number (0 to 7), then the changed radios, the calls, the calls that differ, and the wrong
-// expectations that are found.
-pub const KINDS: usize = 12;
+// The refusal numbers of a link call: 0 to 7.
+const ANSWERS: usize = 8;
 
-const CHANGED: usize = 8;
+// What is counted: calls by refusal number, then the changed radios, the calls, the calls that differ, and the wrong expectations
+// that are found.
+#[derive(Clone, Copy)]
+pub struct Counts {
+    pub answers: [u64; ANSWERS],
+    pub changed: u64,
+    pub calls: u64,
+    pub different: u64,
+    pub canaries: u64,
+}
 
-const CALLS: usize = 9;
+impl Counts {
+    pub fn none() -> Self {
+        Self {
+            answers: [0; ANSWERS],
+            changed: 0,
+            calls: 0,
+            different: 0,
+            canaries: 0,
+        }
+    }
 
-const DIFFERENT: usize = 10;
+    // Adds the counts of a history.
+    pub fn add(&mut self, other: &Counts) {
+        for i in 0..ANSWERS {
+            self.answers[i] = self.answers[i].wrapping_add(other.answers[i]);
+        }
+        self.changed = self.changed.wrapping_add(other.changed);
+        self.calls = self.calls.wrapping_add(other.calls);
+        self.different = self.different.wrapping_add(other.different);
+        self.canaries = self.canaries.wrapping_add(other.canaries);
+    }
 
-pub const CANARIES: usize = 11;
+    // Counts a wrong expectation, where it was found.
+    pub fn found(&mut self, found: bool) {
+        self.canaries = self.canaries.wrapping_add(found as u64);
+    }
 
-pub type Counts = [u64; KINDS];
+    // Counts a call.
+    fn tally(&mut self, told: Answer) {
+        let i = told.reply.number as usize % ANSWERS;
+        self.answers[i] = self.answers[i].wrapping_add(1);
+        self.changed = self.changed.wrapping_add(told.reply.count as u64);
+        self.calls = self.calls.wrapping_add(1);
+        self.different = self.different.wrapping_add(!told.fine as u64);
+    }
+}
 
 // Entries of numbers, order and answer past the site's hold these values.
 const NUMBER: u8 = 77;
 
 const RADIO: u16 = 7777;
 
-// Adds `more` to the count of kind i.
-pub fn count(counts: &mut Counts, i: usize, more: u32) {
-    if i < KINDS {
-        let sum = std::num::wrapping_add_u64(counts[i], more as u64);
-        counts[i] = sum;
-    }
-}
-
 // Whether the engine's check and the test by hand both say what is expected of the site's tables.
-pub fn verdicts_agree(
-    n: u32,
-    sound: bool,
-    links: &Links,
-    numbers: &Numbers,
-    order: &Radios,
-) -> bool {
-    if engine::is_sound(n, links, numbers, order) != sound {
-        return false;
-    }
-    own_check::is_sound(n as usize, links, numbers, order) == sound
+pub fn verdicts_agree(n: u32, sound: bool, t: &Tables) -> bool {
+    engine::is_sound(n, t) == sound && own_check::is_sound(n as usize, t) == sound
 }
 
 // Spoils the tables where that is the call's trouble; whether the verdicts on them agree then.
-fn spoil(
-    call: Call,
-    n: u32,
-    wrong: trouble::Trouble,
-    links: &mut Links,
-    numbers: &mut Numbers,
-    order: &mut Radios,
-) -> bool {
-    trouble::spoil(wrong, links, numbers, order);
-    if !call.spoiled {
-        return true;
-    }
-    verdicts_agree(n, false, links, numbers, order)
+fn spoil(call: Call, n: u32, wrong: Option<Trouble>, t: &mut Tables) -> bool {
+    trouble::spoil(wrong, t);
+    !call.spoiled || verdicts_agree(n, false, t)
 }
 
 // The engine's reply, and whether spoiled tables were found out; of a compared call, whether all is as expected.
@@ -71,94 +82,49 @@ struct Answer {
 }
 
 // Carries the call out on the engine's tables, spoiled for it where that is its trouble.
-fn answer_of(
-    call: Call,
-    n: u32,
-    wrong: trouble::Trouble,
-    links: &mut Links,
-    numbers: &mut Numbers,
-    order: &mut Radios,
-    answer: &mut Radios,
-) -> Answer {
-    let fine = spoil(call, n, wrong, links, numbers, order);
-    let reply = engine::link(call, links, numbers, order, answer);
-    trouble::spoil(wrong, links, numbers, order);
+fn answer_of(call: Call, n: u32, wrong: Option<Trouble>, t: &mut Tables) -> Answer {
+    let fine = spoil(call, n, wrong, t);
+    let reply = engine::link(
+        call,
+        &mut t.links,
+        &mut t.numbers,
+        &mut t.order,
+        &mut t.answer,
+    );
+    trouble::spoil(wrong, t);
     Answer { reply, fine }
 }
 
 // Whether the reply is what is owed.
 pub fn is_owed(reply: Reply, owed: Owed) -> bool {
-    if reply.number != owed.number {
-        return false;
-    }
-    if reply.step != owed.step {
-        return false;
-    }
-    reply.count == owed.count
+    let given = Owed {
+        number: reply.number,
+        step: reply.step,
+        count: reply.count,
+    };
+    given == owed
 }
 
 // Whether every entry of the tables is what is expected, and they are sound.
-pub fn is_expected(
-    n: u32,
-    links: &Links,
-    numbers: &Numbers,
-    order: &Radios,
-    answer: &Radios,
-    model: &Model,
-) -> bool {
-    if !same::numbers(numbers, model) {
-        return false;
-    }
-    if !same::radios(order, model, model::ORDER) {
-        return false;
-    }
-    if !same::radios(answer, model, model::ANSWER) {
-        return false;
-    }
-    if !same::links(links, model, n as usize) {
-        return false;
-    }
-    verdicts_agree(n, true, links, numbers, order)
+pub fn is_expected(n: u32, t: &Tables, model: &Model) -> bool {
+    same::tables(t, model, n as usize) && verdicts_agree(n, true, t)
 }
 
-// Counts a call.
-fn tally(counts: &mut Counts, told: Answer) {
-    let reply = told.reply;
-    count(counts, reply.number as usize % CHANGED, 1);
-    count(counts, CHANGED, reply.count);
-    count(counts, CALLS, 1);
-    count(counts, DIFFERENT, !told.fine as u32);
-}
-
-// Whether the reply is what is owed, with tables that are the expected ones, and spoiled ones were found out.
-fn is_fine(given: Answer, owed: Owed, expected: bool) -> bool {
-    if !expected {
-        return false;
-    }
-    if !given.fine {
-        return false;
-    }
-    is_owed(given.reply, owed)
-}
-
-// Puts the call to the engine and to the expected site, and compares. Comes back with the reply.
+// Puts the call to the engine and to the expected site, and compares: the reply has to be what is owed, with tables that are the expected
+// ones, and spoiled ones must have been found out.
 fn put_call(
     call: Call,
     n: u32,
-    wrong: trouble::Trouble,
-    links: &mut Links,
-    numbers: &mut Numbers,
-    order: &mut Radios,
-    answer: &mut Radios,
+    wrong: Option<Trouble>,
+    t: &mut Tables,
     model: &mut Model,
 ) -> Answer {
-    let given = answer_of(call, n, wrong, links, numbers, order, answer);
+    let given = answer_of(call, n, wrong, t);
     let owed = expected::expect(call, model);
-    let same = is_expected(n, links, numbers, order, answer, model);
-    let reply = given.reply;
+    let same = is_expected(n, t, model);
     Answer {
-        reply,
-        fine: is_fine(given, owed, same),
+        reply: given.reply,
+        fine: same && given.fine && is_owed(given.reply, owed),
     }
 }
 
@@ -167,64 +133,35 @@ fn one_call(
     plan: Plan,
     i: u32,
     x: u64,
-    links: &mut Links,
-    numbers: &mut Numbers,
-    order: &mut Radios,
-    answer: &mut Radios,
+    t: &mut Tables,
     model: &mut Model,
     counts: &mut Counts,
 ) -> u64 {
     let picked = picking::pick(plan, i, x, model);
-    let wrong = trouble::draw(plan.n, picked.x);
+    let (wrong, further) = trouble::draw(plan.n, picked.x);
     let plain = expected::plain(plan.n, picked.up, picked.a, picked.b);
-    let call = trouble::troubled(plain, wrong.kind);
-    let told = put_call(call, plan.n, wrong, links, numbers, order, answer, model);
-    tally(counts, told);
-    wrong.x
+    let call = trouble::troubled(plain, wrong);
+    let told = put_call(call, plan.n, wrong, t, model);
+    counts.tally(told);
+    further
 }
 
 // All calls of the history.
-fn all_calls(
-    plan: Plan,
-    links: &mut Links,
-    numbers: &mut Numbers,
-    order: &mut Radios,
-    answer: &mut Radios,
-    model: &mut Model,
-    counts: &mut Counts,
-) {
+fn all_calls(plan: Plan, t: &mut Tables, model: &mut Model, counts: &mut Counts) {
     let mut x = plan.seed;
-    let mut i: u32 = 0;
-    while i < plan.calls {
-        x = one_call(plan, i, x, links, numbers, order, answer, model, counts);
-        i += 1;
+    for i in 0..plan.calls {
+        x = one_call(plan, i, x, t, model, counts);
     }
 }
 
-// A cleared site, and the expected one.
-fn clear(n: u32, links: &mut Links, numbers: &mut Numbers, order: &mut Radios, model: &mut Model) {
-    engine::clear(n, links, numbers, order);
-    model::clear(model, n as usize, NUMBER as u16, RADIO);
-}
-
 // Plays the history from a cleared site, counts its calls, and puts the wrong expectations.
-pub fn play(plan: Plan, counts: &mut Counts) {
-    let mut links = [0u8; 64 * model::ENTRIES];
-    let mut numbers = [NUMBER; model::ENTRIES];
-    let mut order = [RADIO; model::ENTRIES];
-    let mut answer = [RADIO; model::ENTRIES];
-    let mut model = [0u16; model::LEN];
-    clear(plan.n, &mut links, &mut numbers, &mut order, &mut model);
-    all_calls(
-        plan,
-        &mut links,
-        &mut numbers,
-        &mut order,
-        &mut answer,
-        &mut model,
-        counts,
-    );
-    canaries::put(
-        plan.n, &links, &numbers, &order, &answer, &mut model, counts,
-    );
+pub fn play(plan: Plan) -> Counts {
+    let mut t = Tables::full(NUMBER, RADIO);
+    let mut model = Model::new();
+    let mut counts = Counts::none();
+    let _ = engine::clear(plan.n, &mut t.links, &mut t.numbers, &mut t.order);
+    model.clear(plan.n as usize, NUMBER as u16, RADIO);
+    all_calls(plan, &mut t, &mut model, &mut counts);
+    canaries::put(plan.n, &t, &mut model, &mut counts);
+    counts
 }

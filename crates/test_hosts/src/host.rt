@@ -1,8 +1,9 @@
 // The host: its tables, the calls on them, and what it prints after each.
 use crate::reading::{Call, Sizes};
-use crate::{asking, calling, changing, reading};
+use crate::{asking, calling, reading};
 use std::io;
 use std::io::Read;
+use test_parts::parts::front;
 use test_parts::{digest, say, words};
 
 // Room for two radios more than a site may have.
@@ -10,22 +11,24 @@ const ENTRIES: usize = 514;
 
 const LINKS: usize = 64 * ENTRIES;
 
-// A byte more than a store has. An image, a page and a one-sided table are shorter.
-const BUFFER: usize = 352321;
+// The bytes of a place of the store.
+const PLACE: usize = 44040;
+
+// A byte more than a store has, of 8 places. An image, a page and a one-sided table are shorter.
+const BUFFER: usize = 8 * PLACE + 1;
 
 // The tables. They are arrays, as a reference to one has its length in its type: that is cheaper to prove of than a slice. The heard table has the
 // name of a mark too, and the fields a proposal or a list of links.
-pub type Links = [u8; LINKS];
-
-pub type Numbers = [u8; ENTRIES];
-
-pub type Order = [u16; ENTRIES];
-
-pub type Answer = [u16; asking::PLACES];
-
-pub type Fields = [u16; asking::FIELDS];
-
-pub type Buffer = [u8; BUFFER];
+#[derive(Drop)]
+struct Tables {
+    links: [u8; LINKS],
+    numbers: [u8; ENTRIES],
+    order: [u16; ENTRIES],
+    answer: [u16; asking::PLACES],
+    fields: [u16; asking::FIELDS],
+    heard: [u8; LINKS],
+    buffer: [u8; BUFFER],
+}
 
 // What the answer table holds before each call, the nodes before a tree or a proposal is, and the buffer before an image or a page is
 // written: no radio, level or name.
@@ -48,27 +51,25 @@ const SPOIL_BUFFER: u32 = 26;
 
 const COPY_PLACE: u32 = 27;
 
+// Place `from` of the store copied to place `to`, of 8.
+fn copy_place(buffer: &mut [u8; BUFFER], from: u32, to: u32) {
+    let a = PLACE * (from % 8) as usize;
+    let b = PLACE * (to % 8) as usize;
+    buffer.copy_within(a..a + PLACE, b);
+}
+
 // Other hands flip bits b at place a of a table, or copy a place of the store.
-fn spoil(
-    call: Call,
-    links: &mut Links,
-    numbers: &mut Numbers,
-    order: &mut Order,
-    answer: &mut Answer,
-    fields: &mut Fields,
-    buffer: &mut Buffer,
-) {
+fn spoil(call: Call, t: &mut Tables) {
     let at = call.a as usize;
     let bits = call.b;
-    let kind = call.kind;
-    match kind {
-        SPOIL_LINKS => words::flip8(links, at, bits),
-        SPOIL_NUMBERS => words::flip8(numbers, at, bits),
-        SPOIL_ORDER => words::flip16(order, at, bits),
-        SPOIL_ANSWER => words::flip16(answer, at, bits),
-        SPOIL_FIELDS => words::flip16(fields, at, bits),
-        SPOIL_BUFFER => words::flip8(buffer, at, bits),
-        COPY_PLACE => changing::copy_place(buffer, call.a, bits),
+    match call.kind {
+        SPOIL_LINKS => words::flip8(&mut t.links, at, bits),
+        SPOIL_NUMBERS => words::flip8(&mut t.numbers, at, bits),
+        SPOIL_ORDER => words::flip16(&mut t.order, at, bits),
+        SPOIL_ANSWER => words::flip16(&mut t.answer, at, bits),
+        SPOIL_FIELDS => words::flip16(&mut t.fields, at, bits),
+        SPOIL_BUFFER => words::flip8(&mut t.buffer, at, bits),
+        COPY_PLACE => copy_place(&mut t.buffer, call.a, bits),
         _ => {}
     }
 }
@@ -85,13 +86,12 @@ fn lend(
     heard: &[u8],
     buffer: &mut [u8],
 ) -> io::Result<()> {
-    let i = tables::fill::least(call.links, links.len());
-    let j = tables::fill::least(call.numbers, numbers.len());
-    let k = tables::fill::least(call.order, order.len());
-    let l = tables::fill::least(call.answer, answer.len());
-    let f = tables::fill::least(call.fields, fields.len());
-    let h = tables::fill::least(call.heard, heard.len());
-    let m = tables::fill::least(call.room, buffer.len());
+    let i = call.links.min(links.len());
+    let j = call.numbers.min(numbers.len());
+    let k = call.order.min(order.len());
+    let l = call.answer.min(answer.len());
+    let f = call.fields.min(fields.len());
+    let m = call.room.min(buffer.len());
     calling::put(
         rt,
         call,
@@ -100,122 +100,77 @@ fn lend(
         &mut order[..k],
         &mut answer[..l],
         &mut fields[..f],
-        &heard[..h],
+        front(heard, call.heard),
         &mut buffer[..m],
     )
 }
 
 // Fills what a call is to write.
-fn refill(kind: u32, fields: &mut Fields, buffer: &mut Buffer) {
+fn refill(kind: u32, t: &mut Tables) {
+    t.answer.fill(KEPT);
     if calling::lists(kind) {
-        tables::fill::fill16(fields, KEPT);
+        t.fields.fill(KEPT);
     }
     if calling::prints(kind) {
-        tables::fill::fill8(buffer, BYTE);
+        t.buffer.fill(BYTE);
     }
 }
 
 // The digest of the tables, as much of each as the file says.
-fn digest_of(
-    call: Call,
-    links: &[u8],
-    numbers: &[u8],
-    order: &[u16],
-    answer: &[u16],
-    fields: &[u16],
-    heard: &[u8],
-    buffer: &[u8],
-) -> u64 {
+fn digest_of(call: Call, t: &Tables) -> u64 {
     let sizes = call.sizes;
-    let i = tables::fill::least(sizes.links, links.len());
-    let j = tables::fill::least(sizes.entries, numbers.len());
-    let k = tables::fill::least(sizes.entries, order.len());
-    let l = tables::fill::least(sizes.answer, answer.len());
-    let f = tables::fill::least(sizes.fields, fields.len());
-    let h = tables::fill::least(sizes.heard, heard.len());
-    let m = tables::fill::least(call.seen, buffer.len());
-    let site = digest::site(&links[..i], &numbers[..j], &order[..k]);
-    let listed = digest::entries(digest::entries(site, &answer[..l]), &fields[..f]);
-    digest::bytes(digest::bytes(listed, &heard[..h]), &buffer[..m])
+    let site = digest::site(
+        front(&t.links, sizes.links),
+        front(&t.numbers, sizes.entries),
+        front(&t.order, sizes.entries),
+    );
+    let answered = digest::of(site, front(&t.answer, sizes.answer));
+    let listed = digest::of(answered, front(&t.fields, sizes.fields));
+    let heard = digest::of(listed, front(&t.heard, sizes.heard));
+    digest::of(heard, front(&t.buffer, call.seen))
 }
 
-// Makes the call, or other hands change a table, and ends the line. Comes back with 1 where the digest shows what other hands did.
-fn line(
-    rt: &impl Print,
-    call: Call,
-    links: &mut Links,
-    numbers: &mut Numbers,
-    order: &mut Order,
-    answer: &mut Answer,
-    fields: &mut Fields,
-    heard: &Links,
-    buffer: &mut Buffer,
-) -> io::Result<u32> {
+// Makes the call, or other hands change a table, and ends the line. Comes back with whether the digest shows what other hands did.
+fn line(rt: &impl Print, call: Call, t: &mut Tables) -> io::Result<bool> {
     if call.kind < SPOIL_LINKS || COPY_PLACE < call.kind {
         lend(
-            rt, call, links, numbers, order, answer, fields, heard, buffer,
+            rt,
+            call,
+            &mut t.links,
+            &mut t.numbers,
+            &mut t.order,
+            &mut t.answer,
+            &mut t.fields,
+            &t.heard,
+            &mut t.buffer,
         )?;
-        let h = digest_of(call, links, numbers, order, answer, fields, heard, buffer);
-        say::end_line(rt, h)?;
-        return Ok(0);
+        println!(rt; " {}", digest_of(call, t))?;
+        return Ok(false);
     }
-    let h = digest_of(call, links, numbers, order, answer, fields, heard, buffer);
-    spoil(call, links, numbers, order, answer, fields, buffer);
-    let after = digest_of(call, links, numbers, order, answer, fields, heard, buffer);
-    say::end_line(rt, after)?;
-    Ok((h != after) as u32)
+    let before = digest_of(call, t);
+    spoil(call, t);
+    let after = digest_of(call, t);
+    println!(rt; " {after}")?;
+    Ok(before != after)
 }
 
 // The next call of the file.
-fn one(
-    rt: &impl Print,
-    file: &mut impl Read,
-    sizes: Sizes,
-    links: &mut Links,
-    numbers: &mut Numbers,
-    order: &mut Order,
-    fields: &mut Fields,
-    heard: &mut Links,
-    buffer: &mut Buffer,
-) -> io::Result<u32> {
-    let mut answer = [KEPT; asking::PLACES];
+fn one(rt: &impl Print, file: &mut impl Read, sizes: Sizes, t: &mut Tables) -> io::Result<bool> {
     say::next_name(rt, file)?;
     let call = reading::next_call(file, sizes)?;
-    words::entries(file, call.entries, fields)?;
-    reading::flips(file, call.changes, heard)?;
-    refill(call.kind, fields, buffer);
-    line(
-        rt,
-        call,
-        links,
-        numbers,
-        order,
-        &mut answer,
-        fields,
-        heard,
-        buffer,
-    )
+    words::entries(file, call.entries, &mut t.fields)?;
+    reading::flips(file, call.changes, &mut t.heard)?;
+    refill(call.kind, t);
+    line(rt, call, t)
 }
 
 // All calls of the file, after their count. Comes back with how many changes of other hands the digest showed.
-fn all(
-    rt: &impl Print,
-    file: &mut impl Read,
-    sizes: Sizes,
-    links: &mut Links,
-    numbers: &mut Numbers,
-    order: &mut Order,
-    fields: &mut Fields,
-    heard: &mut Links,
-    buffer: &mut Buffer,
-) -> io::Result<u32> {
+fn all(rt: &impl Print, file: &mut impl Read, sizes: Sizes, t: &mut Tables) -> io::Result<u32> {
     let count = words::word(file)?;
     let mut seen: u32 = 0;
-    for i in 0..count {
-        let more = one(
-            rt, file, sizes, links, numbers, order, fields, heard, buffer,
-        )?;
-        seen = std::num::wrapping_add_u32(seen, more);
+    for _ in 0..count {
+        let shown = one(rt, file, sizes, t)?;
+        seen = seen.wrapping_add(shown as u32);
     }
     Ok(seen)
 }
@@ -223,22 +178,15 @@ fn all(
 // Plays the file, and prints how many changes of other hands the digest showed.
 pub fn play(rt: &impl Print, file: &mut impl Read) -> io::Result<()> {
     let sizes = reading::next_sizes(file)?;
-    let mut links = [BYTE; LINKS];
-    let mut numbers = [BYTE; ENTRIES];
-    let mut order = [KEPT; ENTRIES];
-    let mut fields = [KEPT; asking::FIELDS];
-    let mut heard = [0; LINKS];
-    let mut buffer = [(sizes.byte % 256) as u8; BUFFER];
-    let seen = all(
-        rt,
-        file,
-        sizes,
-        &mut links,
-        &mut numbers,
-        &mut order,
-        &mut fields,
-        &mut heard,
-        &mut buffer,
-    )?;
-    say::line(rt, b"canaries", seen as u64)
+    let mut t = Tables {
+        links: [BYTE; LINKS],
+        numbers: [BYTE; ENTRIES],
+        order: [KEPT; ENTRIES],
+        answer: [KEPT; asking::PLACES],
+        fields: [KEPT; asking::FIELDS],
+        heard: [0; LINKS],
+        buffer: [(sizes.byte % 256) as u8; BUFFER],
+    };
+    let seen = all(rt, file, sizes, &mut t)?;
+    println!(rt; "canaries {seen}")
 }

@@ -7,7 +7,6 @@
 
 mod asking;
 mod calling;
-mod changing;
 mod host;
 mod reading;
 mod say;

@@ -72,7 +72,7 @@ pub fn next_call(file: &mut impl Read, sizes: Sizes) -> io::Result<Call> {
 
 // The next changes of the heard table: a word is a place and, in its lowest byte, the bits that are flipped there.
 pub fn flips(file: &mut impl Read, count: usize, heard: &mut [u8]) -> io::Result<()> {
-    for i in 0..count {
+    for _ in 0..count {
         let change = word(file)?;
         flip8(heard, (change / 256) as usize, change % 256);
     }

@@ -6,16 +6,23 @@ use std::io;
 fn image_of(k: u32, many: usize) -> writing::Buffer {
     let mut links = [0u8; reading::LINKS];
     let mut order = [0u16; reading::RADIOS];
-    sites::put_star(&mut links, k, std::num::wrapping_add_u32(k, 1));
-    sites::put_link(&mut links, k, std::num::wrapping_add_u32(k, 2));
-    sites::put_order(&mut order, false, std::num::wrapping_add_u32(k, 2), many);
-    writing::image_at(many, &links, &[1u8; reading::RADIOS], &order)
+    let numbers = [1u8; reading::RADIOS];
+    let last = k.wrapping_add(2);
+    sites::put_star(&mut links, k, k.wrapping_add(1));
+    sites::put_link(&mut links, k, last);
+    sites::put_order(&mut order, false, last, many);
+    writing::image_of(&parts::lent(
+        (many % 1024) as u32,
+        parts::front(&links, 64 * (many % 1024)),
+        parts::front(&numbers, many),
+        parts::front(&order, many),
+    ))
 }
 
 // Makes the last of the k + 1 links lead to radio k + 1, which then has k + 1 neighbours.
 fn changed_image(k: u32, many: usize) -> changed::Image {
     let at = 1030 + 4 * k as usize;
-    let end = (std::num::wrapping_add_u32(k, 1) % 256) as u8;
+    let end = (k.wrapping_add(1) % 256) as u8;
     changed::with(&image_of(k, many), at, end, at, end, true)
 }
 

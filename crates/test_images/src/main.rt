@@ -7,7 +7,6 @@ mod canaries;
 mod changed;
 mod changes;
 mod full;
-mod lines;
 mod parts;
 mod pattern;
 mod reading;
@@ -17,8 +16,9 @@ mod tally;
 mod walking;
 mod writing;
 
-use mesh::Site;
-use sites::{Links, Numbers, Order, Shape};
+use changes::How;
+use mesh::{Lent, Site};
+use sites::Shape;
 use std::io;
 use test_parts::digest;
 
@@ -32,53 +32,33 @@ fn try_image(rt: &impl Print, n: u32, buffer: &[u8], exact: usize) -> io::Result
     walking::try_blocks(rt, image)
 }
 
-// Prints the site of these tables, writes its image with each length of the buffer, and tries it.
-fn try_tables(
-    rt: &impl Print,
-    shape: Shape,
-    links: &[u8],
-    numbers: &[u8],
-    order: &[u16],
-) -> io::Result<()> {
-    let n = shape.radios;
-    lines::begin(rt, b"site", &[n as u64, shape.links as u64])?;
-    lines::end(rt, &[digest::site(links, numbers, order)])?;
-    let exact = writing::try_writes(rt, n, links, numbers, order)?;
-    try_image(rt, n, &writing::image_of(n, links, numbers, order), exact)
+// Prints the site of these tables, with so many links, writes its image with each length of the buffer, and tries it.
+fn try_tables(rt: &impl Print, links: u32, t: &Lent) -> io::Result<()> {
+    let n = t.radios;
+    println!(rt;
+        "site {n} {links} {}",
+        digest::site(t.links, t.numbers, t.order)
+    )?;
+    let exact = writing::try_writes(rt, t)?;
+    try_image(rt, n, &writing::image_of(t), exact)
 }
 
-// The same, with tables that are parts of the largest ones.
-fn try_parts(
-    rt: &impl Print,
-    shape: Shape,
-    links: &Links,
-    numbers: &Numbers,
-    order: &Order,
-) -> io::Result<()> {
-    let many = shape.radios as usize;
-    try_tables(
-        rt,
-        shape,
-        parts::front(links, Site::ROW_BYTES * many),
-        parts::front(numbers, many),
-        parts::front16(order, many),
-    )
-}
-
-// Makes the site and tries it.
+// Makes the site, on parts of the largest tables, and tries it.
 fn site(rt: &impl Print, shape: Shape) -> io::Result<()> {
     let mut links = [0u8; reading::LINKS];
     let mut numbers = [0u8; reading::RADIOS];
     let mut order = [0u16; reading::RADIOS];
+    let many = shape.radios as usize;
     sites::put_links(&mut links, shape.radios, shape.links);
     sites::put_numbers(&mut numbers, shape.members, shape.number);
-    sites::put_order(
-        &mut order,
-        shape.spread,
-        shape.members,
-        shape.radios as usize,
+    sites::put_order(&mut order, shape.spread, shape.members, many);
+    let lent = parts::lent(
+        shape.radios,
+        parts::front(&links, Site::ROW_BYTES * many),
+        parts::front(&numbers, many),
+        parts::front(&order, many),
     );
-    try_parts(rt, shape, &links, &numbers, &order)
+    try_tables(rt, shape.links, &lent)
 }
 
 // The sizes where the order or the links take one block more; and 200 radios, which a site of 120 does not take.
@@ -128,12 +108,14 @@ fn try_small_reads(rt: &impl Print, image: &[u8]) -> io::Result<()> {
 // Writes tables of the small site that are refused, the numbers with this last entry, the order with its own: unsound ones by 3, before 9
 // is asked.
 fn try_unsound(rt: &impl Print, links: &[u8], number: u8, last: u16) -> io::Result<()> {
-    writing::try_refused(rt, 5, links, &[2, 2, 2, 1, number], &[4, 3, 2, 0, last])
+    let numbers = [2, 2, 2, 1, number];
+    let order = [4, 3, 2, 0, last];
+    writing::try_refused(rt, &parts::lent(5, links, &numbers, &order))
 }
 
 // Writes tables of the small site that are refused by 2 before 3, and by 1 before 2.
 fn try_short(rt: &impl Print, n: u32, links: &[u8]) -> io::Result<()> {
-    writing::try_refused(rt, n, links, &[2, 2, 2, 1], &ORDER)
+    writing::try_refused(rt, &parts::lent(n, links, &[2, 2, 2, 1], &ORDER))
 }
 
 // Writes tables of the small site that are refused.
@@ -163,12 +145,12 @@ fn try_small_refusals(rt: &impl Print, good: &[u8]) -> io::Result<()> {
 
 // Changes every byte of the small image in each way.
 fn try_small_changes(rt: &impl Print, good: &[u8]) -> io::Result<()> {
-    changes::try_change(rt, 1, good)?;
-    changes::try_change(rt, 2, good)?;
-    changes::try_change(rt, 254, good)?;
-    changes::try_change(rt, 255, good)?;
-    changes::try_change(rt, changes::FLIPPED, good)?;
-    changes::try_change(rt, changes::SWAPPED, good)
+    changes::try_change(rt, How::Added(1), good)?;
+    changes::try_change(rt, How::Added(2), good)?;
+    changes::try_change(rt, How::Added(254), good)?;
+    changes::try_change(rt, How::Added(255), good)?;
+    changes::try_change(rt, How::Flipped, good)?;
+    changes::try_change(rt, How::Swapped, good)
 }
 
 // Tries the small site, of these links, and its image.
@@ -183,7 +165,7 @@ fn try_small_image(rt: &impl Print, links: &[u8], good: &[u8]) -> io::Result<()>
 // Tries the small site.
 fn try_small(rt: &impl Print) -> io::Result<()> {
     let links = small_links();
-    let buffer = writing::image_of(5, &links, &NUMBERS, &ORDER);
+    let buffer = writing::image_of(&parts::lent(5, &links, &NUMBERS, &ORDER));
     try_small_image(rt, &links, parts::front(&buffer, 1536))
 }
 
@@ -193,5 +175,5 @@ fn main(rt: HostRuntime) -> io::Result<()> {
     full::try_neighbours(&rt, 39)?;
     full::try_neighbours(&rt, 40)?;
     try_small(&rt)?;
-    lines::one(&rt, b"canaries", canaries::count() as u64)
+    println!(rt; "canaries {}", canaries::count())
 }

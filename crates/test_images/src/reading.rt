@@ -1,8 +1,7 @@
 // Reading an image, with a line for each case.
-use super::sites::{Links, Numbers, Order};
-use super::{lines, parts, pattern, writing};
+use super::{parts, pattern, writing};
 use image_reader::reader;
-use mesh::Site;
+use mesh::{Lent, Site};
 use std::io;
 use test_parts::digest;
 
@@ -22,73 +21,38 @@ pub(crate) struct Outcome {
     pub(crate) digest: u64,
 }
 
-// What is seen of tables, of n radios where the image was accepted.
-fn seen(n: u32, number: u32, links: &[u8], numbers: &[u8], order: &[u16], image: &[u8]) -> Outcome {
+// What is seen of tables, which are the site's where the image was accepted.
+fn seen(number: u32, t: &Lent, image: &[u8]) -> Outcome {
     Outcome {
         number,
-        kept: pattern::are_kept(links, numbers, order),
-        again: writing::is_again(n, number, links, numbers, order, image),
-        digest: digest::site(links, numbers, order),
+        kept: pattern::are_kept(t),
+        again: number == 0 && writing::is_again(t, image),
+        digest: digest::site(t.links, t.numbers, t.order),
     }
-}
-
-// How much of each table is lent: bytes of rows, and entries.
-#[derive(Clone, Copy)]
-struct Lengths {
-    rows: usize,
-    radios: usize,
-    entries: usize,
-}
-
-// What is seen of the lent parts.
-fn seen_in(
-    n: u32,
-    number: u32,
-    lengths: Lengths,
-    links: &Links,
-    numbers: &Numbers,
-    order: &Order,
-    image: &[u8],
-) -> Outcome {
-    seen(
-        n,
-        number,
-        parts::front(links, lengths.rows),
-        parts::front(numbers, lengths.radios),
-        parts::front16(order, lengths.entries),
-        image,
-    )
 }
 
 // Reads into tables of the lengths given, at most the largest, which hold the pattern.
 pub(crate) fn read(n: u32, rows: usize, radios: usize, entries: usize, image: &[u8]) -> Outcome {
-    let a = tables::fill::least(rows, LINKS);
-    let b = tables::fill::least(radios, RADIOS);
-    let c = tables::fill::least(entries, RADIOS);
+    let i = rows.min(LINKS);
+    let j = radios.min(RADIOS);
+    let k = entries.min(RADIOS);
     let mut links = [pattern::BYTE; LINKS];
     let mut numbers = [pattern::BYTE; RADIOS];
     let mut order = [pattern::ENTRY; RADIOS];
-    let number = reader::read(
+    let number = calls::number(reader::read(
         n,
-        &mut links[0..a],
-        &mut numbers[0..b],
-        &mut order[0..c],
+        &mut links[..i],
+        &mut numbers[..j],
+        &mut order[..k],
         image,
-    );
-    let lengths = Lengths {
-        rows,
-        radios,
-        entries,
-    };
-    seen_in(n, number, lengths, &links, &numbers, &order, image)
+    ));
+    let lent = parts::lent(n, &links[..i], &numbers[..j], &order[..k]);
+    seen(number, &lent, image)
 }
 
 // Whether a refusal changed a table, or an accepted image does not come again.
 pub(crate) fn is_broken(r: Outcome) -> bool {
-    if r.number == 0 {
-        return !r.again;
-    }
-    !r.kept
+    if r.number == 0 { !r.again } else { !r.kept }
 }
 
 // Reads, and prints the line: n, the lengths of the tables and of the image, the number, whether every table kept its content,
@@ -102,58 +66,28 @@ pub(crate) fn try_read(
     image: &[u8],
 ) -> io::Result<()> {
     let r = read(n, rows, radios, entries, image);
-    lines::begin(
-        rt,
-        b"read",
-        &[
-            n as u64,
-            rows as u64,
-            radios as u64,
-            entries as u64,
-            image.len() as u64,
-        ],
-    )?;
-    lines::end(rt, &[r.number as u64, lines::yes(r.kept), r.digest])
+    print!(rt; "read {n} {rows} {radios} {entries} {}", image.len())?;
+    println!(rt; " {} {} {}", r.number, r.kept as u32, r.digest)
 }
 
-// The cases of a site: four lengths of the image, four sizes of the site, and last the image as it is.
-const CASES: u32 = 9;
-
-// How many bytes are read in a case, where the image has so many.
-fn case_length(k: u32, exact: usize) -> usize {
-    match k {
-        0 => std::num::wrapping_sub_usize(exact, 1),
-        1 => std::num::wrapping_add_usize(exact, 1),
-        2 => 0,
-        3 => std::num::wrapping_add_usize(exact, 512),
-        _ => exact,
-    }
-}
-
-// The n that is given in a case, at a site of n radios.
-fn case_size(k: u32, n: u32) -> u32 {
-    match k {
-        4 => std::num::wrapping_sub_u32(n, 1),
-        5 => std::num::wrapping_add_u32(n, 1),
-        6 => 0,
-        7 => 513,
-        _ => n,
-    }
-}
-
-// Tries every case of a site whose image is the first `exact` bytes of the buffer, zeros after it.
+// Tries every case of a site of n radios whose image is the first `exact` bytes of the buffer, zeros after it: four lengths of the image,
+// four sizes of the site, and last the image as it is.
 pub(crate) fn try_cases(rt: &impl Print, n: u32, buffer: &[u8], exact: usize) -> io::Result<()> {
     let many = n as usize % 1024;
-    for k in 0..CASES {
-        let image = parts::front(buffer, case_length(k, exact));
-        try_read(
-            rt,
-            case_size(k, n),
-            Site::ROW_BYTES * many,
-            many,
-            many,
-            image,
-        )?;
+    let cases = [
+        (n, exact.wrapping_sub(1)),
+        (n, exact.wrapping_add(1)),
+        (n, 0),
+        (n, exact.wrapping_add(512)),
+        (n.wrapping_sub(1), exact),
+        (n.wrapping_add(1), exact),
+        (0, exact),
+        (513, exact),
+        (n, exact),
+    ];
+    for (size, length) in cases {
+        let image = parts::front(buffer, length);
+        try_read(rt, size, Site::ROW_BYTES * many, many, many, image)?;
     }
     Ok(())
 }
@@ -162,5 +96,5 @@ pub(crate) fn try_cases(rt: &impl Print, n: u32, buffer: &[u8], exact: usize) ->
 pub(crate) fn try_again(rt: &impl Print, n: u32, image: &[u8]) -> io::Result<()> {
     let many = n as usize % 1024;
     let r = read(n, Site::ROW_BYTES * many, many, many, image);
-    lines::one(rt, b"again", lines::yes(r.again))
+    println!(rt; "again {}", r.again as u32)
 }

@@ -35,7 +35,7 @@ pub(crate) fn path(radios: u32, links: u32) -> Shape {
     Shape {
         radios,
         links,
-        members: std::num::wrapping_add_u32(links, 1),
+        members: links.wrapping_add(1),
         number: 1,
         spread: false,
     }
@@ -52,21 +52,14 @@ pub(crate) fn ring(radios: u32, links: u32, number: u8) -> Shape {
     }
 }
 
-// The lower end of link j: it goes round the n radios.
-fn near_end(n: u32, j: u32) -> u32 {
+// The ends of link j: the lower one goes round the n radios, and the other is one more step away each time round.
+fn ends(n: u32, j: u32) -> (u32, u32) {
     if n == 0 {
-        return 0;
+        return (0, 0);
     }
-    j % n
-}
-
-// The other end of link j: one more step away each time round.
-fn far_end(n: u32, j: u32) -> u32 {
-    if n == 0 {
-        return 0;
-    }
-    let steps = std::num::wrapping_add_u32(j / n, 1);
-    std::num::wrapping_add_u32(j % n, steps) % n
+    let near = j % n;
+    let steps = (j / n).wrapping_add(1);
+    (near, near.wrapping_add(steps) % n)
 }
 
 // Takes a link up.
@@ -77,7 +70,8 @@ pub(crate) fn put_link(links: &mut Links, a: u32, b: u32) {
 // Takes links 0 to count - 1 up.
 pub(crate) fn put_links(links: &mut Links, n: u32, count: u32) {
     for j in 0..count {
-        put_link(links, near_end(n, j), far_end(n, j));
+        let (a, b) = ends(n, j);
+        put_link(links, a, b);
     }
 }
 
@@ -88,16 +82,11 @@ pub(crate) fn put_star(links: &mut Links, k: u32, centre: u32) {
     }
 }
 
-// The number of radio v.
-fn number_of(v: usize, members: u32, number: u8) -> u8 {
-    if v < members as usize { number } else { 0 }
-}
-
 // Gives the radios below `members` this number.
 pub(crate) fn put_numbers(numbers: &mut Numbers, members: u32, number: u8) {
-    for v in 0..reading::RADIOS {
-        numbers[v] = number_of(v, members, number);
-    }
+    let count = reading::RADIOS.min(members as usize);
+    let front = &mut numbers[..count];
+    front.fill(number);
 }
 
 // Entry i of an order of n radios that starts with radio `first`; spread, the next entry is five radios on, else one.
@@ -105,11 +94,8 @@ fn entry(i: usize, spread: bool, first: u32, n: usize) -> u16 {
     if n == 0 {
         return 0;
     }
-    let at = i % 65536;
-    if spread {
-        return ((5 * at + first as usize) % n % 65536) as u16;
-    }
-    ((at + first as usize) % n % 65536) as u16
+    let steps = if spread { 5 } else { 1 };
+    ((steps * (i % 65536) + first as usize) % n % 65536) as u16
 }
 
 // Fills the order of n radios.

@@ -1,23 +1,11 @@
 // Entries of lent tables, read and written whatever the index is: past the end 0 is read, and nothing is written.
-use super::model;
-use super::model::{Numbers, Radios};
 
-pub fn number(s: &Numbers, i: usize) -> u8 {
-    if i < model::ENTRIES {
-        return s[i];
-    }
-    0
+pub fn at<T: Copy + Default>(s: &[T], i: usize) -> T {
+    s.get(i).copied().unwrap_or_default()
 }
 
-pub fn radio(s: &Radios, i: usize) -> u16 {
-    if i < model::ENTRIES {
-        return s[i];
-    }
-    0
-}
-
-pub fn put_radio(s: &mut Radios, i: usize, x: u16) {
-    if i < model::ENTRIES {
+pub fn put(s: &mut [u16], i: usize, x: u16) {
+    if i < s.len() {
         s[i] = x;
     }
 }

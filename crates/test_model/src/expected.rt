@@ -1,6 +1,6 @@
 // What document 01 expects of a link call, worked out by peeling.
-use super::model::Model;
-use super::{cores, layout, model};
+use super::model::{ANSWER, BEFORE, Model, NUMBERS};
+use super::{cores, layout};
 
 // The limits, as document 01 has them.
 const RADIOS: u32 = 512;
@@ -24,7 +24,7 @@ pub struct Call {
 }
 
 // What the call owes.
-#[derive(Clone, Copy)]
+#[derive(Clone, Copy, PartialEq, Eq)]
 pub struct Owed {
     pub number: u32,
     pub step: i8,
@@ -47,31 +47,19 @@ pub fn plain(n: u32, up: bool, a: u32, b: u32) -> Call {
     }
 }
 
-// Questions 1 to 3.
-fn tables_refusal(call: Call) -> u32 {
-    if call.n == 0 {
-        return 1;
-    }
-    if RADIOS < call.n {
-        return 1;
+// Questions 1 to 3: the number of the first that gets "no".
+fn ask_tables(call: Call) -> Result<(), u32> {
+    if call.n == 0 || RADIOS < call.n {
+        return Err(1);
     }
     let n = call.n as usize;
-    if call.links != ROW_BYTES * n {
-        return 2;
-    }
-    if call.numbers != n {
-        return 2;
-    }
-    if call.order != n {
-        return 2;
-    }
-    if call.answer < n {
-        return 2;
+    if call.links != ROW_BYTES * n || call.numbers != n || call.order != n || call.answer < n {
+        return Err(2);
     }
     if call.spoiled {
-        return 3;
+        return Err(3);
     }
-    0
+    Ok(())
 }
 
 // Question 7: whether v has room for a neighbour more.
@@ -80,47 +68,45 @@ fn has_room(model: &Model, n: u32, v: u32) -> bool {
 }
 
 // Questions 4 to 7.
-fn ends_refusal(call: Call, model: &Model) -> u32 {
-    if call.n <= call.a {
-        return 4;
-    }
-    if call.n <= call.b {
-        return 4;
+fn ask_ends(call: Call, model: &Model) -> Result<(), u32> {
+    if call.n <= call.a || call.n <= call.b {
+        return Err(4);
     }
     if call.a == call.b {
-        return 5;
+        return Err(5);
     }
-    if model::near(model, call.a as usize, call.b as usize) == call.up {
-        return 6;
+    if model.near(call.a as usize, call.b as usize) == call.up {
+        return Err(6);
     }
     if !call.up {
-        return 0;
+        return Ok(());
     }
-    if !has_room(model, call.n, call.a) {
-        return 7;
+    if !has_room(model, call.n, call.a) || !has_room(model, call.n, call.b) {
+        return Err(7);
     }
-    if !has_room(model, call.n, call.b) {
-        return 7;
-    }
-    0
+    Ok(())
+}
+
+// Questions 1 to 7.
+fn ask(call: Call, model: &Model) -> Result<(), u32> {
+    ask_tables(call)?;
+    ask_ends(call, model)
 }
 
 // Lists v after the radios found, if its numbers differ; how many are found then.
 fn list_one(model: &mut Model, v: usize, found: u32) -> u32 {
-    if model::get(model, model::BEFORE, v) == model::get(model, model::NUMBERS, v) {
+    if model.get(BEFORE, v) == model.get(NUMBERS, v) {
         return found;
     }
-    model::put(model, model::ANSWER, found as usize, (v % 65536) as u16);
-    std::num::wrapping_add_u32(found, 1)
+    model.put(ANSWER, found as usize, (v % 65536) as u16);
+    found.wrapping_add(1)
 }
 
 // Lists the radios whose numbers differ, ascending, in front of the answer table; how many there are.
 fn list_changed(model: &mut Model, n: usize) -> u32 {
     let mut found: u32 = 0;
-    let mut v: usize = 0;
-    while v < n {
+    for v in 0..n {
         found = list_one(model, v, found);
-        v += 1;
     }
     found
 }
@@ -137,21 +123,17 @@ fn step_of(up: bool, count: u32) -> i8 {
 
 // The smaller number of the two ends.
 fn level_of(model: &Model, a: u32, b: u32) -> u16 {
-    let x = model::get(model, model::NUMBERS, a as usize);
-    let y = model::get(model, model::NUMBERS, b as usize);
-    if x < y {
-        return x;
-    }
-    y
+    let x = model.get(NUMBERS, a as usize);
+    x.min(model.get(NUMBERS, b as usize))
 }
 
 // Carries an accepted call out on the expected site.
 fn carry_out(call: Call, model: &mut Model) -> Owed {
     let n = call.n as usize;
     let k = level_of(model, call.a, call.b);
-    let t = std::num::wrapping_sub_u16(k, !call.up as u16);
-    model::copy(model, n, model::NUMBERS, model::BEFORE);
-    model::put_link(model, call.a as usize, call.b as usize, call.up);
+    let t = k.wrapping_sub(!call.up as u16);
+    model.copy(n, NUMBERS, BEFORE);
+    model.put_link(call.a as usize, call.b as usize, call.up);
     cores::peel(model, n);
     layout::relay(model, n, k, t);
     let count = list_changed(model, n);
@@ -162,23 +144,14 @@ fn carry_out(call: Call, model: &mut Model) -> Owed {
     }
 }
 
-fn refused(number: u32) -> Owed {
-    Owed {
-        number,
-        step: 0,
-        count: 0,
-    }
-}
-
 // What the call owes; the expected site is as after it.
 pub fn expect(call: Call, model: &mut Model) -> Owed {
-    let tables = tables_refusal(call);
-    if tables != 0 {
-        return refused(tables);
+    match ask(call, model) {
+        Ok(()) => carry_out(call, model),
+        Err(number) => Owed {
+            number,
+            step: 0,
+            count: 0,
+        },
     }
-    let ends = ends_refusal(call, model);
-    if ends != 0 {
-        return refused(ends);
-    }
-    carry_out(call, model)
 }

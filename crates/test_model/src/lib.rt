@@ -3,7 +3,7 @@
 // function has a `requires`.
 #![tactic(auto)]
 
-pub mod cells;
+mod cells;
 mod cores;
 pub mod expected;
 mod layout;

@@ -24,7 +24,7 @@ pub const PARTS: usize = LEFT + ENTRIES;
 
 pub const FRESH: usize = PARTS + ENTRIES;
 
-pub const LEN: usize = FRESH + ENTRIES;
+const LEN: usize = FRESH + ENTRIES;
 
 // The longest tables that a call is lent, and what is expected of them. They are arrays, as a reference to one has its length in its
 // type: that is cheaper to prove of than a slice.
@@ -34,31 +34,33 @@ pub type Numbers = [u8; ENTRIES];
 
 pub type Radios = [u16; ENTRIES];
 
-pub type Model = [u16; LEN];
-
-// Entry i of the section.
-pub fn get(model: &Model, section: usize, i: usize) -> u16 {
-    if ENTRIES <= i {
-        return 0;
-    }
-    let at = std::num::wrapping_add_usize(section, i);
-    if at < LEN {
-        return model[at];
-    }
-    0
+// The four tables that travel together.
+#[derive(Drop)]
+pub struct Tables {
+    pub links: Links,
+    pub numbers: Numbers,
+    pub order: Radios,
+    pub answer: Radios,
 }
 
-pub fn put(model: &mut Model, section: usize, i: usize, x: u16) {
-    if ENTRIES <= i {
-        return;
-    }
-    let at = std::num::wrapping_add_usize(section, i);
-    if at < LEN {
-        model[at] = x;
+impl Tables {
+    // No links, and numbers, order and answer table full of these entries.
+    pub fn full(number: u8, radio: u16) -> Self {
+        Self {
+            links: [0; 64 * ENTRIES],
+            numbers: [number; ENTRIES],
+            order: [radio; ENTRIES],
+            answer: [radio; ENTRIES],
+        }
     }
 }
 
-// Where the links section has a and b; outside of it for a radio above 511.
+#[derive(Drop)]
+pub struct Model {
+    entries: [u16; LEN],
+}
+
+// Where the links section has the row of a; outside of it for a radio above 511.
 fn row_of(a: usize) -> usize {
     if SIDE <= a {
         return LEN;
@@ -66,49 +68,73 @@ fn row_of(a: usize) -> usize {
     LINKS + SIDE * a
 }
 
-// Whether a and b are linked.
-pub fn near(model: &Model, a: usize, b: usize) -> bool {
-    b < SIDE && get(model, row_of(a), b) == 1
-}
-
-// Writes a link, up or down.
-pub fn put_link(model: &mut Model, a: usize, b: usize, up: bool) {
-    put(model, row_of(a), b, up as u16);
-    put(model, row_of(b), a, up as u16);
-}
-
-// Copies the first n entries of a section to another.
-pub fn copy(model: &mut Model, n: usize, from: usize, to: usize) {
-    let mut i: usize = 0;
-    while i < n {
-        put(model, to, i, get(model, from, i));
-        i += 1;
+impl Model {
+    // Every entry is 0.
+    pub fn new() -> Self {
+        Self { entries: [0; LEN] }
     }
-}
 
-// Writes x to the first n entries of a section.
-pub fn fill(model: &mut Model, n: usize, section: usize, x: u16) {
-    let mut i: usize = 0;
-    while i < n {
-        put(model, section, i, x);
-        i += 1;
+    // Entry i of the section.
+    pub fn get(&self, section: usize, i: usize) -> u16 {
+        if ENTRIES <= i {
+            return 0;
+        }
+        let at = section.wrapping_add(i);
+        if at < LEN {
+            return self.entries[at];
+        }
+        0
     }
-}
 
-// Writes 0 to n - 1 to the first entries of the order.
-fn index(model: &mut Model, n: usize) {
-    let mut i: usize = 0;
-    while i < n {
-        put(model, ORDER, i, (i % 65536) as u16);
-        i += 1;
+    pub fn put(&mut self, section: usize, i: usize, x: u16) {
+        if ENTRIES <= i {
+            return;
+        }
+        let at = section.wrapping_add(i);
+        if at < LEN {
+            self.entries[at] = x;
+        }
     }
-}
 
-// A cleared site of n radios. Numbers, order and answer hold `number` and `radio` past the site's entries.
-pub fn clear(model: &mut Model, n: usize, number: u16, radio: u16) {
-    fill(model, ENTRIES, NUMBERS, number);
-    fill(model, ENTRIES, ORDER, radio);
-    fill(model, ENTRIES, ANSWER, radio);
-    fill(model, n, NUMBERS, 0);
-    index(model, n);
+    // Whether a and b are linked.
+    pub fn near(&self, a: usize, b: usize) -> bool {
+        b < SIDE && self.get(row_of(a), b) == 1
+    }
+
+    // Writes a link, up or down.
+    pub fn put_link(&mut self, a: usize, b: usize, up: bool) {
+        self.put(row_of(a), b, up as u16);
+        self.put(row_of(b), a, up as u16);
+    }
+
+    // Copies the first n entries of a section to another.
+    pub fn copy(&mut self, n: usize, from: usize, to: usize) {
+        for i in 0..n {
+            let x = self.get(from, i);
+            self.put(to, i, x);
+        }
+    }
+
+    // Writes x to the first n entries of a section.
+    pub fn fill(&mut self, n: usize, section: usize, x: u16) {
+        for i in 0..n {
+            self.put(section, i, x);
+        }
+    }
+
+    // Writes 0 to n - 1 to the first entries of the order.
+    fn index(&mut self, n: usize) {
+        for i in 0..n {
+            self.put(ORDER, i, (i % 65536) as u16);
+        }
+    }
+
+    // A cleared site of n radios. Numbers, order and answer hold `number` and `radio` past the site's entries.
+    pub fn clear(&mut self, n: usize, number: u16, radio: u16) {
+        self.fill(ENTRIES, NUMBERS, number);
+        self.fill(ENTRIES, ORDER, radio);
+        self.fill(ENTRIES, ANSWER, radio);
+        self.fill(n, NUMBERS, 0);
+        self.index(n);
+    }
 }

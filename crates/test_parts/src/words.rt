@@ -4,37 +4,27 @@ use crate::files;
 use std::io;
 use std::io::Read;
 
-// A byte as a word.
-fn wide(x: u8) -> u32 {
-    x as u32
-}
-
 // The next word of 32 bits.
 pub fn word(file: &mut impl Read) -> io::Result<u32> {
     let mut four = [0u8; 4];
     files::read_full(file, &mut four)?;
-    Ok(wide(four[0]) | (wide(four[1]) << 8) | (wide(four[2]) << 16) | (wide(four[3]) << 24))
+    Ok(u32::from_le_bytes(four))
 }
 
 // The next word of 16 bits.
 pub fn half(file: &mut impl Read) -> io::Result<u16> {
     let mut two = [0u8; 2];
     files::read_full(file, &mut two)?;
-    Ok(((wide(two[0]) | (wide(two[1]) << 8)) % 65536) as u16)
-}
-
-// Puts an entry; past the end nothing changes.
-fn put(s: &mut [u16], at: usize, x: u16) {
-    if at < s.len() {
-        s[at] = x;
-    }
+    Ok(u16::from_le_bytes(two))
 }
 
 // The next words, of 32 bits, as entries of a list; of those past its end nothing is kept.
 pub fn entries(file: &mut impl Read, count: usize, list: &mut [u16]) -> io::Result<()> {
     for i in 0..count {
         let x = (word(file)? % 65536) as u16;
-        put(list, i, x);
+        if i < list.len() {
+            list[i] = x;
+        }
     }
     Ok(())
 }
@@ -42,13 +32,13 @@ pub fn entries(file: &mut impl Read, count: usize, list: &mut [u16]) -> io::Resu
 // Flips bits of a byte; past the end nothing changes.
 pub fn flip8(s: &mut [u8], at: usize, x: u32) {
     if at < s.len() {
-        s[at] = s[at] ^ (x % 256) as u8;
+        s[at] ^= (x % 256) as u8;
     }
 }
 
 // Flips bits of an entry; past the end nothing changes.
 pub fn flip16(s: &mut [u16], at: usize, x: u32) {
     if at < s.len() {
-        s[at] = s[at] ^ (x % 65536) as u16;
+        s[at] ^= (x % 65536) as u16;
     }
 }

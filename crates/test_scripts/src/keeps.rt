@@ -7,7 +7,7 @@ use std::fs::File;
 use std::io;
 use std::io::Seek;
 use std::os::fd::{AsRawFd, RawFd};
-use test_parts::{files, say};
+use test_parts::files;
 
 // Plays one script with this keep.
 fn play(rt: &HostRuntime, path: &str, keep: Option<&File>) -> io::Result<()> {
@@ -16,8 +16,7 @@ fn play(rt: &HostRuntime, path: &str, keep: Option<&File>) -> io::Result<()> {
         output: rt.stdout(),
         errors: files::temporary(rt)?,
     };
-    say::text(rt, path.as_bytes())?;
-    say::text(rt, b" kept\n")?;
+    println!(rt; "{path} kept")?;
     let status = player::run_kept(&mut ends, keep, usize::MAX);
     print_errors(rt, &mut ends.errors)?;
     print_status(rt, status)
@@ -51,8 +50,8 @@ fn is_named(rt: &HostRuntime, name: &[u8]) -> bool {
 fn new(rt: &HostRuntime) -> io::Result<()> {
     let mut name = *b"keep-XXXXXX";
     let keep = keeping::new(rt, &mut name);
-    say::line(rt, b"keep", is_open(keep) as u64)?;
-    say::line(rt, b"named", is_named(rt, &name) as u64)
+    println!(rt; "keep {}", is_open(keep) as u32)?;
+    println!(rt; "named {}", is_named(rt, &name) as u32)
 }
 
 // A new file in the place of the program's input, as a program whose input is closed gets one. It notes that it is closed.
@@ -77,9 +76,9 @@ impl<'a> Drop for Low<'a> {
 fn as_input(rt: &HostRuntime) -> io::Result<()> {
     let open = Cell::new(true);
     let keep = keeping::kept(Low { open: &open });
-    say::line(rt, b"keep", keep.is_some() as u64)?;
-    say::line(rt, b"named", is_named(rt, b"keep-XXXXXX") as u64)?;
-    say::line(rt, b"input", open.get() as u64)
+    println!(rt; "keep {}", keep.is_some() as u32)?;
+    println!(rt; "named {}", is_named(rt, b"keep-XXXXXX") as u32)?;
+    println!(rt; "input {}", open.get() as u32)
 }
 
 // A keep is no descriptor of the program's own.
@@ -90,14 +89,13 @@ pub fn news(rt: &HostRuntime) -> io::Result<()> {
 
 // The program as it is started. Its words are this program's own, `--status 1`; its input and its errors are files.
 pub fn start(rt: &HostRuntime, path: &str) -> io::Result<()> {
-    say::text(rt, path.as_bytes())?;
-    say::text(rt, b" started\n")?;
+    println!(rt; "{path} started")?;
     let mut ends = Ends {
         input: files::open(rt, path)?,
         output: rt.stdout(),
         errors: files::temporary(rt)?,
     };
     player::start_on(rt, &mut ends);
-    say::text(rt, b"\n")?;
+    println!(rt)?;
     print_errors(rt, &mut ends.errors)
 }

@@ -15,7 +15,7 @@ use player::input::Ends;
 use std::fs::File;
 use std::io;
 use std::io::{Seek, SeekFrom, Write};
-use test_parts::{files, say};
+use test_parts::files;
 
 // More than an error line has.
 const ERRORS: usize = 512;
@@ -25,12 +25,12 @@ fn print_errors(rt: &HostRuntime, file: &mut File) -> io::Result<()> {
     let mut bytes = [0u8; ERRORS];
     file.seek(SeekFrom::Start(0))?;
     let count = files::read_full(file, &mut bytes)?;
-    say::text(rt, &bytes[..count])
+    rt.write_all(&bytes[..count])
 }
 
 // Prints the status.
 fn print_status(rt: &HostRuntime, status: u32) -> io::Result<()> {
-    say::line(rt, b"status", status as u64)
+    println!(rt; "status {status}")
 }
 
 // Plays an input, of which a read asks for at most `most` bytes.
@@ -46,16 +46,14 @@ fn run<O: Write + Drop>(rt: &HostRuntime, input: File, output: O, most: usize) -
 }
 
 // The words of a run on no input.
-fn words(rt: &HostRuntime, word: &[u8]) -> io::Result<()> {
+fn words(rt: &HostRuntime, word: &str) -> io::Result<()> {
     let mut ends = Ends {
         input: files::unreadable(rt)?,
         output: rt.stdout(),
         errors: files::temporary(rt)?,
     };
-    say::text(rt, b"replay ")?;
-    say::text(rt, word)?;
-    say::text(rt, b"\n")?;
-    let status = player::words::run_words(rt, &mut ends, 1, word);
+    println!(rt; "replay {word}")?;
+    let status = player::words::run_words(rt, &mut ends, 1, word.as_bytes());
     print_errors(rt, &mut ends.errors)?;
     print_status(rt, status)
 }
@@ -68,8 +66,7 @@ fn play_to<O: Write + Drop>(
     most: usize,
 ) -> io::Result<()> {
     let file = files::open(rt, path)?;
-    say::text(rt, path.as_bytes())?;
-    say::text(rt, b"\n")?;
+    println!(rt; "{path}")?;
     run(rt, file, output, most)
 }
 
@@ -178,7 +175,7 @@ fn by_bytes(rt: &HostRuntime) -> io::Result<()> {
 // output that is open for reading alone, for a run that waits in memory and for one that does not.
 fn failures(rt: &HostRuntime) -> io::Result<()> {
     play(rt, ".", usize::MAX)?;
-    say::text(rt, b"closed\n")?;
+    println!(rt; "closed")?;
     run(rt, files::unreadable(rt)?, rt.stdout(), usize::MAX)?;
     play(rt, "m1", 0)?;
     play_unwritten(rt, "m1")?;
@@ -188,9 +185,9 @@ fn failures(rt: &HostRuntime) -> io::Result<()> {
 
 // Words in place of an input.
 fn all_words(rt: &HostRuntime) -> io::Result<()> {
-    words(rt, b"--help")?;
-    words(rt, b"--version")?;
-    words(rt, b"m1")
+    words(rt, "--help")?;
+    words(rt, "--version")?;
+    words(rt, "m1")
 }
 
 fn main(rt: HostRuntime) -> io::Result<()> {

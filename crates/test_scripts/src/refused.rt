@@ -1,7 +1,7 @@
 // Both calls refused by each of their numbers, and pairs of questions in their order. Three radios, of which two are linked, take 16 bytes.
 use crate::writing::answer;
 use std::io;
-use test_parts::say;
+use summerbugle::{sb_script_length, sb_script_write};
 
 // Puts both calls, and prints the buffer, of which a refusal leaves every dot.
 fn ask(
@@ -12,25 +12,17 @@ fn ask(
     order: &[u16],
     text: &mut [u8],
 ) -> io::Result<()> {
-    answer(
-        rt,
-        b"length",
-        summerbugle::sb_script_length(n, links, numbers, order),
-    )?;
-    answer(
-        rt,
-        b"write",
-        summerbugle::sb_script_write(n, links, numbers, order, text),
-    )?;
-    say::text(rt, text)?;
-    say::text(rt, b"\n")
+    answer(rt, "length", sb_script_length(n, links, numbers, order))?;
+    answer(rt, "write", sb_script_write(n, links, numbers, order, text))?;
+    rt.write_all(text)?;
+    println!(rt)
 }
 
 // Three radios, of which 0 and 1 are linked.
 pub fn link_two(links: &mut [u8], numbers: &mut [u8], order: &mut [u16]) {
     let mut answer = [0u16; 3];
-    tables::clear::clear(3, links, numbers, order);
-    links::link::link(true, 3, 0, 1, links, numbers, order, &mut answer);
+    let _ = tables::clear::clear(3, links, numbers, order);
+    let _ = links::link::link(true, 3, 0, 1, links, numbers, order, &mut answer);
 }
 
 // n and lengths.

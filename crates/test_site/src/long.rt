@@ -3,6 +3,7 @@ use crate::run;
 use std::fs::File;
 use std::io;
 use std::io::Write;
+use test_parts::random;
 
 // The bytes that are written at a time, and how often: 10 MB of noise, 573 KB of lines.
 const CHUNK: usize = 4096;
@@ -13,21 +14,12 @@ const LINE_CHUNKS: u32 = 140;
 
 const SHOWN_CHUNKS: u32 = 11;
 
-// The number after x, by Marsaglia's xorshift over 64 bits.
-fn next(x: u64) -> u64 {
-    let y = x ^ (x << 13);
-    let z = y ^ (y >> 7);
-    z ^ (z << 17)
-}
-
 // Fills the chunk with noise: the number after the last.
 fn fill(chunk: &mut [u8], seed: u64) -> u64 {
     let mut x = seed;
-    let mut i: usize = 0;
-    while i < chunk.len() {
-        x = next(x);
-        chunk[i] = ((x >> 32) % 256) as u8;
-        i += 1;
+    for y in chunk.iter_mut() {
+        x = random::next(x);
+        *y = ((x >> 32) % 256) as u8;
     }
     x
 }
@@ -43,10 +35,8 @@ fn write_noise_chunk(file: &mut File, seed: u64) -> io::Result<u64> {
 // Writes so many chunks of noise.
 fn write_noise(file: &mut File, chunks: u32) -> io::Result<()> {
     let mut x: u64 = 1;
-    let mut i: u32 = 0;
-    while i < chunks {
+    for _ in 0..chunks {
         x = write_noise_chunk(file, x)?;
-        i += 1;
     }
     Ok(())
 }
@@ -54,10 +44,8 @@ fn write_noise(file: &mut File, chunks: u32) -> io::Result<()> {
 // Fills the chunk with a pair of lines over and over.
 fn fill_lines(chunk: &mut [u8]) {
     let lines = *b"up 0 1\ndown 0 1\n";
-    let mut i: usize = 0;
-    while i < chunk.len() {
+    for i in 0..chunk.len() {
         chunk[i] = lines[i % 16];
-        i += 1;
     }
 }
 
@@ -70,10 +58,8 @@ fn write_lines_chunk(file: &mut File) -> io::Result<()> {
 
 // Writes so many chunks of lines.
 fn write_lines(file: &mut File, chunks: u32) -> io::Result<()> {
-    let mut i: u32 = 0;
-    while i < chunks {
+    for _ in 0..chunks {
         write_lines_chunk(file)?;
-        i += 1;
     }
     Ok(())
 }
@@ -81,20 +67,20 @@ fn write_lines(file: &mut File, chunks: u32) -> io::Result<()> {
 // 10 MB of noise behind a beginning.
 pub fn noise(rt: &HostRuntime, front: &[u8]) -> io::Result<()> {
     let mut file = run::new_file(rt)?;
-    run::text(rt, b"noise\n")?;
+    println!(rt; "noise")?;
     file.write_all(front)?;
     write_noise(&mut file, CHUNKS)?;
-    run::last(rt, file, usize::MAX, b"check")
+    run::last(rt, file, usize::MAX, "check")
 }
 
 // 71,680 lines that take a link up and down, and then the given ones, read by so many bytes at a time.
 pub fn script(rt: &HostRuntime, end: &[u8], most: usize) -> io::Result<()> {
     let mut file = run::new_file(rt)?;
-    run::text(rt, b"long script\n")?;
+    println!(rt; "long script")?;
     file.write_all(b"radios 3\n")?;
     write_lines(&mut file, LINE_CHUNKS)?;
     file.write_all(end)?;
-    run::last(rt, file, most, b"numbers")
+    run::last(rt, file, most, "numbers")
 }
 
 // Writes lines that take more than the front.
@@ -106,7 +92,7 @@ pub fn write_shown(file: &mut File) -> io::Result<()> {
 // These lines, read by so many bytes at a time, and shown.
 pub fn shown(rt: &HostRuntime, most: usize) -> io::Result<()> {
     let mut file = run::new_file(rt)?;
-    run::text(rt, b"shown script\n")?;
+    println!(rt; "shown script")?;
     write_shown(&mut file)?;
     run::shown(rt, file, most)
 }

@@ -30,42 +30,40 @@ fn scripts(rt: &HostRuntime) -> io::Result<()> {
 
 // Reads that bring a byte each; one that has no room, and so fails; a folder; an input that is open for writing alone.
 fn reads(rt: &HostRuntime) -> io::Result<()> {
-    run::by_reads(rt, b"script-7", b"numbers", 1)?;
-    run::by_reads(rt, b"image-7", b"numbers", 1)?;
-    run::by_reads(rt, b"no-line-feed", b"check", 1)?;
-    run::by_reads(rt, b"script-7", b"numbers", 0)?;
-    run::by_reads(rt, b".", b"check", usize::MAX)?;
+    run::by_reads(rt, "script-7", "numbers", 1)?;
+    run::by_reads(rt, "image-7", "numbers", 1)?;
+    run::by_reads(rt, "no-line-feed", "check", 1)?;
+    run::by_reads(rt, "script-7", "numbers", 0)?;
+    run::by_reads(rt, ".", "check", usize::MAX)?;
     run::closed(rt)
 }
 
 // Outputs that cannot be written.
 fn writes(rt: &HostRuntime) -> io::Result<()> {
-    run::unwritten(rt, b"script-7", b"check")?;
-    run::unwritten(rt, b"image-512", b"image")?;
-    run::unwritten(rt, b"script-7", b"help")?;
-    run::unwritten(rt, b"script-7", b"--version")?;
-    run::silent(rt, b"radios-0", b"check")?;
-    run::silent(rt, b"script-7", b"unknown")
+    run::unwritten(rt, "script-7", "check")?;
+    run::unwritten(rt, "image-512", "image")?;
+    run::unwritten(rt, "script-7", "help")?;
+    run::unwritten(rt, "script-7", "--version")?;
+    run::silent(rt, "radios-0", "check")?;
+    run::silent(rt, "script-7", "unknown")
 }
 
 // A site of 10,240 links through every verb.
 fn full(rt: &HostRuntime) -> io::Result<()> {
-    run::long_text(rt, b"full-512", b"check")?;
-    run::long_text(rt, b"full-512", b"numbers")?;
-    run::long_text(rt, b"full-512", b"sheet")?;
-    run::long_text(rt, b"full-512", b"script")?;
-    run::long_text(rt, b"full-512", b"image")?;
-    run::long_text(rt, b"full-512", b"backbone")?;
-    run::long_text(rt, b"full-512", b"staircase")?;
-    run::long_text(rt, b"full-512", b"tree")
+    run::long_text(rt, "full-512", "check")?;
+    run::long_text(rt, "full-512", "numbers")?;
+    run::long_text(rt, "full-512", "sheet")?;
+    run::long_text(rt, "full-512", "script")?;
+    run::long_text(rt, "full-512", "image")?;
+    run::long_text(rt, "full-512", "backbone")?;
+    run::long_text(rt, "full-512", "staircase")?;
+    run::long_text(rt, "full-512", "tree")
 }
 
 // The words of every number, and of two that are none.
 fn refusals(rt: &HostRuntime) -> io::Result<()> {
-    let mut number: u32 = 0;
-    while number < 22 {
+    for number in 0..22 {
         refusal(rt, number)?;
-        number += 1;
     }
     Ok(())
 }
@@ -75,21 +73,22 @@ fn refusal(rt: &HostRuntime, number: u32) -> io::Result<()> {
     let mut out = [0u8; 128];
     let end = words::put_refused(&mut out, 0, number);
     let count = input::within(end, &out);
-    run::word(rt, &out[..count], b"\n")
+    rt.write_all(&out[..count])?;
+    println!(rt)
 }
 
 // The program as it is started: on a script, on one that is refused, and on a long one, whose errors are a file or a terminal.
 fn starts(rt: &HostRuntime) -> io::Result<()> {
-    started::on(rt, b"script-7")?;
-    started::on(rt, b"radios-0")?;
+    started::on(rt, "script-7")?;
+    started::on(rt, "radios-0")?;
     started::on_lines(rt)?;
     started::on_terminal(rt)
 }
 
 fn main(rt: HostRuntime) -> io::Result<()> {
     cases::run_all(&rt, "cases")?;
-    run::round_trip(&rt, b"script-7", b"image-7")?;
-    run::round_trip(&rt, b"image-512", b"image-512")?;
+    run::round_trip(&rt, "script-7", "image-7")?;
+    run::round_trip(&rt, "image-512", "image-512")?;
     noises(&rt)?;
     scripts(&rt)?;
     reads(&rt)?;

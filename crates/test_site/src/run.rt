@@ -14,33 +14,28 @@ const BYTES: usize = 131072;
 // More than an error line has.
 const ERRORS: usize = 512;
 
-pub(crate) fn text(rt: &HostRuntime, bytes: &[u8]) -> io::Result<()> {
-    rt.write_all(bytes)
+// A verb with `count` words after it, of which v and k are the first.
+#[derive(Clone, Copy)]
+pub struct Asked<'a> {
+    pub verb: &'a str,
+    pub count: usize,
+    pub v: &'a str,
+    pub k: &'a str,
 }
 
-// Prints a word and what ends it.
-pub(crate) fn word(rt: &HostRuntime, bytes: &[u8], end: &[u8]) -> io::Result<()> {
-    text(rt, bytes)?;
-    text(rt, end)
-}
-
-// Prints a word and a number, in a line.
-pub(crate) fn line(rt: &HostRuntime, bytes: &[u8], x: u64) -> io::Result<()> {
-    text(rt, bytes)?;
-    println!(rt; "{x}")
+// A verb alone.
+fn alone(verb: &str) -> Asked<'_> {
+    Asked {
+        verb,
+        count: 0,
+        v: "",
+        k: "",
+    }
 }
 
 // A new file without a name, open for reading and writing.
 pub(crate) fn new_file(rt: &HostRuntime) -> io::Result<File> {
     files::temporary(rt)
-}
-
-// The file of this name, open for reading.
-pub(crate) fn open(rt: &HostRuntime, path: &[u8]) -> io::Result<File> {
-    match std::str::from_utf8(path) {
-        Ok(name) => files::open(rt, name),
-        Err(_) => Err(io::Error::from(io::ErrorKind::InvalidInput)),
-    }
 }
 
 // The file is read from its beginning next.
@@ -62,19 +57,16 @@ pub(crate) fn print_file(rt: &HostRuntime, file: &File) -> io::Result<()> {
     let mut bytes = [0u8; ERRORS];
     rewind(file)?;
     let count = read(file, &mut bytes)?;
-    text(rt, &bytes[..count])
+    rt.write_all(&bytes[..count])
 }
 
 // Runs a verb with reads of at most `most` bytes, its output to `output`, and prints the errors and the status.
-pub(crate) fn run<O: Write + Drop>(
+fn run<O: Write + Drop>(
     rt: &HostRuntime,
     input: &File,
     output: O,
     most: usize,
-    verb: &[u8],
-    count: usize,
-    v: &[u8],
-    k: &[u8],
+    asked: Asked,
 ) -> io::Result<()> {
     let errors = new_file(rt)?;
     let mut ends = Ends {
@@ -82,9 +74,18 @@ pub(crate) fn run<O: Write + Drop>(
         output,
         errors: &errors,
     };
-    let status = site_program::run(&mut ends, most, false, verb, count, v, k);
+    let Asked { verb, count, v, k } = asked;
+    let status = site_program::run(
+        &mut ends,
+        most,
+        false,
+        verb.as_bytes(),
+        count,
+        v.as_bytes(),
+        k.as_bytes(),
+    );
     print_file(rt, &errors)?;
-    line(rt, b"status ", status as u64)
+    println!(rt; "status {status}")
 }
 
 // The verb `check` on a file, as on a terminal: how far it is is shown. The file is closed.
@@ -98,7 +99,7 @@ pub(crate) fn shown(rt: &HostRuntime, file: File, most: usize) -> io::Result<()>
     rewind(&file)?;
     let status = site_program::run(&mut ends, most, true, b"check", 0, b"", b"");
     print_file(rt, &errors)?;
-    line(rt, b"\nstatus ", status as u64)
+    println!(rt; "\nstatus {status}")
 }
 
 // Runs a verb without numbers on a file from its beginning.
@@ -107,74 +108,63 @@ fn again<O: Write + Drop>(
     file: &File,
     output: O,
     most: usize,
-    verb: &[u8],
+    verb: &str,
 ) -> io::Result<()> {
     rewind(file)?;
-    run(rt, file, output, most, verb, 0, b"", b"")
+    run(rt, file, output, most, alone(verb))
 }
 
 // The same, with its output printed, and the file closed.
-pub(crate) fn last(rt: &HostRuntime, file: File, most: usize, verb: &[u8]) -> io::Result<()> {
+pub(crate) fn last(rt: &HostRuntime, file: File, most: usize, verb: &str) -> io::Result<()> {
     again(rt, &file, rt.stdout(), most, verb)
 }
 
 // Prints the words of a case.
-fn print_words(rt: &HostRuntime, path: &[u8], verb: &[u8], v: &[u8], k: &[u8]) -> io::Result<()> {
-    let space = b" ";
-    word(rt, path, space)?;
-    word(rt, verb, space)?;
-    word(rt, v, space)?;
-    word(rt, k, b"\n")
+fn print_words(rt: &HostRuntime, path: &str, asked: Asked) -> io::Result<()> {
+    println!(rt; "{path} {} {} {}", asked.verb, asked.v, asked.k)
 }
 
-// A verb with `count` words after it, of which v and k are the first, on a file.
-pub fn words(
-    rt: &HostRuntime,
-    path: &[u8],
-    verb: &[u8],
-    count: usize,
-    v: &[u8],
-    k: &[u8],
-) -> io::Result<()> {
-    let file = open(rt, path)?;
-    print_words(rt, path, verb, v, k)?;
-    run(rt, &file, rt.stdout(), usize::MAX, verb, count, v, k)
+// A verb with its words on a file.
+pub fn words(rt: &HostRuntime, path: &str, asked: Asked) -> io::Result<()> {
+    let file = files::open(rt, path)?;
+    print_words(rt, path, asked)?;
+    run(rt, &file, rt.stdout(), usize::MAX, asked)
 }
 
 // A verb on a file that is read by so many bytes at a time.
-pub fn by_reads(rt: &HostRuntime, path: &[u8], verb: &[u8], most: usize) -> io::Result<()> {
-    let file = open(rt, path)?;
-    print_words(rt, path, verb, b"", b"")?;
+pub fn by_reads(rt: &HostRuntime, path: &str, verb: &str, most: usize) -> io::Result<()> {
+    let file = files::open(rt, path)?;
+    print_words(rt, path, alone(verb))?;
     again(rt, &file, rt.stdout(), most, verb)
 }
 
 // The verb `check` on an input that is not open for reading.
 pub fn closed(rt: &HostRuntime) -> io::Result<()> {
     let file = files::unreadable(rt)?;
-    text(rt, b"closed\n")?;
-    run(rt, &file, rt.stdout(), usize::MAX, b"check", 0, b"", b"")
+    println!(rt; "closed")?;
+    run(rt, &file, rt.stdout(), usize::MAX, alone("check"))
 }
 
 // A verb on a file, whose output cannot be written: it is open for reading alone.
-pub fn unwritten(rt: &HostRuntime, path: &[u8], verb: &[u8]) -> io::Result<()> {
-    let file = open(rt, path)?;
-    let output = open(rt, path)?;
-    print_words(rt, path, verb, b"", b"")?;
+pub fn unwritten(rt: &HostRuntime, path: &str, verb: &str) -> io::Result<()> {
+    let file = files::open(rt, path)?;
+    let output = files::open(rt, path)?;
+    print_words(rt, path, alone(verb))?;
     again(rt, &file, &output, usize::MAX, verb)
 }
 
 // A verb on a file, whose errors cannot be written: they show nowhere else.
-pub fn silent(rt: &HostRuntime, path: &[u8], verb: &[u8]) -> io::Result<()> {
-    let file = open(rt, path)?;
-    let errors = open(rt, path)?;
-    print_words(rt, path, verb, b"", b"")?;
+pub fn silent(rt: &HostRuntime, path: &str, verb: &str) -> io::Result<()> {
+    let file = files::open(rt, path)?;
+    let errors = files::open(rt, path)?;
+    print_words(rt, path, alone(verb))?;
     let mut ends = Ends {
         input: &file,
         output: rt.stdout(),
         errors: &errors,
     };
-    let status = site_program::run(&mut ends, usize::MAX, false, verb, 0, b"", b"");
-    line(rt, b"status ", status as u64)
+    let status = site_program::run(&mut ends, usize::MAX, false, verb.as_bytes(), 0, b"", b"");
+    println!(rt; "status {status}")
 }
 
 // Prints the length and the digest of what a file has.
@@ -182,15 +172,15 @@ fn print_digest(rt: &HostRuntime, file: &File) -> io::Result<()> {
     let mut bytes = [0u8; BYTES];
     rewind(file)?;
     let count = read(file, &mut bytes)?;
-    line(rt, b"bytes ", count as u64)?;
-    line(rt, b"digest ", digest::bytes(0, &bytes[..count]))
+    println!(rt; "bytes {count}")?;
+    println!(rt; "digest {}", digest::of(0, &bytes[..count]))
 }
 
 // A verb on a file, of whose output the length and the digest are printed.
-pub fn long_text(rt: &HostRuntime, path: &[u8], verb: &[u8]) -> io::Result<()> {
-    let file = open(rt, path)?;
+pub fn long_text(rt: &HostRuntime, path: &str, verb: &str) -> io::Result<()> {
+    let file = files::open(rt, path)?;
     let output = new_file(rt)?;
-    print_words(rt, path, verb, b"", b"")?;
+    print_words(rt, path, alone(verb))?;
     again(rt, &file, &output, usize::MAX, verb)?;
     print_digest(rt, &output)
 }
@@ -203,11 +193,12 @@ pub fn told(rt: &HostRuntime, status: u32) -> io::Result<()> {
         output: rt.stdout(),
         errors: rt.stderr(),
     };
-    player::words::tell(rt, &mut ends, file.as_raw_fd(), status);
-    player::words::tell(rt, &mut ends, -1, status);
-    text(rt, b"told ")?;
+    let descriptor = u32::try_from(file.as_raw_fd()).ok();
+    player::words::tell(rt, &mut ends, descriptor, status);
+    player::words::tell(rt, &mut ends, None, status);
+    print!(rt; "told ")?;
     print_file(rt, &file)?;
-    text(rt, b"\n")
+    println!(rt)
 }
 
 // Whether two files go on with the same bytes, as many as the longest image has.
@@ -216,22 +207,23 @@ fn is_same(one: &File, other: &File) -> io::Result<bool> {
     let mut second = [0u8; BYTES];
     let a = read(one, &mut first)?;
     let b = read(other, &mut second)?;
-    Ok(tables::fill::same8(&first[..a], &second[..b]))
+    Ok(&first[..a] == &second[..b])
 }
 
 // Writes the image of the site of `input` into a new file, and compares it with the expected image.
 fn compare(rt: &HostRuntime, input: &File, expected: &File) -> io::Result<()> {
     let output = new_file(rt)?;
-    again(rt, input, &output, usize::MAX, b"image")?;
+    again(rt, input, &output, usize::MAX, "image")?;
     rewind(&output)?;
-    line(rt, b"same ", is_same(&output, expected)? as u64)?;
-    last(rt, output, usize::MAX, b"check")
+    let same = is_same(&output, expected)?;
+    println!(rt; "same {}", same as u32)?;
+    last(rt, output, usize::MAX, "check")
 }
 
 // The verb `image` on a file, whose output is compared with another file, and checked.
-pub fn round_trip(rt: &HostRuntime, path: &[u8], image: &[u8]) -> io::Result<()> {
-    let input = open(rt, path)?;
-    let expected = open(rt, image)?;
-    word(rt, path, b" image\n")?;
+pub fn round_trip(rt: &HostRuntime, path: &str, image: &str) -> io::Result<()> {
+    let input = files::open(rt, path)?;
+    let expected = files::open(rt, image)?;
+    println!(rt; "{path} image")?;
     compare(rt, &input, &expected)
 }

@@ -4,6 +4,7 @@ use player::input::Ends;
 use std::fs::{File, OpenOptions};
 use std::io;
 use std::io::{Read, Seek, SeekFrom, Write};
+use test_parts::files;
 
 // Starts the program on an input, with its errors in a file of their own, which is printed after its status.
 fn start(rt: &HostRuntime, input: &File) -> io::Result<()> {
@@ -13,14 +14,14 @@ fn start(rt: &HostRuntime, input: &File) -> io::Result<()> {
         errors: run::new_file(rt)?,
     };
     site_program::start_on(rt, &mut ends);
-    run::text(rt, b"\n")?;
+    println!(rt)?;
     run::print_file(rt, &ends.errors)
 }
 
 // Starts it on a file.
-pub fn on(rt: &HostRuntime, path: &[u8]) -> io::Result<()> {
-    run::word(rt, path, b" started\n")?;
-    start(rt, &run::open(rt, path)?)
+pub fn on(rt: &HostRuntime, path: &str) -> io::Result<()> {
+    println!(rt; "{path} started")?;
+    start(rt, &files::open(rt, path)?)
 }
 
 // A script that takes more than the front.
@@ -33,7 +34,7 @@ fn many_lines(rt: &HostRuntime) -> io::Result<File> {
 
 // Starts it on many lines: a file is not shown how far it is.
 pub fn on_lines(rt: &HostRuntime) -> io::Result<()> {
-    run::text(rt, b"many lines started\n")?;
+    println!(rt; "many lines started")?;
     start(rt, &many_lines(rt)?)
 }
 
@@ -70,7 +71,7 @@ fn start_unseen(rt: &HostRuntime, input: &File) -> io::Result<u8> {
 // The same with a terminal in place of the file: it is shown, by a line that begins with a carriage return. A machine without terminals
 // shows nobody anything.
 pub fn on_terminal(rt: &HostRuntime) -> io::Result<()> {
-    run::text(rt, b"terminal started\n")?;
+    println!(rt; "terminal started")?;
     let lines = many_lines(rt)?;
     let terminal = OpenOptions::new()
         .read(true)
@@ -80,5 +81,5 @@ pub fn on_terminal(rt: &HostRuntime) -> io::Result<()> {
         Ok(terminal) => start_shown(rt, &lines, terminal)?,
         Err(_) => start_unseen(rt, &lines)?,
     };
-    run::line(rt, b"\nfirst byte ", byte as u64)
+    println!(rt; "\nfirst byte {byte}")
 }

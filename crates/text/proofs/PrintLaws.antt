@@ -35,8 +35,6 @@ puts_append {b} {c} {d} {xs} {ys} p q =
 pub puts_as : {b c : Buffer} {xs ys : List ℕ} → xs ≡ ys → Puts b xs c → Puts b ys c
 puts_as {b} e p = record { is = p.is ∙ ap (put b) e }
 
--- ---- decimal
-
 -- ---- a text put by pieces
 
 -- c is the buffer after the first pieces, and what is left takes it where the whole text takes b
@@ -62,28 +60,29 @@ putting_end {b} {c} p e = record { is = ap (put c) (sym e) ∙ p.is }
 
 -- ---- fields of a line, at any width
 
--- the first i of the numbers xs are put, a field each
-pub record Fields (xs : List ℕ) (b c : Buffer) (i : ℕ) : Type 0 where
+-- the first i of the things xs are put, a field each for the number that is printed of it
+pub record Fields {A : Type 0} (f : A → ℕ) (xs : List A) (b c : Buffer) (i : ℕ) : Type 0 where
   pub low : i ≤ length xs
-  pub is : Putting b (further_fields (map decimal xs)) c (further_fields (map decimal (drop i xs)))
+  pub is : Putting b (further_fields (map (λ (x : A). decimal (f x)) xs)) c (further_fields (map (λ (x : A). decimal (f x)) (drop i xs)))
 
-pub fields_none : (xs : List ℕ) {b : Buffer} → Fields xs b b 0
-fields_none xs = record { low = omega arith; is = putting_none }
+pub fields_none : {A : Type 0} (f : A → ℕ) (xs : List A) {b : Buffer} → Fields f xs b b 0
+fields_none f xs = record { low = omega arith; is = putting_none }
 
-pub fields_next : {xs : List ℕ} {b c d : Buffer} {i : ℕ} (x : ℕ) → i < length xs → x ≡ get_or xs i 0 → Fields xs b c i → Puts c (space ∷ decimal x) d
-    → Fields xs b d (i + 1)
+pub fields_next : {A : Type 0} {f : A → ℕ} {xs : List A} {b c d : Buffer} {i : ℕ} (x : A) (w : ℕ) → i < length xs → x ≡ get_or xs i x → w ≡ f x
+    → Fields f xs b c i → Puts c (space ∷ decimal w) d → Fields f xs b d (i + 1)
 unfolding further_fields
-fields_next {xs} {b} {c} {d} {i} x h e f p =
-    let split : further_fields (map decimal (drop i xs)) ≡ (space ∷ decimal x) ++ further_fields (map decimal (drop (i + 1) xs))
-    = rw (add-one i, drop-cons xs i 0 h, e) in
-    record { low = omega arith; is = putting_piece _ _ split f.is p }
+fields_next {A} {f} {xs} {b} {c} {d} {i} x w h e n s p =
+    let split : further_fields (map (λ (y : A). decimal (f y)) (drop i xs))
+    ≡ (space ∷ decimal w) ++ further_fields (map (λ (y : A). decimal (f y)) (drop (i + 1) xs))
+    = rw (add-one i, drop-cons xs i x h, ← e, n) in
+    record { low = omega arith; is = putting_piece _ _ split s.is p }
 
-pub fields_last : {xs : List ℕ} {b c d : Buffer} {i : ℕ} → length xs ≤ i → Fields xs b c i → Puts c (line_feed ∷ []) d
-    → Puts b (further_fields (map decimal xs)) d
+pub fields_last : {A : Type 0} {f : A → ℕ} {xs : List A} {b c d : Buffer} {i : ℕ} → length xs ≤ i → Fields f xs b c i → Puts c (line_feed ∷ []) d
+    → Puts b (further_fields (map (λ (x : A). decimal (f x)) xs)) d
 unfolding further_fields
-fields_last {xs} {b} {c} {d} {i} h f p =
-    let none_left : line_feed ∷ [] ≡ further_fields (map decimal (drop i xs)) = rw (drop_of_length-le xs h) in
-    putting_last f.is (puts_as none_left p)
+fields_last {A} {f} {xs} {b} {c} {d} {i} h s p =
+    let none_left : line_feed ∷ [] ≡ further_fields (map (λ (x : A). decimal (f x)) (drop i xs)) = rw (drop_of_length-le xs h) in
+    putting_last s.is (puts_as none_left p)
 
 -- ---- length
 

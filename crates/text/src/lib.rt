@@ -4,7 +4,7 @@
 #![tactic(auto)]
 
 ghost use Rattle.std.specs.Prelude.{◌≡◌, ◌∷◌, ◌<◌, ◌≤◌};
-ghost use Rattle.lists.specs.Kit.{[], map, length, drop};
+ghost use Rattle.lists.specs.Kit.{[], ℕ, map, length, drop};
 ghost use Rattle.text.specs.Text.{space, digit_byte, decimal, further_fields};
 ghost use Rattle.text.specs.Print.{buffer_at, Puts};
 
@@ -27,10 +27,8 @@ pub fn put_text(buffer: &mut [u8], at: usize, text: &[u8]) -> usize
     ensures { Puts (buffer_at buffer.old at) text.now (buffer_at buffer.new result) }
 {
     let mut place = at;
-    let mut i = 0;
-    while i < text.len() {
-        place = put_byte(buffer, place, text[i]);
-        i += 1;
+    for x in text {
+        place = put_byte(buffer, place, *x);
     }
     place
 }
@@ -76,44 +74,39 @@ pub fn put_field(buffer: &mut [u8], at: usize, x: u64) -> usize
     put_decimal(buffer, place, x)
 }
 
-// A number as it is printed.
-fn wide8(x: u8) -> u64
-    ensures { result ≡ x }
-{
-    x as u64
+// A number that is printed as a field of a line, whatever its width.
+pub trait Field {
+    ghost number: { Self → ℕ };
+
+    // The number, as wide as it is printed.
+    fn wide(&self) -> u64
+        ensures { result ≡ number self.now };
 }
 
-// A radio as it is printed.
-fn wide16(x: u16) -> u64
-    ensures { result ≡ x }
-{
-    x as u64
-}
+impl Field for u8 {
+    ghost number = { λ x. x };
 
-// Puts the rest of a line: a further field for each number, and the line feed.
-pub fn put_numbers(buffer: &mut [u8], at: usize, numbers: &[u8]) -> usize
-    ensures { Puts (buffer_at buffer.old at) (further_fields (map decimal numbers.now))
-        (buffer_at buffer.new result) }
-{
-    let mut place = at;
-    let mut i = 0;
-    while i < numbers.len() {
-        place = put_field(buffer, place, wide8(numbers[i]));
-        i += 1;
+    fn wide(&self) -> u64 {
+        *self as u64
     }
-    put_byte(buffer, place, b'\n')
 }
 
-// The same for radios.
-pub fn put_radios(buffer: &mut [u8], at: usize, radios: &[u16]) -> usize
-    ensures { Puts (buffer_at buffer.old at) (further_fields (map decimal radios.now))
+impl Field for u16 {
+    ghost number = { λ x. x };
+
+    fn wide(&self) -> u64 {
+        *self as u64
+    }
+}
+
+// Puts the rest of a line: a further field for each number of the list, and the line feed.
+pub fn put_fields<T: Field>(buffer: &mut [u8], at: usize, list: &[T]) -> usize
+    ensures { Puts (buffer_at buffer.old at) (further_fields (map (λ (x : T). decimal (T.number x)) list.now))
         (buffer_at buffer.new result) }
 {
     let mut place = at;
-    let mut i = 0;
-    while i < radios.len() {
-        place = put_field(buffer, place, wide16(radios[i]));
-        i += 1;
+    for x in list {
+        place = put_field(buffer, place, x.wide());
     }
     put_byte(buffer, place, b'\n')
 }

@@ -4,7 +4,7 @@ use Rattle.std.specs.Prelude.{◌≡◌, ◌⊎◌, ◌&&◌, ◌||◌, ◌∷�
 use Rattle.lists.{specs.Kit.{refl, sym, ap, ap₂, ◌∙◌, inl, inr, Bool, true, false, not, cond, List, [], map, append-nil, ℕ}}
 use Rattle.lists.{specs.Kit.{suc, arith, ltb, leb, eqb, length, get_or, take, set, length-append, ltb-true, lt-ltb, le-leb, eqb-true, eq-eqb}}
 use Rattle.lists.{specs.Kit.{not-true}, specs.Lists.{range, member, overwrite}, proofs.Tests.{bool_cases, and_left, and_right, and_both, iff_eq}}
-use Rattle.lists.{proofs.Member.{in_member}, proofs.Overwrite.{set_overwrite, get_d_front}, proofs.Map.{length-map, map_append, map_range_ext}}
+use Rattle.lists.{proofs.Member.{in_member}, proofs.Overwrite.{set_overwrite, get_d_front}, proofs.Map.{map_range_ext}}
 use Rattle.mesh.{specs.Graph.{Graph, radios}, specs.Cores.{number}, specs.Tables.{Tables, graph_in}, specs.Connected.{at_least, InCore, core_of}}
 use Rattle.mesh.{specs.Tree.{node, parent_name}, specs.declared.Node.{Node}, proofs.Trees.Reach.{core_of_iff}, proofs.Trees.CoreLevels.{in_core_below}}
 use Rattle.mesh.{proofs.Trees.CoreLevels.{in_core_level}}
@@ -18,19 +18,8 @@ use Rattle.tree.proofs.{NodeLists.{nodes_before_next, nodes_before_end, length_n
 
 -- ---- nodes and names in front
 
-pub lists_same : (s t : Lists) → s.names ≡ t.names → s.levels ≡ t.levels → s.parents ≡ t.parents → s.answer ≡ t.answer → s ≡ t
-lists_same s t a b c d =
-    ap (λ (x : List ℕ). lists x s.levels s.parents s.answer) a
-    ∙ ap (λ (x : List ℕ). lists t.names x s.parents s.answer) b
-    ∙ ap (λ (x : List ℕ). lists t.names t.levels x s.answer) c
-    ∙ ap (λ (x : List ℕ). lists t.names t.levels t.parents x) d
-
--- one node more, in one of the three tables
-set_node : (f : Node → ℕ) (xs : List Node) (x : Node) (d : List ℕ) (c y : ℕ) → c ≡ length xs → c < length d → y ≡ f x
-    → set (overwrite (map f xs) d) c y ≡ overwrite (map f (xs ++ x ∷ [])) d
-set_node f xs x d c y e l q =
-    set_overwrite (map f xs) d c y (e ∙ sym (length-map f xs)) l
-    ∙ ap (λ (ys : List ℕ). overwrite ys d) (ap {B = List ℕ} (λ z. map f xs ++ z ∷ []) q ∙ sym (map_append f xs (x ∷ [])))
+pub lists_same : (s t : Lists) → s.nodes ≡ t.nodes → s.answer ≡ t.answer → s ≡ t
+lists_same s t a b = ap₂ lists a b
 
 -- ---- one radio
 
@@ -86,8 +75,7 @@ module _ (n : ℕ) (t : Tables) (site : SoundSite n t) (k v : ℕ) (radio : v < 
         let both = and_left (ltb w g.n && leb k (number g w)) (not (covered g k v w)) (sym (marks.bits w) ∙ e) in
         (ltb-true w n (and_left (ltb w g.n) (leb k (number g w)) both), and_right (ltb w g.n) (leb k (number g w)) both)
 
-  module _ (old : Lists) (now next : Stand) (room : Room n old) (marks : Marks g k v now.left)
-      (same : length next.left ≡ length now.left) (grown : Growing g k v old now.lists now.count) where
+  module _ (old : Lists) (now next : Stand) (room : Room n old) (marks : Marks g k v now.left) (grown : Growing g k v old now.lists now.count) where
     abbrev before : Lists
     before = now.lists
 
@@ -110,7 +98,7 @@ module _ (n : ℕ) (t : Tables) (site : SoundSite n t) (k v : ℕ) (radio : v < 
     unfolding graph_in radios
     passed_next o h = (
       record {
-        long = same ∙ marks.long;
+        long = ap (λ (x : Stand). length x.left) h ∙ marks.long;
         bits = λ w. ap (λ (x : Stand). in_set x.left w) h ∙ marks.bits w ∙ of_radio w (bool_cases (ltb w n));
       },
       rw h (growing_passed g k v radio positive old before c o grown),
@@ -140,16 +128,18 @@ module _ (n : ℕ) (t : Tables) (site : SoundSite n t) (k v : ℕ) (radio : v < 
         length_nodes_before g k (suc v) radio,
       )
 
-      table_taken : (f : Node → ℕ) (d table new : List ℕ) (y : ℕ) → n + 1 ≤ length d → table ≡ overwrite (map f (nodes_before g k v)) d → new ≡ set table c y
-          → y ≡ f (node v k (parent_name g v k)) → new ≡ overwrite (map f (nodes_before g k (suc v))) d
-      table_taken f d table new y l e m p =
-          m ∙ ap (λ (z : List ℕ). set z c y) e ∙ set_node f (nodes_before g k v) (node v k (parent_name g v k)) d c y grown.counted
-          (omega (arith, few_taken)) p
-          ∙ ap (λ (xs : List Node). overwrite (map f xs) d) (sym nodes_taken)
-
       answer_before : before.answer ≡ overwrite (map (present g k v) (range 0 n)) old.answer
       unfolding graph_in radios with_front
       answer_before = ap (λ (x : Lists). x.answer) grown.front
+
+      list_taken : after.nodes ≡ overwrite (nodes_before g k (suc v)) old.nodes
+      unfolding with_front graph_in radios
+      list_taken =
+          let parent : get_or before.answer v 0 ≡ parent_name g v k =
+          ap (λ (z : List ℕ). get_or z v 0) answer_before ∙ get_d_front (present g k v) n v old.answer radio ∙ present_own g k v radio positive o in
+          h.nodes ∙ ap₂ (λ (z : List Node) (p : ℕ). set z c (node v k p)) (ap (λ (x : Lists). x.nodes) grown.front) parent
+          ∙ set_overwrite (nodes_before g k v) old.nodes c (node v k (parent_name g v k)) grown.counted (omega (arith, few_taken, room.nodes))
+          ∙ ap (λ (xs : List Node). overwrite xs old.nodes) (sym nodes_taken)
 
       done : FloodDone t.links v s h.core.came u h.core.queue
       done = h.core.flooded
@@ -170,7 +160,7 @@ module _ (n : ℕ) (t : Tables) (site : SoundSite n t) (k v : ℕ) (radio : v < 
       marks_taken : Marks g k (suc v) u
       unfolding graph_in
       marks_taken = record {
-        long = same ∙ marks.long;
+        long = done.long;
         bits = λ w. left_flood n t site k v s radio (inside s marks) (whole s marks o) h.core.came u h.core.queue done w
             ∙ ap (λ (b : Bool). b && not (member w (core_of g v k))) (marks.bits w) ∙ of_radio w (bool_cases (ltb w n));
       }
@@ -195,15 +185,7 @@ module _ (n : ℕ) (t : Tables) (site : SoundSite n t) (k v : ℕ) (radio : v < 
         marks_taken,
         record {
           counted = h.counted ∙ omega (arith, grown.counted, ap length nodes_taken, length-append (nodes_before g k v) (node v k (parent_name g v k) ∷ []));
-          front = lists_same after (with_front (nodes_before g k (suc v)) (map (present g k (suc v)) (range 0 n)) old)
-              (table_taken (λ x. x.name) old.names before.names after.names v room.names (ap (λ (x : Lists). x.names) grown.front) h.names
-              refl)
-              (table_taken (λ x. x.level) old.levels before.levels after.levels k room.levels (ap (λ (x : Lists). x.levels) grown.front)
-              h.levels refl)
-              (table_taken (λ x. x.parent) old.parents before.parents after.parents (get_or before.answer v 0) room.parents
-              (ap (λ (x : Lists). x.parents) grown.front) h.parents
-              (ap (λ (z : List ℕ). get_or z v 0) answer_before ∙ get_d_front (present g k v) n v old.answer radio ∙ present_own g k v radio positive o))
-              answer_taken;
+          front = lists_same after (with_front (nodes_before g k (suc v)) (map (present g k (suc v)) (range 0 n)) old) list_taken answer_taken;
         },
       )
 

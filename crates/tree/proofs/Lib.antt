@@ -11,5 +11,7 @@ pub mod LevelLoop
 pub mod TreeLoop
 -- the answer, refused and accepted
 pub mod TreeAnswer
+-- the tree in three tables, and as a list of nodes
+pub mod ThreeTables
 -- its functions in a linked program
 pub mod World

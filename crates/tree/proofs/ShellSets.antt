@@ -1,6 +1,6 @@
 -- The radios of each level as sets.
 -- In order: the set of one number, the level after it, the lowest radio of a level that the set still has.
-use Rattle.std.specs.Prelude.{◌≡◌, ◌⊎◌, ◌&&◌, ◌∷◌, ◌+◌, ◌≤◌, ◌<◌}
+use Rattle.std.specs.Prelude.{Some, ◌≡◌, ◌⊎◌, ◌&&◌, ◌∷◌, ◌+◌, ◌≤◌, ◌<◌}
 use Rattle.lists.{specs.Kit.{refl, sym, ap, ap₂, ◌∙◌, inl, inr, Bool, true, false, not, cond, List, [], ℕ, zero, suc}}
 use Rattle.lists.{specs.Kit.{arith, ltb, leb, eqb, length, get_or, take, replicate, length-replicate, ltb-true, ltb-false, lt-ltb, leb-true, le-leb, lt-leb}}
 use Rattle.lists.{specs.Kit.{eqb-true, eqb-false, eq-eqb}, specs.Facts.{EachOnce, Rising}, specs.Lists.{range, filter, head_or, member}}
@@ -10,6 +10,7 @@ use Rattle.lists.{proofs.Ascending.{ascending_range}}
 use Rattle.mesh.{specs.Limits.{max_radios, max_neighbours}, specs.Orders.{each_once, rising, few_later}, specs.Tables.{Tables, marked}}
 use Rattle.mesh.{specs.Sound.{rows_proper, enough, sound, sound_within}, proofs.Cores.Orders.{each_once_of, rising_of}}
 use Rattle.calls.specs.Questions.{lengths_of, size_good, site_lengths}
+use Rattle.rows.{specs.Rows.{first_in}, proofs.FirstLaws.{common_some}}
 use Rattle.rows.{specs.Sets.{in_set, put_in, common, SetTaken}, proofs.SetLaws.{in_set_zeros, in_set_radio, in_put_in, length_put_in}}
 use Rattle.floods.specs.Floods.{of_level, LevelSet, start}
 use Rattle.soundness.{specs.Checks.{fits_sound, SoundSite}, proofs.SoundSite.{fits_sound_site}}
@@ -169,10 +170,10 @@ sound_levels n t h = record {
 
 -- ---- the level after it
 
-pub level_next : (ns : List ℕ) (k : ℕ) (shell set after : List ℕ) → length set ≡ 8 → ShellSet ns k shell → LevelSet ns k set → SetTaken shell set after
+pub level_next : (ns : List ℕ) (k : ℕ) (shell set after : List ℕ) → ShellSet ns k shell → LevelSet ns k set → SetTaken shell set after
     → LevelSet ns (k + 1) after
 unfolding of_level has_number
-level_next ns k shell set after words own level taken x r =
+level_next ns k shell set after own level taken x r =
     taken.bits x ∙ ap₂ (λ (a b : Bool). a && not b) (level x r) (own.bits x) ∙ rest x (ltb x (length ns)) (bool_cases (eqb (get_or ns x 0) k))
   where
     rest : (x : ℕ) (a : Bool) → (eqb (get_or ns x 0) k ≡ true) ⊎ (eqb (get_or ns x 0) k ≡ false)
@@ -199,16 +200,16 @@ level_next ns k shell set after words own level taken x r =
 
 -- ---- the lowest radio of a level that the set still has
 
-module _ (x y : List ℕ) (lx : length x ≡ 8) (ly : length y ≡ 8) where
+module _ (x y : List ℕ) (lx : length x ≡ 8) where
   abbrev first : ℕ
   first = head_or max_radios (common x y)
 
   abbrev both : ℕ → Bool
   both v = in_set x v && in_set y v
 
-  first_in : first < max_radios → both first ≡ true
+  first_in_both : first < max_radios → both first ≡ true
   unfolding common
-  first_in l = (in_filter both (range 0 max_radios) first (head_or_below max_radios (common x y) l)).1
+  first_in_both l = (in_filter both (range 0 max_radios) first (head_or_below max_radios (common x y) l)).1
 
   pub first_before : (u : ℕ) → u < first → both u ≡ false
   unfolding common
@@ -243,24 +244,33 @@ module _ (ts ns : List ℕ) (k : ℕ) (shell : List ℕ) (own : ShellSet ns k sh
       let e : in_set shell u ≡ eqb (get_or ns u 0) k = own.bits u ∙ rw (lt-ltb u (length ns) l) in
       ap (λ (b : Bool). b && in_set s u) (sym e)
 
-  module _ (s : List ℕ) (words : length s ≡ 8) (v : ℕ) (lowest : v ≡ head_or max_radios (common shell s)) where
+  -- there is one
+  pub shell_radio : (s : List ℕ) {v : ℕ} → Some v ≡ first_in (common shell s) → (v ≡ head_or max_radios (common shell s)) × (v < length ns)
+  unfolding has_number
+  shell_radio s {v} e =
+      let f = common_some shell s e in
+      let marked : in_set shell v ≡ true =
+      and_left (in_set shell v) (in_set s v) (rw f.1 at (first_in_both shell s own.long (omega (arith, f.0, f.1)))) in
+      (sym f.1, ltb-true v (length ns) (and_left (ltb v (length ns)) (eqb (get_or ns v 0) k) (sym (own.bits v) ∙ marked)))
+
+  module _ (s : List ℕ) (v : ℕ) (lowest : v ≡ head_or max_radios (common shell s)) where
     pub takes_none : (u : ℕ) → u < length ns → u < v → takes_node ns k s u ≡ false
-    takes_none u l b = takes_shell s u l ∙ first_before shell s own.long words u (rw lowest at b)
+    takes_none u l b = takes_shell s u l ∙ first_before shell s own.long u (rw lowest at b)
 
     module _ (radio : v < length ns) (small : length ns ≤ max_radios) where
       pub takes_lowest : takes_node ns k s v ≡ true
-      takes_lowest = takes_shell s v radio ∙ rw lowest (first_in shell s own.long words (rw lowest at (let l : v < max_radios = omega arith in l)))
+      takes_lowest = takes_shell s v radio ∙ rw lowest (first_in_both shell s own.long (rw lowest at (let l : v < max_radios = omega arith in l)))
 
-  module _ (now after : Stand) (words : length now.left ≡ 8) (v : ℕ) (lowest : v ≡ head_or max_radios (common shell now.left)) where
+  module _ (now after : Stand) (v : ℕ) (lowest : v ≡ head_or max_radios (common shell now.left)) where
     abbrev s : List ℕ
     s = now.left
 
     abbrev t : List ℕ
     t = after.left
 
-    module _ (radio : v < length ns) (small : length ns ≤ max_radios) (same : length t ≡ length s) (h : Visited ts ns k v now after) where
+    module _ (radio : v < length ns) (small : length ns ≤ max_radios) (h : Visited ts ns k v now after) where
       brings : takes_node ns k s v ≡ true
-      brings = takes_lowest s words v lowest radio small
+      brings = takes_lowest s v lowest radio small
 
       gone : (w : ℕ) → in_set t w ≡ true → (in_set s w ≡ true) × (w ≡ v → ⊥)
       gone w e =
@@ -278,10 +288,10 @@ module _ (ts ns : List ℕ) (k : ℕ) (shell : List ℕ) (own : ShellSet ns k sh
           go (inl e) = ltb-true v next e
           go (inr e) =
               let l = ltb-false v next e in
-              let m = first_in shell t own.long (same ∙ words) (omega arith) in
+              let m = first_in_both shell t own.long (omega arith) in
               let g = gone next (and_right (in_set shell next) (in_set t next) m) in
               never (in_set shell next && in_set s next) (and_both (in_set shell next) (in_set s next) (and_left (in_set shell next) (in_set t next) m) g.0)
-              (first_before shell s own.long words next (rw lowest at (earlier g.1 l)))
+              (first_before shell s own.long next (rw lowest at (earlier g.1 l)))
             where
               earlier : (next ≡ v → ⊥) → next ≤ v → next < v
               earlier d l = omega arith

@@ -9,7 +9,7 @@ use Rattle.mesh.{proofs.Trees.Laws.{number_le_n}, proofs.Trees.ShellNames.{node_
 use Rattle.calls.{specs.Questions.{size_good, site_lengths, lengths_of}, proofs.SheetLaws.{numbers_two_digits}}
 use Rattle.soundness.{specs.Checks.{fits_sound}, proofs.SoundSite.{fits_sound_site, number_entry}}
 use Rattle.tree.specs.Trees.{Lists, with_front, Room, name_before, present, Growing, Levelled, Treed, TreeWritten}
-use Rattle.tree.proofs.{ShellCover.{present_start}, NodeLists.{nodes_before_start, nodes_before_tree}, GrowLaws.{lists_same}, LevelLoop.{SameLengths}}
+use Rattle.tree.proofs.{ShellCover.{present_start}, NodeLists.{nodes_before_start, nodes_before_tree}, GrowLaws.{lists_same}}
 
 -- ---- the root
 
@@ -20,18 +20,14 @@ present_first g =
     (λ w a l. let e : min 1 (suc (number g w)) ≡ 1 = omega arith in present_start g 1 w ∙ ap (parent_name g w) e)
     ∙ map_range_constant root_name 0 g.n
 
-pub growing_start : (g : Graph) (old new : Lists) (m : ℕ) → Room g.n old → m ≡ g.n → new.names ≡ set old.names 0 root_name → new.levels
-    ≡ set old.levels 0 0
-    → new.parents ≡ set old.parents 0 root_name → new.answer ≡ overwrite (replicate m root_name) old.answer
+pub growing_start : (g : Graph) (old new : Lists) (m : ℕ) → Room g.n old → m ≡ g.n → new.nodes ≡ set old.nodes 0 root → new.answer ≡ overwrite (replicate m root_name) old.answer
     → Growing g 1 0 old new 1
 unfolding with_front overwrite
-growing_start g old new m room e names levels parents answer = start
+growing_start g old new m room e nodes answer = start
   where
     front : new ≡ with_front (root ∷ []) (replicate g.n root_name) old
     front = lists_same new (with_front (root ∷ []) (replicate g.n root_name) old)
-        (names ∙ set_overwrite [] old.names 0 root_name refl (omega (arith, room.names)))
-        (levels ∙ set_overwrite [] old.levels 0 0 refl (omega (arith, room.levels)))
-        (parents ∙ set_overwrite [] old.parents 0 root_name refl (omega (arith, room.parents)))
+        (nodes ∙ set_overwrite [] old.nodes 0 root refl (omega (arith, room.nodes)))
         (answer ∙ ap (λ (j : ℕ). overwrite (replicate j root_name) old.answer) e)
 
     start : Growing g 1 0 old new 1
@@ -62,7 +58,6 @@ growing_last g top c old new l h a = record {
 pub record Treeing (ts ns : List ℕ) (before : Lists) (c₀ k : ℕ) (after : Lists) (c : ℕ) : Type 0 where
   pub low : 1 ≤ k
   pub few : c ≤ max_radios * k
-  pub lengths : SameLengths before after
   pub right : (order : List ℕ) → fits_sound (length ns) (tables ts ns order) ≡ true → (old : Lists) → Room (length ns) old
       → Growing (graph_in (length ns) ts) 1 0 old before c₀ → Growing (graph_in (length ns) ts) k 0 old after c
 
@@ -70,22 +65,14 @@ pub treeing_none : (ts ns : List ℕ) (before : Lists) → Treeing ts ns before 
 treeing_none ts ns before = record {
   low = omega arith;
   few = omega arith;
-  lengths = record { names = refl; levels = refl; parents = refl; answer = refl };
   right = λ order h old room grown. grown;
 }
 
-pub treeing_turn : (ts ns : List ℕ) (before : Lists) (c₀ k : ℕ) (now : Lists) (c : ℕ) (after : Lists) (r : ℕ) → SameLengths now after
-    → r ≤ max_radios * (k + 1) → Levelled ts ns k now c after r → Treeing ts ns before c₀ k now c → Treeing ts ns before c₀ (k + 1) after r
+pub treeing_turn : (ts ns : List ℕ) (before : Lists) (c₀ k : ℕ) (now : Lists) (c : ℕ) (after : Lists) (r : ℕ) → r ≤ max_radios * (k + 1) → Levelled ts ns k now c after r → Treeing ts ns before c₀ k now c → Treeing ts ns before c₀ (k + 1) after r
 unfolding Levelled
-treeing_turn ts ns before c₀ k now c after r same few h a = record {
+treeing_turn ts ns before c₀ k now c after r few h a = record {
   low = omega arith;
   few = few;
-  lengths = record {
-    names = same.names ∙ a.lengths.names;
-    levels = same.levels ∙ a.lengths.levels;
-    parents = same.parents ∙ a.lengths.parents;
-    answer = same.answer ∙ a.lengths.answer;
-  };
   right = λ order e old room grown. h order e old room (a.right order e old room grown);
 }
 
@@ -101,15 +88,14 @@ is_sound n t h = and_right (site_lengths n (lengths_of t)) (sound n t) (and_righ
 -- on sound tables no number is above the most neighbours
 pub grown_all : (ts ns : List ℕ) (old before : Lists) (high top : ℕ) (after : Lists) (c : ℕ) → length ns ≤ max_radios → high ≡ greatest ns → top
     ≡ min high max_neighbours
-    → before.names ≡ set old.names 0 root_name → before.levels ≡ set old.levels 0 0 → before.parents ≡ set old.parents 0 root_name
-    → before.answer ≡ overwrite (replicate (length ns) root_name) old.answer
+    → before.nodes ≡ set old.nodes 0 root → before.answer ≡ overwrite (replicate (length ns) root_name) old.answer
     → Treed ts ns top before after c → (order : List ℕ) → fits_sound (length ns) (tables ts ns order) ≡ true → Room (length ns) old
     → TreeWritten (graph_in (length ns) ts) old c after
 unfolding Treed graph_in
-grown_all ts ns old before high top after c small e m names levels parents answer a order h room =
+grown_all ts ns old before high top after c small e m nodes answer a order h room =
     let g = graph_in (length ns) ts in
     let site = fits_sound_site (length ns) (tables ts ns order) h in
-    let start = growing_start g old before (length ns) room refl names levels parents answer in
+    let start = growing_start g old before (length ns) room refl nodes answer in
     let last : Growing g (suc top) 0 old after c = rw (add-one top) at (a order h old room start) in
     let most : greatest ns ≤ max_neighbours = greatest_le ns max_neighbours
     (λ v l. numbers_two_digits (length ns) (tables ts ns order) refl (is_sound (length ns) (tables ts ns order) h) small v l) in

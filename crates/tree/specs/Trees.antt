@@ -1,5 +1,5 @@
--- The shell tree over three tables of nodes and the answer table.
---   Lists                   names, levels and parents of nodes, and the answer table
+-- The shell tree over the list of nodes and the answer table.
+--   Lists                   the list of nodes, and the answer table
 --   with_front xs ys s      the lists s with the nodes xs and the radios' names ys in front
 --   entries_set x ws t      the table t with x at each place that ws lists
 --   Stand                   a level on its way: the radios left, the lists, how many nodes stand in them
@@ -16,43 +16,30 @@
 --   Growing                 the lists hold these nodes and names in front
 --   Levelled, Treed         what one level, and all of them, leave for sound tables
 --   TreeWritten            the whole tree in front
---   Filled, tables_outcome  what the call over the tables comes to
---   TablesContract         document 01: the shell tree, its nodes as three tables: result and lists are that outcome
 -- Definitions only.
 use Rattle.std.specs.Prelude.{◌≡◌, ◌&&◌, ◌∷◌, ◌++◌, ◌+◌, ◌*◌, ◌≤◌, ◌<◌}
 use Rattle.lists.specs.{Kit.{Bool, true, not, cond, List, [], map, flat_map, ℕ, zero, suc, min, ltb, leb, eqb, length}}
 use Rattle.lists.specs.{Kit.{get_or, take, set}, Facts.{folded}, Lists.{range, filter, head_or, overwrite, In, EntriesBelow}}
-use Rattle.mesh.specs.{Limits.{max_radios, max_neighbours}, Graph.{Graph, radios}, Cores.{number}, Tables.{Tables, tables, graph_in}, Sound.{sound}}
+use Rattle.mesh.specs.{Limits.{max_radios, max_neighbours}, Graph.{Graph, radios}, Cores.{number}, Tables.{tables, graph_in}}
 use Rattle.mesh.specs.{Tree.{root_name, root, node, shell, node_name, parent_name, nodes_at, tree, node_names}, declared.Node.{Node}}
-use Rattle.calls.specs.{Questions.{lengths_of}, Outcomes.{value}, declared.Value.{Value}}
 use Rattle.rows.specs.Sets.{in_set}
 use Rattle.soundness.specs.Checks.{fits_sound}
 use Rattle.floods.specs.Floods.{LevelSet, FloodDone}
-use Rattle.calls.specs.{Chains.{tree_refusal}, Questions.{by_number}}
 
 pub record Lists : Type 0 where
-  pub names : List ℕ
-  pub levels : List ℕ
-  pub parents : List ℕ
+  pub nodes : List Node
   pub answer : List ℕ
 
-abbrev pub lists : (names levels parents answer : List ℕ) → Lists
-lists a b c d = record { names = a; levels = b; parents = c; answer = d }
+abbrev pub lists : (nodes : List Node) → (answer : List ℕ) → Lists
+lists a b = record { nodes = a; answer = b }
 
 -- later entries keep their content
 unfoldable pub with_front : (nodes : List Node) → (names : List ℕ) → Lists → Lists
-with_front xs ys s =
-    lists
-    (overwrite (map (λ (x : Node). x.name) xs) s.names)
-    (overwrite (map (λ (x : Node). x.level) xs) s.levels)
-    (overwrite (map (λ (x : Node). x.parent) xs) s.parents)
-    (overwrite ys s.answer)
+with_front xs ys s = lists (overwrite xs s.nodes) (overwrite ys s.answer)
 
 -- there are n + 1 places for nodes, and n for radios
 pub record Room (n : ℕ) (s : Lists) : Type 0 where
-  pub names : n + 1 ≤ length s.names
-  pub levels : n + 1 ≤ length s.levels
-  pub parents : n + 1 ≤ length s.parents
+  pub nodes : n + 1 ≤ length s.nodes
   pub answer : n ≤ length s.answer
 
 -- ---- one radio
@@ -78,9 +65,7 @@ pub record CoreNamed (ts : List ℕ) (v : ℕ) (s a t b : List ℕ) : Type 0 whe
 
 -- a node comes behind the others: v, the level and the name that v had
 pub record NodeTaken (ts : List ℕ) (k v : ℕ) (before after : Stand) : Type 0 where
-  pub names : after.lists.names ≡ set before.lists.names before.count v
-  pub levels : after.lists.levels ≡ set before.lists.levels before.count k
-  pub parents : after.lists.parents ≡ set before.lists.parents before.count (get_or before.lists.answer v 0)
+  pub nodes : after.lists.nodes ≡ set before.lists.nodes before.count (node v k (get_or before.lists.answer v 0))
   pub core : CoreNamed ts v before.left before.lists.answer after.left after.lists.answer
   pub counted : after.count ≡ before.count + 1
 
@@ -172,29 +157,3 @@ Treed ts ns top s t r =
 pub record TreeWritten (g : Graph) (before : Lists) (r : ℕ) (after : Lists) : Type 0 where
   pub count : r ≡ length (tree g)
   pub front : after ≡ with_front (tree g) (node_names g) before
-
--- ---- the shell tree
-
--- how many nodes the three tables have place for
-unfoldable pub places : Lists → ℕ
-places s = min (min (length s.names) (length s.levels)) (length s.parents)
-
--- what the call over the tables comes to: the reply, and the four tables after it
-pub record Filled : Type 0 where
-  pub reply : Value
-  pub lists : Lists
-
-abbrev pub filled : Value → Lists → Filled
-filled r u = record { reply = r; lists = u }
-
--- `room` is how many places the caller has for nodes beside the three tables
-unfoldable pub tables_outcome : (n room : ℕ) → Tables → (before : Lists) → Filled
-tables_outcome n room t s =
-    let g = graph_in n t.links in
-    by_number
-    (tree_refusal n (lengths_of t) (min room (places s)) (length s.answer) (sound n t))
-    (filled (value 0 (length (tree g))) (with_front (tree g) (node_names g) s))
-    (λ q. filled (value q 0) s)
-
-unfoldable pub TablesContract : (n room : ℕ) → Tables → (before : Lists) → Value → (after : Lists) → Type 0
-TablesContract n room t s r u = filled r u ≡ tables_outcome n room t s

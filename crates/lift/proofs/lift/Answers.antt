@@ -1,35 +1,27 @@
 -- `lift` meets its contract: questions 1 to 4, and then the first pair that lifts v, or 20.
-use Rattle.lists.specs.Kit.{arith, rules}
-use Rattle.mesh.specs.Tables.{tables}
+use Rattle.lists.specs.Kit.{arith, refl}
+use Rattle.mesh.specs.Lent.{read_of}
+use Rattle.calls.proofs.AnswerLaws.{refused_not}
 use Rattle.lift.proofs.SearchLaws.{asked_radios, search_ready, answer_refused, answer_past, answer_none, answer_some}
 use Rattle.lift.proofs.lift.Goals as goal
 
-pub returns-then-number-ne0 : goal.returns-then-number-ne0
-returns-then-number-ne0 c =
-    let t = tables c.args.links.now c.args.numbers.now c.args.order.now in
-    answer_refused c.args.n c.args.v t _ _ _ c.asked-number.ensures c.if-number-ne0.true
+pub returns-in-Err : goal.returns-in-Err
+returns-in-Err c =
+    answer_refused c.args.t.now.radios c.args.v (read_of c.args.t.now) _ _ _ c.in-Err.ensures (refused_not c.in-Err.refusal)
 
-pub returns-then-n-v : goal.returns-then-n-v
-returns-then-n-v c =
-    let t = tables c.args.links.now c.args.numbers.now c.args.order.now in
-    answer_past c.args.n c.args.v t _ _ _ c.asked-number.ensures c.if-number-ne0.false c.if-n-v.true
+pub returns-then-t-v : goal.returns-then-t-v
+returns-then-t-v c = answer_past c.args.t.now.radios c.args.v (read_of c.args.t.now) _ _ _ c.in_default.ensures refl c.if-t-v.true
 
-pub first_pair-pair-requires : goal.first_pair-pair-requires
-first_pair-pair-requires c =
-    let t = tables c.args.links.now c.args.numbers.now c.args.order.now in
-    let ready = search_ready c.args.n c.args.v t _ _ _ c.asked-number.ensures c.if-number-ne0.false (search rules) (search rules) in
-    (ready.0, omega (arith, c.if-n-v.false, asked_radios c.args.n c.args.v t _ _ _ c.asked-number.ensures c.if-number-ne0.false), ready.1)
+pub first_pair-requires : goal.first_pair-requires
+first_pair-requires c =
+    let t = read_of c.args.t.now in
+    let ready = search_ready c.args.t.now.radios c.args.v t _ _ _ c.in_default.ensures refl in
+    (ready.0, omega (arith, c.if-t-v.false, asked_radios c.args.t.now.radios c.args.v t _ _ _ c.in_default.ensures refl), ready.1)
 
-pub returns-then-pair-ge-RADIOS : goal.returns-then-pair-ge-RADIOS
-returns-then-pair-ge-RADIOS c =
-    let t = tables c.args.links.now c.args.numbers.now c.args.order.now in
-    answer_none c.args.n c.args.v t _ _ _ c.asked-number.ensures
-    c.if-number-ne0.false c.if-n-v.false
-    (c.first_pair-pair.ensures.none c.if-pair-ge-RADIOS.true)
+pub returns-in-Some : goal.returns-in-Some
+returns-in-Some c =
+    answer_some c.args.t.now.radios c.args.v (read_of c.args.t.now) _ _ _ c.in_default.ensures refl c.if-t-v.false _ _ c.in-Some.ensures
 
-pub returns : goal.returns
-returns c =
-    let t = tables c.args.links.now c.args.numbers.now c.args.order.now in
-    answer_some c.args.n c.args.v t _ _ _ c.asked-number.ensures
-    c.if-number-ne0.false c.if-n-v.false _ _
-    (c.first_pair-pair.ensures.some c.if-pair-ge-RADIOS.false)
+pub returns-in-None : goal.returns-in-None
+returns-in-None c =
+    answer_none c.args.t.now.radios c.args.v (read_of c.args.t.now) _ _ _ c.in_default.ensures refl c.if-t-v.false c.in-None.ensures

@@ -13,15 +13,6 @@ pub returns-then-links-start : goal.returns-then-links-start
 returns-then-links-start c =
     rw (above_short c.args.links.now c.args.a c.if-links-start.true) record { counted = omega arith; listed = sets_front c.args.list.now [] }
 
-pub list_words-requires : goal.list_words-requires
-list_words-requires c =
-    record {
-      whole = c.if-links-start.false;
-      word = omega (arith, c.if-a-ge-RADIOS.false);
-      short = omega (arith, c.requires, c.list_bits-n.auto.list);
-      counted = omega (arith, c.list_bits-n.ensures.counted, c.list_bits-n.auto.list);
-    }
-
 pub returns : goal.returns
 returns c =
     let left = c.word_at.result / 2 ^ (c.args.a % 64) / 2 ^ 1 in
@@ -29,4 +20,5 @@ returns c =
     (above_words c.args.links.now c.args.a c.if-a-ge-RADIOS.false c.if-links-start.false (λ j. (c.type_inv.links j).fits) c.word_at.result
     left
     c.word_at.ensures refl)
-    c.list_bits-n.ensures.counted c.list_bits-n.ensures.listed c.list_words.ensures.counted c.list_words.ensures.listed in record { counted = both.0; listed = both.1 }
+    c.list_bits-n.ensures.counted c.list_bits-n.ensures.listed c.list_words.ensures.counted c.list_words.ensures.listed in
+    record { counted = both.0; listed = both.1 }

@@ -1,33 +1,14 @@
 -- `rows::list_bits` meets its contract: each turn takes the lowest set bit off the word, and what is left of the word's set
 -- bits gives what all of them give (`WordListing`). The measure is the word that is left.
-use Rattle.std.specs.Prelude.{◌-◌}
-use Rattle.lists.specs.Kit.{arith, and_le_r, trailing_le, rules}
-use Rattle.rows.proofs.{WordLaws.{word_none, length_set_bits_le}, Listing.{word_listing_turn, partial_none, partial_end, partial_full}}
+use Rattle.lists.specs.Kit.{arith}
+use Rattle.rows.proofs.{WordLaws.{word_none, length_set_bits_le}, Listing.{word_listing_turn, partial_end, partial_full}}
 use Rattle.rows.proofs.list_bits.Goals as goal
-
-pub loop-rest-init : goal.loop-rest-init
-loop-rest-init c = (search rules, partial_none _ _ _ c.requires.2)
-
-pub overflow_cast-n : goal.overflow_cast-n
-overflow_cast-n c = omega (arith, length_set_bits_le 64 c.args.first c.args.word)
 
 pub returns-then-list-n : goal.returns-then-list-n
 returns-then-list-n c = let both = partial_full _ _ _ (omega arith) c.loop-rest.invariant.1 in record { counted = both.0; listed = both.1 }
 
-pub overflow_add-list : goal.overflow_add-list
-overflow_add-list c = omega (arith, trailing_le 64 c.loop-rest.rest)
-
-pub overflow_cast-list : goal.overflow_cast-list
-overflow_cast-list c = omega (arith, trailing_le 64 c.loop-rest.rest)
-
-pub overflow_cast-list-in-loop-rest : goal.overflow_cast-list-in-loop-rest
-overflow_cast-list-in-loop-rest c = omega (arith, length_set_bits_le 64 c.args.first c.args.word)
-
 pub overflow_add-n : goal.overflow_add-n
 overflow_add-n c = omega (arith, length_set_bits_le 64 c.args.first c.args.word)
-
-pub loop-rest-smaller : goal.loop-rest-smaller
-loop-rest-smaller c = omega (arith, and_le_r c.loop-rest.rest (c.loop-rest.rest - 1))
 
 pub loop-rest-preserved : goal.loop-rest-preserved
 loop-rest-preserved c =

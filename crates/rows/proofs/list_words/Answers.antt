@@ -1,18 +1,8 @@
 -- `rows::list_words` meets its contract: the radios listed so far and the ones from word k on are all from the first word on, as
 -- far as the list reaches (`WordsListing`). The measure is the words that are left.
 use Rattle.lists.specs.Kit.{arith}
-use Rattle.rows.proofs.{Listing.{partial_none}, RowWords.{words_listing_turn, words_listing_end}}
+use Rattle.rows.proofs.{RowWords.{words_listing_turn, words_listing_end}}
 use Rattle.rows.proofs.list_words.Goals as goal
-
-pub loop-k-init : goal.loop-k-init
-loop-k-init c = (c.requires.word, partial_none _ _ _ c.requires.counted)
-
-pub word_at-requires : goal.word_at-requires
-word_at-requires c = omega (arith, c.requires.whole)
-
-pub list_bits-n-requires : goal.list_bits-n-requires
-list_bits-n-requires c =
-    (omega arith, omega (arith, c.loop-k.invariant.1.inside, c.requires.short), omega (arith, c.loop-k.invariant.1.inside, c.loop-k.invariant.1.long))
 
 pub loop-k-preserved : goal.loop-k-preserved
 loop-k-preserved c =

@@ -1,21 +1,9 @@
 -- `rows::row_above` meets its contract: the part of the list that is lent stops the byte, and what is written into it stands in
 -- front of the list.
-use Rattle.lists.specs.{Kit.{sym, ap, ◌∙◌, ℕ, arith, take, length-take, length-take-le}, Lists.{overwrite}}
+use Rattle.lists.specs.{Kit.{ap, ◌∙◌, ℕ, arith, take, length-take}, Lists.{overwrite}}
 use Rattle.rows.specs.Rows.{neighbours_above}
 use Rattle.rows.proofs.{Listing.{put_front}}
 use Rattle.rows.proofs.row_above.Goals as goal
-
-pub slice_bounds-list_above-end-2 : goal.slice_bounds-list_above-end-2
-slice_bounds-list_above-end-2 c = sym (length-take-le _ _ (omega (arith, c.row_room-room.ensures)))
-
-pub list_above-requires : goal.list_above-requires
-list_above-requires c =
-    omega (
-      arith,
-      c.row_room-room.ensures,
-      length-take c.row_room-room.result
-          c.args.list.now,
-    )
 
 pub returns : goal.returns
 returns c =

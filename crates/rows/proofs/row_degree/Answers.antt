@@ -2,7 +2,7 @@
 -- the byte has not passed the limit on neighbours. The measure is the words that are left.
 use Rattle.lists.specs.Kit.{ap, arith, length}
 use Rattle.rows.specs.Rows.{row_count}
-use Rattle.rows.proofs.{RowWords.{row_counting_turn, row_counting_stop, row_counting_end, length_row_from, row_from_zero}}
+use Rattle.rows.proofs.{RowWords.{row_counting_turn, row_counting_stop, row_counting_end, row_from_zero}}
 use Rattle.rows.proofs.{RowWords.{row_listed_short}}
 use Rattle.rows.proofs.row_degree.Goals as goal
 
@@ -12,18 +12,6 @@ returns-then-links-start c = omega (arith, ap length (row_listed_short c.args.li
 
 pub loop-k-init : goal.loop-k-init
 loop-k-init c = (omega arith, omega arith, omega (arith, ap length (row_from_zero c.args.links.now c.args.a)))
-
-pub overflow_cast-n : goal.overflow_cast-n
-overflow_cast-n c =
-    let few = (length_row_from _ (λ j. (c.type_inv.links j).fits) _ c.loop-k.k c.word_at.result
-    c.loop-k-test.true c.word_at.ensures).0 in
-    omega (arith, few, c.loop-k.invariant.1)
-
-pub overflow_add-n : goal.overflow_add-n
-overflow_add-n c =
-    let few = (length_row_from _ (λ j. (c.type_inv.links j).fits) _ c.loop-k.k c.word_at.result
-    c.loop-k-test.true c.word_at.ensures).0 in
-    omega (arith, few, c.loop-k.invariant.1)
 
 pub returns-then-n-ge-STOP : goal.returns-then-n-ge-STOP
 returns-then-n-ge-STOP c =

@@ -1,6 +1,6 @@
--- `put_cells` meets its contract: the cells that are left take the page where all of them do (`Cells`). The measure is how many are left.
+-- `put_cells` meets its contract: the cells that are left take the page where all of them do (`Cells`).
 use Rattle.std.specs.Prelude.{◌+◌}
-use Rattle.lists.specs.Kit.{arith}
+use Rattle.lists.specs.Kit.{refl, arith}
 use Rattle.text.proofs.PrintLaws.{length_putting}
 use Rattle.sheet.proofs.{PutLaws.{cells_none, cells_next, cells_last}}
 use Rattle.sheet.proofs.put_cells.Goals as goal
@@ -26,10 +26,10 @@ bounds-numbers-w c = omega (arith, c.requires.inside)
 pub put_cell-requires : goal.put_cell-requires
 put_cell-requires c =
     let low = c.requires.fit.two_digits (c.args.v + c.loop-i.i) (omega arith) in
-    (omega (arith, c.requires.room, length_putting c.loop-i.invariant.is), omega arith, omega (arith, c.wide8.ensures, low))
+    (omega (arith, c.requires.room, length_putting c.loop-i.invariant.is), omega arith, omega (arith, low))
 
 pub loop-i-preserved : goal.loop-i-preserved
-loop-i-preserved c = cells_next _ (omega arith) (c.wide8.ensures) (c.loop-i.invariant) (c.put_cell.ensures)
+loop-i-preserved c = cells_next _ (omega arith) refl (c.loop-i.invariant) (c.put_cell.ensures)
 
 pub returns : goal.returns
 returns c = cells_last (omega arith) c.loop-i.invariant

@@ -1,4 +1,4 @@
--- `put_sheet` meets its contract: the lines that are left take the page where all of them do (`Lines`). The measure is how many are left.
+-- `put_sheet` meets its contract: the lines that are left take the page where all of them do (`Lines`).
 use Rattle.lists.specs.Kit.{arith, length}
 use Rattle.text.proofs.PrintLaws.{length_putting}
 use Rattle.sheet.proofs.{PutLaws.{lines_none, lines_next, lines_last, line_inside}}

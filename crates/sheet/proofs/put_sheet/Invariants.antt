@@ -1,10 +1,6 @@
--- `put_sheet` meets its contract: the lines that are left take the page where all of them do (`Lines`). The measure is how many are left.
-use Rattle.std.specs.Prelude.{◌-◌}
+-- `put_sheet` meets its contract: the lines that are left take the page where all of them do (`Lines`).
 use Rattle.sheet.proofs.{PutLaws.{Lines}}
 use Rattle.sheet.proofs.put_sheet.Given as goal
 
 abbrev pub invariant-loop-i : goal.invariant-loop-i
 invariant-loop-i l = Lines l.numbers l.initial.page l.page l.i
-
-abbrev pub decreases-loop-i : goal.decreases-loop-i
-decreases-loop-i l = l.count - l.i

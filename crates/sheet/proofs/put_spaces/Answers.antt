@@ -1,5 +1,4 @@
--- `put_spaces` meets its contract: the spaces that are left take the page where all of them do (`Spaces`). The measure is how many
--- are left.
+-- `put_spaces` meets its contract: the spaces that are left take the page where all of them do (`Spaces`).
 use Rattle.lists.specs.Kit.{arith}
 use Rattle.text.proofs.PrintLaws.{length_putting}
 use Rattle.sheet.proofs.{PutLaws.{spaces_none, spaces_next, spaces_last}}

@@ -9,8 +9,8 @@ returns-in-Unknown g c = search (rules, status_wrong)
 pub returns-in-Help : goal.returns-in-Help
 returns-in-Help g c = search (rules, status_page)
 
-pub returns-then-given : goal.returns-then-given
-returns-then-given g c = search (rules, status_answered)
+pub returns-in-Some : goal.returns-in-Some
+returns-in-Some g c = status_answered _ _ _ _ _ _ _ _ c.verb_of-verb.ensures c.takes.ensures c.in-Some.ensures c.run_input.ensures
 
-pub returns : goal.returns
-returns g c = search (rules, status_wrong)
+pub returns-in-None : goal.returns-in-None
+returns-in-None g c = status_wrong _ _ _ _ _ c.say_words.ensures

@@ -1,5 +1,4 @@
 -- `text_of` meets its contract: the buffer holds every text.
-use Rattle.lists.specs.Kit.{rules}
 use Rattle.site_program.proofs.{RoomLaws.{verb_held}}
 use Rattle.site_program.proofs.text_of.Goals as goal
 

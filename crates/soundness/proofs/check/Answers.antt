@@ -1,19 +1,15 @@
 -- `soundness::check` meets its contract: the third question is the value, and not a refusal.
-use Rattle.mesh.specs.Tables.{tables}
-use Rattle.soundness.proofs.{CheckLaws.{check_sound, check_unsound, check_refused}}
+use Rattle.lists.specs.Kit.{refl, sym, arith}
+use Rattle.mesh.specs.Lent.{read_of}
+use Rattle.calls.proofs.AnswerLaws.{refused_not}
+use Rattle.soundness.proofs.CheckLaws.{check_refused, check_sizes, check_answered}
 use Rattle.soundness.proofs.check.Goals as goal
 
-pub returns-then-number-eq0 : goal.returns-then-number-eq0
-returns-then-number-eq0 c =
-    let t = tables c.args.links.now c.args.numbers.now c.args.order.now in
-    check_sound c.args.n t _ c.refusal-number.ensures c.if-number-eq0.true
+pub returns-in-Err : goal.returns-in-Err
+returns-in-Err c = check_refused c.args.t.now.radios (read_of c.args.t.now) _ c.in-Err.ensures (refused_not c.in-Err.refusal)
 
-pub returns-then-number-eq-UNSOUND : goal.returns-then-number-eq-UNSOUND
-returns-then-number-eq-UNSOUND c =
-    let t = tables c.args.links.now c.args.numbers.now c.args.order.now in
-    check_unsound c.args.n t _ c.refusal-number.ensures c.if-number-eq-UNSOUND.true
+pub is_sound-requires : goal.is_sound-requires
+is_sound-requires c = check_sizes c.args.t.now.radios (read_of c.args.t.now) (sym c.in_default.ensures) _ _ (omega arith) (omega arith)
 
 pub returns : goal.returns
-returns c =
-    let t = tables c.args.links.now c.args.numbers.now c.args.order.now in
-    check_refused c.args.n t _ c.refusal-number.ensures c.if-number-eq0.false c.if-number-eq-UNSOUND.false
+returns c = check_answered c.args.t.now.radios (read_of c.args.t.now) (sym c.in_default.ensures) _ c.is_sound.ensures.answer

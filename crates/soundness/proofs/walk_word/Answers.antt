@@ -8,7 +8,7 @@ use Rattle.soundness.proofs.{Tallies.{walking_turn, walking_end}}
 use Rattle.soundness.proofs.walk_word.Goals as goal
 
 pub returns-then-word-eq0 : goal.returns-then-word-eq0
-returns-then-word-eq0 c = rw c.requires.3 (walking_zero _ _ _ _ _ _ _ c.if-word-eq0.true c.requires.1)
+returns-then-word-eq0 c = walking_zero _ _ _ _ _ _ _ c.if-word-eq0.true c.requires.1
 
 pub returns-then-highest-word : goal.returns-then-highest-word
 returns-then-highest-word c =
@@ -65,8 +65,8 @@ overflow_cast-b c =
 pub overflow_cast-high : goal.overflow_cast-high
 overflow_cast-high c = omega (arith, trailing_le 64 c.loop-rest.rest, c.requires.1.start)
 
-pub bounds-numbers-b : goal.bounds-numbers-b
-bounds-numbers-b c =
+pub bounds-t-b : goal.bounds-t-b
+bounds-t-b c =
     let radio = walking_radio _ _ _ _ _ _ _ c.loop-rest.rest _ c.loop-rest-test.true c.loop-rest.invariant _ _ c.requires.2
     c.if-highest-word.false in
     omega arith
@@ -75,7 +75,7 @@ pub overflow_add-high : goal.overflow_add-high
 overflow_add-high c =
     let b = c.args.first + count_trailing_zeros 64 c.loop-rest.rest in
     let few = walking_few _ _ _ _ _ _ _ c.loop-rest.rest _ c.loop-rest-test.true c.loop-rest.invariant c.requires.1.few in
-    count_fits _ (leb (get_or c.args.numbers.now c.args.a 0) (get_or c.args.numbers.now b 0)) (omega (arith, few, c.loop-rest.invariant.so_far.few_high))
+    count_fits _ (leb (get_or c.args.t.now.numbers.now c.args.a 0) (get_or c.args.t.now.numbers.now b 0)) (omega (arith, few, c.loop-rest.invariant.so_far.few_high))
 
 pub loop-rest-smaller : goal.loop-rest-smaller
 loop-rest-smaller c = omega (arith, and_le_r c.loop-rest.rest (c.loop-rest.rest - 1))

@@ -6,7 +6,7 @@ use Rattle.soundness.proofs.Tallies.{Walking}
 use Rattle.soundness.proofs.walk_word.Given as goal
 
 abbrev pub invariant-loop-rest : goal.invariant-loop-rest
-invariant-loop-rest l = Walking l.links l.numbers l.places l.a l.first l.word
+invariant-loop-rest l = Walking l.t.links.now l.t.numbers.now l.places l.a l.first l.word
     (tally l.initial.count l.initial.later l.initial.high l.initial.key) l.rest (tally l.count l.later l.high l.key)
 
 abbrev pub decreases-loop-rest : goal.decreases-loop-rest

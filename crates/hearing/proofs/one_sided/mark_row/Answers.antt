@@ -1,5 +1,5 @@
 -- `mark_row` meets its contract: the words of the row are taken one by one, and what is left of the row gives with what is marked
--- what the whole row gives (`WordsMarking`). The measure is the words that are left.
+-- what the whole row gives (`WordsMarking`).
 use Rattle.std.specs.Prelude.{◌+◌, ◌*◌, ◌-◌, ◌<◌}
 use Rattle.lists.specs.Kit.{◌∙◌, ℕ, arith, get_or}
 use Rattle.mesh.specs.Limits.{row_bytes}
@@ -7,14 +7,8 @@ use Rattle.rows.proofs.RowWords.{word_of_row}
 use Rattle.conditions.proofs.{TallyLaws.{row_fits}, MarkLaws.{words_marking_none, words_marking_turn, words_marking_end}}
 use Rattle.hearing.proofs.one_sided.mark_row.Goals as goal
 
-pub slice_bounds-row-end : goal.slice_bounds-row-end
-slice_bounds-row-end c = omega (arith, c.requires)
-
 pub loop-k-init : goal.loop-k-init
 loop-k-init c = words_marking_none _ _ _
-
-pub mark_word-n-requires : goal.mark_word-n-requires
-mark_word-n-requires c = omega (arith, c.loop-k-test.true)
 
 pub overflow_add-n : goal.overflow_add-n
 overflow_add-n c =

@@ -1,5 +1,5 @@
 -- `count_agreed` meets its contract: the words of the row are taken one by one, and what is left of the row comes with what is
--- counted to what the whole row comes to (`WordsCounting`). The measure is the words that are left.
+-- counted to what the whole row comes to (`WordsCounting`).
 use Rattle.std.specs.Prelude.{◌+◌, ◌*◌, ◌-◌, ◌<◌}
 use Rattle.lists.specs.Kit.{◌∙◌, ℕ, arith, get_or}
 use Rattle.mesh.specs.Limits.{row_bytes}
@@ -7,14 +7,8 @@ use Rattle.rows.proofs.RowWords.{word_of_row}
 use Rattle.conditions.{proofs.TallyLaws.{row_fits, words_counting_none, words_counting_turn, words_counting_end}}
 use Rattle.hearing.proofs.questions.count_agreed.Goals as goal
 
-pub slice_bounds-row-end : goal.slice_bounds-row-end
-slice_bounds-row-end c = omega (arith, c.requires)
-
 pub loop-k-init : goal.loop-k-init
 loop-k-init c = words_counting_none _ _ _
-
-pub count_word-n-requires : goal.count_word-n-requires
-count_word-n-requires c = omega (arith, c.loop-k-test.true)
 
 pub overflow_add-n : goal.overflow_add-n
 overflow_add-n c =

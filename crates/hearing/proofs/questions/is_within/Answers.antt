@@ -7,9 +7,6 @@ use Rattle.rows.proofs.RowWords.{word_of_row}
 use Rattle.conditions.{proofs.AskLaws.{within_end, word_turn, word_no}}
 use Rattle.hearing.proofs.questions.is_within.Goals as goal
 
-pub slice_bounds-row-end : goal.slice_bounds-row-end
-slice_bounds-row-end c = omega (arith, c.requires)
-
 pub returns-then-word_of-b-ne0 : goal.returns-then-word_of-b-ne0
 returns-then-word_of-b-ne0 c =
     let bytes : (j : ℕ) → get_or c.args.heard.now j 0 < 256 = λ j. (c.type_inv.heard j).fits in

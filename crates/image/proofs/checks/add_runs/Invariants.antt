@@ -1,10 +1,7 @@
--- `checks::add_runs` meets its contract: the runs passed are added. The measure is the runs left.
-use Rattle.std.specs.Prelude.{◌-◌, ◌≤◌}
+-- `checks::add_runs` meets its contract: the runs passed are added.
+use Rattle.std.specs.Prelude.{◌≤◌}
 use Rattle.image.specs.Columns.{Columns}
 use Rattle.image.proofs.checks.add_runs.Given as goal
 
 abbrev pub invariant-loop-r : goal.invariant-loop-r
 invariant-loop-r l = (l.r ≤ 21) × Columns l.block l.r l.sums l.twice
-
-abbrev pub decreases-loop-r : goal.decreases-loop-r
-decreases-loop-r l = 21 - l.r

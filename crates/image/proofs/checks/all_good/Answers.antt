@@ -1,11 +1,8 @@
--- `checks::all_good` meets its contract: the blocks passed are good, so what is left decides. The measure is the blocks left.
+-- `checks::all_good` meets its contract: the blocks passed are good, so what is left decides.
 use Rattle.lists.specs.Kit.{sym, ◌∙◌, arith}
 use Rattle.mesh.specs.Image.{checks_good}
-use Rattle.image.proofs.{CheckLaws.{testing_none, testing_turn, testing_stop, testing_end}}
+use Rattle.image.proofs.{CheckLaws.{testing_turn, testing_stop, testing_end}}
 use Rattle.image.proofs.checks.all_good.Goals as goal
-
-pub loop-i-init : goal.loop-i-init
-loop-i-init c = testing_none _ _
 
 pub returns-then-not-is_good : goal.returns-then-not-is_good
 unfolding checks_good

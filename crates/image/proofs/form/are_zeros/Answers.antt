@@ -1,4 +1,4 @@
--- `form::are_zeros` meets its contract: the answer so far is that of the bytes passed. The measure is the bytes left.
+-- `form::are_zeros` meets its contract: the answer so far is that of the bytes passed.
 use Rattle.lists.specs.Kit.{arith}
 use Rattle.image.specs.Form.{zeros}
 use Rattle.image.proofs.{CheckLaws.{passing_none, passing_turn, passing_end}}

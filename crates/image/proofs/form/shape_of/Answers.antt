@@ -19,7 +19,7 @@ overflow_sub-left c = omega (arith, c.blocks_for-orders.ensures)
 pub returns-then-j-orders : goal.returns-then-j-orders
 unfolding order_blocks
 returns-then-j-orders c =
-    let p = shape_order c.args.n c.args.m c.args.i (omega arith) (omega (arith, c.blocks_for-orders.ensures)) in
+    let p = shape_order c.args.header.radios c.args.header.links c.args.i (omega arith) (omega (arith, c.blocks_for-orders.ensures)) in
     (p.0, ap (λ (k : ℕ). 2 * k) c.least.ensures ∙ p.1, omega arith)
 
 pub overflow_mul-left-2 : goal.overflow_mul-left-2
@@ -33,9 +33,9 @@ overflow_sub-left-3 c = omega (arith, c.blocks_for-orders.ensures)
 pub returns : goal.returns
 unfolding order_blocks
 returns c =
-    let p = shape_links c.args.n c.args.m c.args.i (omega arith) (omega (arith, c.blocks_for-orders.ensures)) in (
+    let p = shape_links c.args.header.radios c.args.header.links c.args.i (omega arith) (omega (arith, c.blocks_for-orders.ensures)) in (
       p.0,
-      ap (λ (k : ℕ). 4 * k) (c.least-2.ensures ∙ ap (λ (k : ℕ). min block_links (c.args.m - block_links * (c.args.i - 1 - k))) c.blocks_for-orders.ensures) ∙ p.1,
+      ap (λ (k : ℕ). 4 * k) (c.least-2.ensures ∙ ap (λ (k : ℕ). min block_links (c.args.header.links - block_links * (c.args.i - 1 - k))) c.blocks_for-orders.ensures) ∙ p.1,
       links_most _ _
           c.least-2.ensures,
     )

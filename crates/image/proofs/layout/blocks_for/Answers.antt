@@ -1,13 +1,10 @@
 -- `layout::blocks_for` meets its contract: rounded up.
 use Rattle.lists.specs.Kit.{sym, arith}
-use Rattle.image.proofs.{LayoutLaws.{blocks_even, blocks_more, blocks_most}}
+use Rattle.image.proofs.{LayoutLaws.{blocks_even, blocks_more}}
 use Rattle.image.proofs.layout.blocks_for.Goals as goal
 
 pub returns-then-entries-each-eq0 : goal.returns-then-entries-each-eq0
 returns-then-entries-each-eq0 c = sym (blocks_even _ _ (omega arith) c.if-entries-each-eq0.true)
-
-pub overflow_add-result : goal.overflow_add-result
-overflow_add-result c = omega (arith, blocks_most c.args.entries c.args.each (omega arith) (omega arith))
 
 pub returns : goal.returns
 returns c = sym (blocks_more _ _ (omega arith) (omega arith))

@@ -1,5 +1,4 @@
--- `blocks::count_block` meets its contract: the links passed in both halves of the block are counted in both tables. The measure is what is
--- left of a half.
+-- `blocks::count_block` meets its contract: the links passed in both halves of the block are counted in both tables.
 use Rattle.lists.specs.Kit.{arith}
 use Rattle.image_reader.proofs.{TallyLaws.{tallying_from}, HalvesLaws.{link_there, first_turn, second_turn, both_halves, block_end}}
 use Rattle.image_reader.proofs.blocks.count_block.Goals as goal
@@ -7,19 +6,19 @@ use Rattle.image_reader.proofs.blocks.count_block.Goals as goal
 pub loop-i-init : goal.loop-i-init
 loop-i-init c = (
   omega arith,
-  record { part = c.part_of-part.ensures; there = c.requires.room.2; room = c.requires.room.0 },
+  record { part = c.part_of-part.ensures; there = c.requires.there; room = c.requires.room },
   tallying_from _ _ _ _ _ _ _ _ c.requires.ends (omega arith),
   record {
     part = c.part_of-part.ensures;
-    there = c.requires.room.2;
+    there = c.requires.there;
     room =
         record {
-          most = c.requires.room.0.most;
-          few = c.requires.room.0.few;
-          whole = c.requires.room.0.whole;
-          ranked = c.requires.room.0.ranked;
-          counted = c.requires.room.1;
-          is_proper = c.requires.room.0.is_proper;
+          most = c.requires.room.most;
+          few = c.requires.room.few;
+          whole = c.requires.room.whole;
+          ranked = c.requires.room.ranked;
+          counted = c.requires.later_long;
+          is_proper = c.requires.room.is_proper;
         };
   },
   tallying_from _ _ _ _ _ _ _ _ c.requires.before (omega arith),

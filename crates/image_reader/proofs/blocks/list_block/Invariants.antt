@@ -1,12 +1,8 @@
--- `blocks::list_block` meets its contract: whether all links are listed well is what the links passed and the rest decide. The measure
--- is the block's links left.
-use Rattle.std.specs.Prelude.{◌+◌, ◌*◌, ◌-◌, ◌≤◌}
+-- `blocks::list_block` meets its contract: whether all links are listed well is what the links passed and the rest decide.
+use Rattle.std.specs.Prelude.{◌+◌, ◌*◌, ◌≤◌}
 use Rattle.mesh.specs.Image.{block_links}
 use Rattle.image_reader.specs.Site.{Listed}
 use Rattle.image_reader.proofs.blocks.list_block.Given as goal
 
 abbrev pub invariant-loop-i : goal.invariant-loop-i
-invariant-loop-i l = (l.i ≤ l.part.count) × Listed l.n l.m l.image l.good l.key (block_links * l.q + l.i)
-
-abbrev pub decreases-loop-i : goal.decreases-loop-i
-decreases-loop-i l = l.part.count - l.i
+invariant-loop-i l = (l.i ≤ l.part.count) × Listed l.header l.image (record { good = l.good; key = l.key }) (block_links * l.q + l.i)

@@ -1,17 +1,9 @@
--- `blocks::order_block` meets its contract: the block's entries passed are read. The measure is its entries left.
+-- `blocks::order_block` meets its contract: the block's entries passed are read.
 use Rattle.std.specs.Prelude.{◌≡◌, ◌+◌, ◌*◌, ◌%◌, ◌<◌}
-use Rattle.lists.specs.Kit.{refl, ◌∙◌, min, arith, length, set, length-set}
+use Rattle.lists.specs.Kit.{◌∙◌, arith, length, set, length-set}
 use Rattle.mesh.specs.Image.{block_entries}
 use Rattle.image_reader.proofs.{ListedLaws.{order_at, order_in, order_turn}}
 use Rattle.image_reader.proofs.blocks.order_block.Goals as goal
-
-pub loop-i-init : goal.loop-i-init
-loop-i-init c =
-    let e : min (length c.args.order.now) (block_entries * c.args.q) ≡ block_entries * c.args.q + 0 = omega (arith, c.requires.room.1) in
-    (omega arith, refl, order_at c.args.image.now c.args.order.now (min (length c.args.order.now) (block_entries * c.args.q)) (block_entries * c.args.q + 0) c.requires.before e)
-
-pub word_at-x-requires : goal.word_at-x-requires
-word_at-x-requires c = omega (arith, c.requires.room.2, c.least-count.ensures, c.loop-i-test.true)
 
 pub loop-i-preserved : goal.loop-i-preserved
 loop-i-preserved c =
@@ -24,11 +16,3 @@ loop-i-preserved c =
           (order_turn c.args.image.now c.loop-i.order (block_entries * c.args.q + c.loop-i.i) c.word_at-x.result c.loop-i.invariant.2 room (order_in c.args.image.now c.args.q c.loop-i.i c.word_at-x.result here c.word_at-x.ensures.0) c.word_at-x.ensures.1)
           e,
     )
-
-pub returns : goal.returns
-returns c =
-    let long = length c.args.order.now in
-    let e : block_entries * c.args.q + c.loop-i.i ≡ min long (block_entries * (c.args.q + 1)) =
-    omega (arith, c.least-count.ensures, c.loop-i.invariant.0, c.loop-i-test.false, c.requires.room.1) in
-    order_at c.args.image.now c.loop-i.order (block_entries * c.args.q + c.loop-i.i) (min long (block_entries * (c.args.q + 1)))
-    c.loop-i.invariant.2 e

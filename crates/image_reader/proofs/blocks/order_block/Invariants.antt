@@ -1,5 +1,5 @@
--- `blocks::order_block` meets its contract: the block's entries passed are read. The measure is its entries left.
-use Rattle.std.specs.Prelude.{◌≡◌, ◌+◌, ◌*◌, ◌-◌, ◌≤◌}
+-- `blocks::order_block` meets its contract: the block's entries passed are read.
+use Rattle.std.specs.Prelude.{◌≡◌, ◌+◌, ◌*◌, ◌≤◌}
 use Rattle.lists.specs.Kit.{length}
 use Rattle.mesh.specs.Image.{block_entries}
 use Rattle.image_reader.specs.Site.{OrderRead}
@@ -7,6 +7,3 @@ use Rattle.image_reader.proofs.blocks.order_block.Given as goal
 
 abbrev pub invariant-loop-i : goal.invariant-loop-i
 invariant-loop-i l = (l.i ≤ l.count) × (length l.order ≡ length l.initial.order) × OrderRead l.image (block_entries * l.q + l.i) l.order
-
-abbrev pub decreases-loop-i : goal.decreases-loop-i
-decreases-loop-i l = l.count - l.i

@@ -1,4 +1,4 @@
--- `blocks::tally_block` meets its contract: the links passed in both halves of the block are counted. The measure is what is left of a half.
+-- `blocks::tally_block` meets its contract: the links passed in both halves of the block are counted.
 use Rattle.lists.specs.Kit.{arith}
 use Rattle.image_reader.proofs.{TallyLaws.{tallying_from}, HalvesLaws.{link_there, first_turn, second_turn, both_halves, block_end}}
 use Rattle.image_reader.proofs.blocks.tally_block.Goals as goal
@@ -6,8 +6,8 @@ use Rattle.image_reader.proofs.blocks.tally_block.Goals as goal
 pub loop-i-init : goal.loop-i-init
 loop-i-init c = (
   omega arith,
-  record { part = c.part_of-part.ensures; there = c.requires.room.1; room = c.requires.room.0 },
-  tallying_from _ _ _ _ _ _ _ _ c.requires.before (omega (arith, c.requires.room.1)),
+  record { part = c.part_of-part.ensures; there = c.requires.there; room = c.requires.room },
+  tallying_from _ _ _ _ _ _ _ _ c.requires.before (omega (arith, c.requires.there)),
 )
 
 pub tally_at-requires : goal.tally_at-requires

@@ -1,4 +1,4 @@
--- `reader::put_numbers` meets its contract: 8-bit entries being written. The measure is the entries left.
+-- `reader::put_numbers` meets its contract: 8-bit entries being written.
 use Rattle.lists.specs.Kit.{refl, arith}
 use Rattle.tables.proofs.WidthLaws.{writing_none, writing_turn, writing_all}
 use Rattle.image_reader.proofs.reader.put_numbers.Goals as goal

@@ -1,5 +1,4 @@
--- `site::each_at_most` meets its contract: the answer so far is that of the entries passed. The measure is the entries left.
-use Rattle.std.specs.Prelude.{◌-◌}
+-- `site::each_at_most` meets its contract: the answer so far is that of the entries passed.
 use Rattle.lists.specs.Kit.{length}
 use Rattle.image.proofs.CheckLaws.{Passing}
 use Rattle.image_reader.proofs.{KOrderLaws.{at_most}}
@@ -7,6 +6,3 @@ use Rattle.image_reader.proofs.site.each_at_most.Given as goal
 
 abbrev pub invariant-loop-v : goal.invariant-loop-v
 invariant-loop-v l = Passing (at_most l.entries l.most) (length l.entries) l.all l.v
-
-abbrev pub decreases-loop-v : goal.decreases-loop-v
-decreases-loop-v l = length l.entries - l.v

@@ -5,51 +5,24 @@ use Rattle.image_reader.proofs.site.is_sound.Goals as goal
 
 pub returns-then-not-places_of : goal.returns-then-not-places_of
 returns-then-not-places_of c =
-    not_placed _ _ c.requires.room.0.is_proper c.requires.ascends _ _ _ _ _ c.requires.room.0.most c.requires.long c.requires.room.0.ranked c.places_of.ensures
+    not_placed _ _ c.requires.room.is_proper c.requires.ascends _ _ _ _ _ c.requires.room.most c.requires.long c.requires.room.ranked c.places_of.ensures
     (c.if-not-places_of.true)
 
-pub count_links-requires : goal.count_links-requires
-count_links-requires c = (
-  record {
-    most = c.requires.room.0.most;
-    few = c.requires.room.0.few;
-    whole = c.requires.room.0.whole;
-    ranked = c.places_of.auto.places ∙ c.requires.room.0.ranked;
-    counted = c.requires.room.0.counted;
-    is_proper = c.requires.room.0.is_proper;
-  },
-  c.requires.room.1,
-)
-
-pub is_k_order-requires : goal.is_k_order-requires
-is_k_order-requires c =
-    record {
-      room = (
-        record {
-          most = c.requires.room.0.most;
-          few = c.requires.room.0.few;
-          whole = c.requires.room.0.whole;
-          ranked = c.places_of.auto.places ∙ c.requires.room.0.ranked;
-          counted = c.count_links.auto.counts ∙ c.requires.room.0.counted;
-          is_proper = c.requires.room.0.is_proper;
-        },
-        c.count_links.auto.later ∙ c.requires.room.1,
-      );
-      ascends = c.requires.ascends;
-      counted = order_counted _ _ c.requires.room.0.is_proper c.requires.ascends _ _ _ _ _ c.requires.room.0.most c.requires.long c.requires.room.0.ranked c.places_of.ensures
-          (c.if-not-places_of.false) c.count_links.ensures.1;
-    }
+pub is_k_order-requires-clause-counted : goal.is_k_order-requires-clause-counted
+is_k_order-requires-clause-counted c =
+    order_counted _ _ c.requires.room.is_proper c.requires.ascends _ _ _ _ _ c.requires.room.most c.requires.long c.requires.room.ranked c.places_of.ensures
+    (c.if-not-places_of.false) c.count_links.ensures.1
 
 pub returns-then-not-are_few : goal.returns-then-not-are_few
 returns-then-not-are_few c =
     not_few _ _ _ _ _
     (c.are_few.ensures
-    ∙ few_tallied _ _ _ (c.count_links.auto.counts ∙ c.requires.room.0.counted) c.count_links.ensures.0)
+    ∙ few_tallied _ _ _ (c.count_links.auto.counts ∙ c.requires.room.counted) c.count_links.ensures.0)
     c.if-not-are_few.true
 
 pub returns : goal.returns
 returns c =
     sound_decided _ _ _ _ _
     (c.are_few.ensures
-    ∙ few_tallied _ _ _ (c.count_links.auto.counts ∙ c.requires.room.0.counted) c.count_links.ensures.0)
+    ∙ few_tallied _ _ _ (c.count_links.auto.counts ∙ c.requires.room.counted) c.count_links.ensures.0)
     _ c.if-not-are_few.false c.is_k_order.ensures

@@ -8,6 +8,6 @@ use Rattle.image_writer.proofs.writer.fill_counts.Goals as goal
 pub returns : goal.returns
 returns c =
     c.close_block.ensures
-    ∙ ap sealed (c.put_word-2.ensures ∙ ap (λ (b : List ℕ). sets b 6 (word c.args.count))
-    (c.put_word.ensures ∙ ap (λ (b : List ℕ). sets b 4 (word c.args.n)) c.open_block.ensures))
-    ∙ sealed_counts c.args.n c.args.count
+    ∙ ap sealed (c.put_word-2.ensures ∙ ap (λ (b : List ℕ). sets b 6 (word c.args.header.links))
+    (c.put_word.ensures ∙ ap (λ (b : List ℕ). sets b 4 (word c.args.header.radios)) c.open_block.ensures))
+    ∙ sealed_counts c.args.header.radios c.args.header.links

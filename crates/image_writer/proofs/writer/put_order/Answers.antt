@@ -1,5 +1,4 @@
--- `writer::put_order` meets its contract: the entries so far stand in the payload. The measure is the entries left.
-use Rattle.std.specs.Prelude.{◌+◌}
+-- `writer::put_order` meets its contract: the entries so far stand in the payload.
 use Rattle.lists.specs.Kit.{arith}
 use Rattle.mesh.{specs.Image.{word}, proofs.Images.Words.{length_word}}
 use Rattle.image_writer.proofs.FillerLaws.{putting_none, putting_turn, putting_end, order_part, length_order_part, get_d_order_part}
@@ -7,14 +6,6 @@ use Rattle.image_writer.proofs.writer.put_order.Goals as goal
 
 pub loop-v-init : goal.loop-v-init
 loop-v-init c = putting_none word 2 length_word _ 4 _
-
-pub overflow_cast-x : goal.overflow_cast-x
-overflow_cast-x c =
-    omega (
-      arith,
-      c.type_inv.order (c.args.from +
-          c.loop-v.v),
-    )
 
 pub loop-v-preserved : goal.loop-v-preserved
 loop-v-preserved c =

@@ -1,40 +1,15 @@
--- `writer::put_rows` meets its contract: what is put so far leaves the links of the rows from a on. The measure is the rows left.
-use Rattle.lists.specs.Kit.{refl, ◌∙◌, inl, inr, arith}
-use Rattle.image_writer.proofs.LinksPut.{put_none, rows_stop_as, rows_turn_as, rows_end, links_left_end, row_none, row_full}
+-- `writer::put_rows` meets its contract: what is put so far leaves the links of the rows from a on.
+use Rattle.lists.specs.Kit.{refl, ◌∙◌, inr, arith}
+use Rattle.image_writer.proofs.LinksPut.{put_none, rows_stop_as, rows_turn_as, rows_end, links_left_end, row_none}
 use Rattle.image_writer.proofs.writer.put_rows.Goals as goal
 
 pub loop-a-init : goal.loop-a-init
 loop-a-init c = (c.requires.2, c.requires.1.0, refl, put_none _ _ _ c.requires.1.1)
 
-pub row_start-requires : goal.row_start-requires
-row_start-requires c = (omega (arith, c.requires.3.0), omega (arith, c.requires.3.1))
-
-pub put_row-put-requires : goal.put_row-put-requires
-put_row-put-requires c = (
-  c.loop-a.invariant.2 ∙ c.requires.0,
-  (omega (arith, c.loop-a.invariant.1, c.row_start.ensures.there.0), omega (arith, c.loop-a.invariant.3.within, c.row_start.ensures.there.0)),
-  c.row_start.ensures.there.2,
-  c.row_start.ensures.there.3,
-  (omega (arith, c.row_start.ensures.there.1, c.requires.3.0), omega (arith, c.row_start.ensures.there.1, c.requires.3.1)),
-)
-
-pub returns-then-put-ne0 : goal.returns-then-put-ne0
-returns-then-put-ne0 c =
-    record {
-      put = rows_stop_as _ _ _ (c.loop-a-test.true) c.loop-a.invariant.3 _ _ _ c.row_start.ensures.started c.row_start.ensures.there _ _ _ (c.put_row-put.ensures.put)
-          _
-          c.put_row-put.ensures.stopped.1.same;
-      stopped = record {
-        low = c.put_row-put.ensures.stopped.1.low;
-        small = c.put_row-put.ensures.stopped.1.small;
-        either = inl (
-          omega (arith, c.put_row-put.ensures.stopped.1.same, c.row_start.ensures.there.1, c.loop-a-test.true),
-          c.if-put-ne0.true,
-          row_full _ _ _ _ _ _ c.put_row-put.ensures.stopped.0
-              c.if-put-ne0.true,
-        );
-      };
-    }
+pub returns-then-put-ne0-clause-put : goal.returns-then-put-ne0-clause-put
+returns-then-put-ne0-clause-put c =
+    rows_stop_as _ _ _ (c.loop-a-test.true) c.loop-a.invariant.3 _ _ _ c.row_start.ensures.started c.row_start.ensures.there _ _ _
+    (c.put_row-put.ensures.put) _ c.put_row-put.ensures.stopped.1.same
 
 pub loop-a-preserved : goal.loop-a-preserved
 loop-a-preserved c = (

@@ -1,25 +1,15 @@
--- `writer::put_words` meets its contract: what is put so far leaves the links of the words from k on. The measure is the words left.
-use Rattle.lists.specs.Kit.{refl, ◌∙◌, inl, inr, arith}
-use Rattle.image_writer.proofs.LinksPut.{put_none, words_stop, words_turn, words_end, row_left_none, full_of}
+-- `writer::put_words` meets its contract: what is put so far leaves the links of the words from k on.
+use Rattle.lists.specs.Kit.{refl, ◌∙◌, inl, arith}
+use Rattle.image_writer.proofs.LinksPut.{put_none, words_stop, words_turn, words_end, row_left_none}
 use Rattle.image_writer.proofs.writer.put_words.Goals as goal
 
 pub loop-k-init : goal.loop-k-init
 loop-k-init c = (c.requires.2, c.requires.1.0, refl, put_none _ _ _ c.requires.1.1)
 
-pub row_word-requires : goal.row_word-requires
-row_word-requires c = (c.requires.3.0, omega arith, c.requires.3.1)
-
-pub put_bits-put-requires : goal.put_bits-put-requires
-put_bits-put-requires c = (c.loop-k.invariant.2 ∙ c.requires.0, (c.loop-k.invariant.1, c.loop-k.invariant.3.within), omega arith)
-
-pub returns-then-put-ne0 : goal.returns-then-put-ne0
-returns-then-put-ne0 c =
-    record {
-      put = words_stop c.args.links.now (λ j. (c.type_inv.links j).fits) c.args.a c.loop-k.k _ (omega arith)
-          (c.row_word.ensures)
-          c.loop-k.invariant.3 _ _ _ (c.put_bits-put.ensures.put);
-      stopped = (inr (c.if-put-ne0.true, full_of (c.put_bits-put.ensures.stopped) c.if-put-ne0.true), record { same = refl; low = omega arith; small = omega arith });
-    }
+pub returns-then-put-ne0-clause-put : goal.returns-then-put-ne0-clause-put
+returns-then-put-ne0-clause-put c =
+    words_stop c.args.links.now (λ j. (c.type_inv.links j).fits) c.args.a c.loop-k.k _ (omega arith) (c.row_word.ensures)
+    c.loop-k.invariant.3 _ _ _ (c.put_bits-put.ensures.put)
 
 pub loop-k-preserved : goal.loop-k-preserved
 loop-k-preserved c = (
@@ -33,4 +23,7 @@ loop-k-preserved c = (
 
 pub returns : goal.returns
 returns c =
-    record { put = words_end c.args.links.now c.args.a c.loop-k.k c.loop-k-test.false c.loop-k.invariant.3; stopped = (inl (refl, row_left_none c.args.links.now c.args.a 0 0 refl), record { same = refl; low = omega arith; small = omega arith }) }
+    record {
+      put = words_end c.args.links.now c.args.a c.loop-k.k c.loop-k-test.false c.loop-k.invariant.3;
+      stopped = (inl (refl, row_left_none c.args.links.now c.args.a 0 0 refl), record { same = refl; low = omega arith; small = omega arith });
+    }

@@ -1,16 +1,10 @@
 -- `writer::row_start` meets its contract: what is left of the row's own word above the radio, and the words after it, are the radios above.
-use Rattle.lists.specs.Kit.{refl, sym, ◌∙◌, arith}
+use Rattle.lists.specs.Kit.{refl, sym, ◌∙◌}
 use Rattle.image_writer.proofs.{LinksPut.{row_left_is, links_row}}
 use Rattle.image_writer.proofs.writer.row_start.Goals as goal
 
-pub row_word-requires : goal.row_word-requires
-row_word-requires c = (c.requires.0, omega (arith, c.requires.0), c.requires.1)
-
-pub returns : goal.returns
-returns c =
-    record {
-      started = row_left_is (c.args.links.now) (c.args.a) _ _ _
-          ∙ sym (links_row (c.args.links.now) (λ j. (c.type_inv.links j).fits) (c.args.a) _ _ (c.requires.0) (c.requires.1)
-          c.row_word.ensures refl);
-      there = (refl, refl, omega (arith, c.requires.0), omega (arith, c.requires.0));
-    }
+pub returns-clause-started : goal.returns-clause-started
+returns-clause-started c =
+    row_left_is (c.args.links.now) (c.args.a) _ _ _
+    ∙ sym (links_row (c.args.links.now) (λ j. (c.type_inv.links j).fits) (c.args.a) _ _ (c.requires.0) (c.requires.1)
+    c.row_word.ensures refl)

@@ -6,8 +6,8 @@ use Rattle.lift.proofs.search.may_lift.Goals as goal
 pub returns-then-c-a : goal.returns-then-c-a
 returns-then-c-a c = search (rules, lift_low)
 
-pub returns-then-not-is_marked : goal.returns-then-not-is_marked
-returns-then-not-is_marked c = search (rules, lift_full)
+pub returns-then-not-has : goal.returns-then-not-has
+returns-then-not-has c = search (rules, lift_full)
 
 pub returns-then-not-begins_tight : goal.returns-then-not-begins_tight
 returns-then-not-begins_tight c = search (rules, lift_other)

@@ -1,41 +1,30 @@
 -- `tries::lifts` meets its contract: the peel goes through with both ends (`tried_found`), or what it took rules the pair out (`tried_not`).
-use Rattle.lists.{specs.Kit.{◌∙◌, arith, replicate}, proofs.Overwrite.{overwrite_take}}
-use Rattle.mesh.specs.Limits.{max_radios}
+use Rattle.lists.{specs.Kit.{◌∙◌, ap, refl}}
+use Rattle.rows.specs.Sets.{put_in}
 use Rattle.lift.proofs.TrySteps.{site_links, site_small, settled_radio, settled_small, pair_begin, tried_found, tried_not}
 use Rattle.lift.proofs.tries.lifts.Goals as goal
 
-pub stop_of-stop-requires : goal.stop_of-stop-requires
-stop_of-stop-requires c = settled_radio _ _ _ c.requires.0.site c.args.r c.requires.1 _ _ _ _ c.requires.2 c.requires.3
+pub stop_of-requires : goal.stop_of-requires
+stop_of-requires c = settled_radio _ _ _ c.requires.0.site c.args.p.now.r c.requires.1 _ _ _ _ c.requires.2
 
-pub peel_around-requires : goal.peel_around-requires
-peel_around-requires c = (
+pub run-requires : goal.run-requires
+run-requires c = (
   site_links _ _ _ c.requires.0.site,
-  pair_begin _ _ _ c.requires.0.site c.args.r c.requires.1 _ _ _ _ c.requires.2 c.requires.3 _ c.put_bit.ensures _ c.stop_of-stop.ensures _
-      (c.copy8.ensures ∙ overwrite_take c.args.base.now (replicate max_radios 0) c.requires.3.base.long),
-  settled_small _ _ _ c.requires.0.site c.args.r c.requires.1 _ _ _ _ c.requires.2 c.requires.3,
+  pair_begin _ _ _ c.requires.0.site c.args.p.now.r c.requires.1 _ _ _ _ c.requires.2 _
+      (c.put_in.ensures.joined ∙ ap (put_in c.args.b) c.empty-held.ensures) _ c.stop_of.ensures _ refl,
+  settled_small _ _ _ c.requires.0.site c.args.p.now.r c.requires.1 _ _ _ _ c.requires.2,
 )
 
-pub returns-then-peel_around : goal.returns-then-peel_around
-returns-then-peel_around c =
-    tried_found _ _ _ c.requires.0.site c.args.r c.requires.1 _ _ _ _ c.requires.2 c.requires.3 _
-    c.put_bit.ensures _ c.stop_of-stop.ensures _ _ c.peel_around.ensures c.if-peel_around.true
-
-pub is_gone-requires : goal.is_gone-requires
-is_gone-requires c = (
-  omega (arith, c.peel_around.ensures.long, c.requires.1, site_small _ _ _ c.requires.0.site),
-  omega (
-    arith,
-    c.peel_around.ensures.long,
-    settled_small _ _ _ c.requires.0.site
-        c.args.r c.requires.1 _ _ _ _ c.requires.2 c.requires.3,
-  ),
-)
+pub returns-then-run : goal.returns-then-run
+returns-then-run c =
+    tried_found _ _ _ c.requires.0.site c.args.p.now.r c.requires.1 _ _ _ _ c.requires.2 _
+    (c.put_in.ensures.joined ∙ ap (put_in c.args.b) c.empty-held.ensures) _ c.stop_of.ensures _ _ c.run.ensures c.if-run.true
 
 pub rule_out-requires : goal.rule_out-requires
-rule_out-requires c = (site_small _ _ _ c.requires.0.site, c.peel_around.ensures.long, c.requires.3.trying.long)
+rule_out-requires c = site_small _ _ _ c.requires.0.site
 
 pub returns : goal.returns
 returns c =
-    tried_not _ _ _ c.requires.0.site c.args.r c.requires.1 _ _ _ _ c.requires.2 c.requires.3 _
-    c.put_bit.ensures _ c.stop_of-stop.ensures _ _ c.peel_around.ensures c.if-peel_around.false _ c.is_gone.ensures _ _
-    c.rule_out.ensures c.put_bit-2.ensures
+    tried_not _ _ _ c.requires.0.site c.args.p.now.r c.requires.1 _ _ _ _ c.requires.2 _
+    (c.put_in.ensures.joined ∙ ap (put_in c.args.b) c.empty-held.ensures) _ c.stop_of.ensures _ _ c.run.ensures c.if-run.false _ c.is_gone-gone.ensures _ _
+    c.rule_out.ensures c.take_out.ensures.long c.take_out.ensures.left

@@ -1,13 +1,17 @@
--- `apply::list_ascending` meets its contract: the radios marked in an empty row are listed by it, ascending.
-use Rattle.lists.specs.{Kit.{refl, ap, ◌∙◌, List, ℕ, length, take}, Lists.{overwrite}}
-use Rattle.rows.specs.Rows.{row_listed}
-use Rattle.links.proofs.Marking.{row_listed_all_marked}
+-- `apply::list_ascending` meets its contract: the radios put into an empty set are listed by it, ascending, and counted.
+use Rattle.lists.specs.{Kit.{ap, ◌∙◌, List, ℕ, length, take}, Lists.{overwrite}}
+use Rattle.lists.proofs.Loops.{folding_none, folding_turn, folding_end}
+use Rattle.links.proofs.Marking.{members_folded, common_own}
 use Rattle.links.proofs.apply.list_ascending.Goals as goal
+
+pub loop-v-preserved : goal.loop-v-preserved
+loop-v-preserved c =
+    folding_turn _ _ _ c.loop-v.set _ c.loop-v.v-index c.loop-v.invariant c.loop-v-test.true c.put_in.ensures.joined
 
 pub returns : goal.returns
 returns c =
-    let is = ap (λ (row : List ℕ). row_listed row 0) c.mark_all.ensures ∙ row_listed_all_marked c.args.list.now _ refl in
+    let is = members_folded _ _ (folding_end _ _ _ _ _ c.loop-v.invariant c.loop-v-test.false) in
     record {
-      counted = c.list_set.ensures.counted ∙ ap length is;
-      listed = c.list_set.ensures.listed ∙ ap (λ (xs : List ℕ). overwrite (take (length c.args.answer.now) xs) c.args.answer.now) is;
+      counted = c.count_common.ensures ∙ ap length (common_own _ ∙ is);
+      listed = c.list.ensures.listed ∙ ap (λ (xs : List ℕ). overwrite (take (length c.args.answer.now) xs) c.args.answer.now) is;
     }

@@ -6,4 +6,4 @@ use Rattle.links.proofs.apply.put_before.Goals as goal
 pub returns : goal.returns
 returns c =
     put_part c.args.order.now c.args.part.now _ _ c.args.end
-    (omega (arith, c.requires.0)) c.requires.1 c.copy16.ensures
+    (omega (arith, c.requires.0)) c.requires.1 c.copy.ensures

@@ -1,46 +1,22 @@
 -- `batch::take_links` meets its contract: what is left of the list gives, of the tables as they are, what the whole list gives of the
--- tables as they were (`Batching`). The measure is what is left of the list.
-use Rattle.lists.specs.Kit.{arith}
-use Rattle.links.proofs.BatchLaws.{batching_none, batching_fits, batching_place, batching_end, batching_pair, batching_turn}
-use Rattle.links.proofs.{BatchLaws.{batching_halt}}
+-- tables as they were (`Batching`).
+use Rattle.lists.specs.Kit.{refl, arith}
+use Rattle.calls.proofs.AnswerLaws.{refused_not}
+use Rattle.links.proofs.BatchLaws.{batching_few, batching_end, batching_turn, batching_halt}
 use Rattle.links.proofs.batch.take_links.Goals as goal
 
-pub loop-at-init : goal.loop-at-init
-loop-at-init c = batching_none _ _ c.requires.0
+pub overflow_cast-result : goal.overflow_cast-result
+overflow_cast-result c = omega (arith, batching_few c.loop-i.invariant)
 
-pub bounds-list-at : goal.bounds-list-at
-bounds-list-at c = omega (arith, c.type_inv.list c.loop-at.at)
+pub returns-in-Err : goal.returns-in-Err
+returns-in-Err c =
+    batching_halt c.loop-i.invariant c.loop-i-test.true _ _ _ _ c.in-Err.ensures (refused_not c.in-Err.refusal)
 
-pub bounds-list-at-in-loop-at : goal.bounds-list-at-in-loop-at
-bounds-list-at-in-loop-at c =
-    batching_pair c.loop-at.invariant c.requires.1
-    c.loop-at-test.true
+pub loop-i-preserved : goal.loop-i-preserved
+loop-i-preserved c = batching_turn c.loop-i.invariant c.loop-i-test.true _ _ _ _ c.in_default.ensures refl
 
-pub step-number-requires : goal.step-number-requires
-step-number-requires c = c.loop-at.invariant.prepared
-
-pub returns-then-number-ne0 : goal.returns-then-number-ne0
-returns-then-number-ne0 c =
-    batching_halt c.loop-at.invariant c.requires.1 c.loop-at-test.true c.step-number.result _ _ _
-    c.step-number.ensures c.if-number-ne0.true
-
-pub overflow_add-done : goal.overflow_add-done
-overflow_add-done c = batching_fits c.loop-at.invariant
-
-pub overflow_add-at-in-loop-at : goal.overflow_add-at-in-loop-at
-overflow_add-at-in-loop-at c = batching_place c.loop-at.invariant
-
-pub loop-at-smaller : goal.loop-at-smaller
-loop-at-smaller c =
-    omega (
-      arith,
-      c.loop-at-test.true,
-    )
-
-pub loop-at-preserved : goal.loop-at-preserved
-loop-at-preserved c =
-    batching_turn c.loop-at.invariant c.requires.1 c.loop-at-test.true c.step-number.result _ _ _
-    c.step-number.ensures c.if-number-ne0.false
+pub overflow_cast-result-2 : goal.overflow_cast-result-2
+overflow_cast-result-2 c = omega (arith, batching_few c.loop-i.invariant)
 
 pub returns : goal.returns
-returns c = batching_end c.loop-at.invariant c.loop-at-test.false
+returns c = batching_end c.loop-i.invariant c.requires.1 (omega arith)

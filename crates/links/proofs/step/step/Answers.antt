@@ -1,37 +1,24 @@
 -- `step::step` meets its contract: a refusal touches nothing. Of the tables after the change the places are put where the order may be
 -- another, and the not-lower counts are found anew of the radios that the change touched.
-use Rattle.lists.specs.Kit.{refl}
-use Rattle.links.proofs.StepLaws.{step_asked, step_refused, step_ready, step_done, put_ready, renew_ready, step_carried}
+use Rattle.lists.specs.Kit.{refl, arith}
+use Rattle.links.proofs.StepLaws.{step_asked, step_ready, step_done, put_ready, renew_ready, step_carried}
 use Rattle.links.proofs.step.step.Goals as goal
 
-pub ends_refusal-number-requires : goal.ends_refusal-number-requires
-ends_refusal-number-requires c = step_asked c.requires
-
-pub returns-then-number-ne0 : goal.returns-then-number-ne0
-returns-then-number-ne0 c =
-    step_refused c.args.up c.args.n c.args.a c.args.b _ _ _ c.requires c.ends_refusal-number.result c.ends_refusal-number.ensures c.if-number-ne0.true
+pub ask_ends-requires : goal.ask_ends-requires
+ask_ends-requires c = step_asked c.requires
 
 pub change-made-requires : goal.change-made-requires
-change-made-requires c =
-    let ready = step_ready c.args.up c.args.n c.args.a c.args.b _ _ _ c.requires c.ends_refusal-number.result c.ends_refusal-number.ensures
-    c.if-number-ne0.false in
-    record { ready = ready; room = refl }
+change-made-requires c = step_ready c.args.up c.args.n c.args.a c.args.b _ _ _ c.requires _ c.in_default.ensures refl
 
 pub put_places-requires : goal.put_places-requires
-put_places-requires c =
-    let ready = step_ready c.args.up c.args.n c.args.a c.args.b _ _ _ c.requires c.ends_refusal-number.result c.ends_refusal-number.ensures
-    c.if-number-ne0.false in
-    put_ready ready _ _ _ _ _ c.change-made.ensures
+put_places-requires c = put_ready (step_ready c.args.up c.args.n c.args.a c.args.b _ _ _ c.requires _ c.in_default.ensures refl) _ _ _ _ _ c.change-made.ensures
 
 pub renew-requires : goal.renew-requires
-renew-requires c =
-    let ready = step_ready c.args.up c.args.n c.args.a c.args.b _ _ _ c.requires c.ends_refusal-number.result c.ends_refusal-number.ensures
-    c.if-number-ne0.false in
-    renew_ready ready _ _ _ _ _ c.change-made.ensures
+renew-requires c = renew_ready (step_ready c.args.up c.args.n c.args.a c.args.b _ _ _ c.requires _ c.in_default.ensures refl) _ _ _ _ _ c.change-made.ensures
+    (omega arith)
 
 pub returns : goal.returns
 returns c =
-    let ready = step_ready c.args.up c.args.n c.args.a c.args.b _ _ _ c.requires c.ends_refusal-number.result c.ends_refusal-number.ensures
-    c.if-number-ne0.false in
-    step_done c.args.up c.args.n c.args.a c.args.b _ _ _ c.requires c.ends_refusal-number.result c.ends_refusal-number.ensures
-    c.if-number-ne0.false _ _ _ (step_carried ready _ _ _ _ _ c.change-made.ensures _ c.put_places.ensures _ c.renew.ensures)
+    let ready = step_ready c.args.up c.args.n c.args.a c.args.b _ _ _ c.requires _ c.in_default.ensures refl in
+    step_done c.args.up c.args.n c.args.a c.args.b _ _ _ c.requires _ c.in_default.ensures refl
+    _ _ _ (step_carried ready _ _ _ _ _ c.change-made.ensures (omega arith) (omega arith) _ c.put_places.ensures _ c.renew.ensures)

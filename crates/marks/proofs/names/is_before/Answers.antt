@@ -1,5 +1,6 @@
--- `names::is_before` meets its contract: the bytes passed are equal, so what is left decides. The measure is what is left of a.
-use Rattle.lists.specs.Kit.{sym, arith}
+-- `names::is_before` meets its contract: the bytes passed are equal, so what is left decides.
+use Rattle.std.specs.Prelude.{◌≡◌}
+use Rattle.lists.specs.Kit.{sym, arith, length}
 use Rattle.marks.proofs.Left.{before_short, before_less, before_more, before_pass, before_end}
 use Rattle.marks.proofs.names.is_before.Goals as goal
 
@@ -22,4 +23,5 @@ loop-i-preserved c =
     c.if-x-y.false c.if-x-y-2.false
 
 pub returns : goal.returns
-returns c = sym (before_end _ _ c.loop-i.i c.loop-i.invariant (omega arith))
+returns c =
+    let all : c.loop-i.i ≡ length c.args.a.now = omega arith in rw (← all) (sym (before_end _ _ c.loop-i.i c.loop-i.invariant (omega arith)))

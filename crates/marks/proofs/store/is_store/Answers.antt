@@ -1,5 +1,4 @@
--- `store::is_store` meets its contract: the used places passed are marks in rising order, so what is left decides. The measure is the
--- used places left.
+-- `store::is_store` meets its contract: the used places passed are marks in rising order, so what is left decides.
 use Rattle.lists.specs.Kit.{sym, arith}
 use Rattle.marks.proofs.StoreLoops.{testing_none, testing_turn, store_not_mark, store_not_rising, store_tested}
 use Rattle.marks.proofs.store.is_store.Goals as goal

@@ -1,11 +1,7 @@
--- `store::rank_of` meets its contract: the names passed stand before the given one, so what is left decides. The measure is the used
--- places left.
+-- `store::rank_of` meets its contract: the names passed stand before the given one, so what is left decides.
 use Rattle.lists.specs.Kit.{arith}
-use Rattle.marks.proofs.StoreLoops.{ranking_none, ranking_turn, ranking_stop, ranking_end}
+use Rattle.marks.proofs.StoreLoops.{ranking_turn, ranking_stop, ranking_end}
 use Rattle.marks.proofs.store.rank_of.Goals as goal
-
-pub loop-i-init : goal.loop-i-init
-loop-i-init c = ranking_none _ _
 
 pub returns-then-not-is_before : goal.returns-then-not-is_before
 returns-then-not-is_before c = (

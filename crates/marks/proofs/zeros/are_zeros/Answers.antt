@@ -1,4 +1,4 @@
--- `bytes::are_zeros` meets its contract: a first byte that is not zero decides, else all are joined.
+-- `zeros::are_zeros` meets its contract: a first byte that is not zero decides, else all are joined.
 use Rattle.lists.specs.Kit.{sym, arith}
 use Rattle.marks.proofs.{Left.{first_nonzero}}
 use Rattle.marks.proofs.zeros.are_zeros.Goals as goal

@@ -1,27 +1,14 @@
 -- `places::list_word` meets its contract: each turn takes the lowest set bit off the word, and what is left of its set bits gives what all
 -- of them give (`WordEntries`). The measure is the word that is left.
-use Rattle.std.specs.Prelude.{◌-◌}
-use Rattle.lists.specs.Kit.{ap, ◌∙◌, arith, and_le_r, trailing_le, rules}
+use Rattle.lists.specs.Kit.{ap, ◌∙◌, arith}
 use Rattle.rows.{specs.Rows.{set_bits}, proofs.WordLaws.{set_bits_nothing}}
-use Rattle.plan.proofs.EntryLists.{entries_none, entries_end, word_place, word_room, word_turn}
+use Rattle.plan.proofs.EntryLists.{entries_end, word_place, word_room, word_turn}
 use Rattle.plan.proofs.places.list_word.Goals as goal
-
-pub loop-rest-init : goal.loop-rest-init
-loop-rest-init c = (search rules, entries_none _ _ _ _ _ c.requires.2)
-
-pub overflow_add-p : goal.overflow_add-p
-overflow_add-p c = omega (arith, trailing_le 64 c.loop-rest.rest, c.requires.0)
-
-pub overflow_cast-p : goal.overflow_cast-p
-overflow_cast-p c = omega (arith, trailing_le 64 c.loop-rest.rest, c.requires.0)
 
 pub overflow_sub-p : goal.overflow_sub-p
 overflow_sub-p c =
     (word_place _ _ _ _ _ _ c.loop-rest.rest c.loop-rest.n _ c.loop-rest.invariant
     c.loop-rest-test.true).0
-
-pub offset_bounds-tail-p : goal.offset_bounds-tail-p
-offset_bounds-tail-p c = omega (arith, trailing_le 64 c.loop-rest.rest, c.requires.0)
 
 pub bounds-tail-p : goal.bounds-tail-p
 bounds-tail-p c = (word_place _ _ _ _ _ _ c.loop-rest.rest c.loop-rest.n _ c.loop-rest.invariant c.loop-rest-test.true).1
@@ -34,9 +21,6 @@ overflow_add-n c =
       c.requires.1,
       c.requires.0,
     )
-
-pub loop-rest-smaller : goal.loop-rest-smaller
-loop-rest-smaller c = omega (arith, and_le_r c.loop-rest.rest (c.loop-rest.rest - 1), c.loop-rest-test.true)
 
 pub loop-rest-preserved : goal.loop-rest-preserved
 loop-rest-preserved c =

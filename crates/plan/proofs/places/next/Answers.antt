@@ -1,25 +1,15 @@
--- `places::next` meets its contract: each branch answers what `next_place` names.
-use Rattle.lists.specs.Kit.{arith}
-use Rattle.plan.proofs.{PlaceLaws.{next_none, next_before, next_end, next_on}}
+-- `places::next` meets its contract: each branch answers what `next_turn` names.
+use Rattle.plan.proofs.{PlaceLaws.{turn_none, turn_back, turn_end, turn_ahead}}
 use Rattle.plan.proofs.places.next.Goals as goal
 
-pub returns-then-front-taken : goal.returns-then-front-taken
-returns-then-front-taken c = next_none _ _ _ _ _ c.if-front-taken.true
+pub returns-then-at : goal.returns-then-at
+returns-then-at c = turn_none _ _ _ _ _ c.if-at.true
 
-pub returns-then-p-first : goal.returns-then-p-first
-returns-then-p-first c = next_before _ _ _ _ _ _ c.if-front-taken.false c.lowest-p.ensures (omega (arith, c.if-p-first.true))
+pub returns-then-p-part : goal.returns-then-p-part
+returns-then-p-part c = turn_back _ _ _ _ _ _ c.if-at.false c.lowest-p.ensures c.if-p-part.true
 
-pub returns-then-p-first-2 : goal.returns-then-p-first-2
-returns-then-p-first-2 c =
-    next_before _ _ _ _ _ _ c.if-front-taken.false c.lowest-p.ensures
-    (omega (arith, c.if-p-first.false, c.if-p-first-2.true))
-
-pub returns-then-size-front : goal.returns-then-size-front
-returns-then-size-front c =
-    next_end _ _ _ _ _ _ c.if-front-taken.false c.lowest-p.ensures
-    (omega (arith, c.if-p-first.false, c.if-p-first-2.false)) c.if-size-front.true
+pub returns-then-part-at : goal.returns-then-part-at
+returns-then-part-at c = turn_end _ _ _ _ _ _ c.if-at.false c.lowest-p.ensures c.if-p-part.false c.if-part-at.true
 
 pub returns : goal.returns
-returns c =
-    next_on _ _ _ _ _ _ c.if-front-taken.false c.lowest-p.ensures
-    (omega (arith, c.if-p-first.false, c.if-p-first-2.false)) c.if-size-front.false
+returns c = turn_ahead _ _ _ _ _ _ c.if-at.false c.lowest-p.ensures c.if-p-part.false c.if-part-at.false _ c.least.ensures

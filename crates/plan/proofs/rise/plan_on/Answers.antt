@@ -4,8 +4,8 @@ use Rattle.lists.specs.Kit.{refl, arith}
 use Rattle.plan.proofs.WalkPlan.{begins_inside, site_lent, settled_lent, walked_lent, planned_as}
 use Rattle.plan.proofs.rise.plan_on.Goals as goal
 
-pub offset_bounds-order-first : goal.offset_bounds-order-first
-offset_bounds-order-first c =
+pub offset_bounds-t-first : goal.offset_bounds-t-first
+offset_bounds-t-first c =
     let inside = begins_inside c.requires.ready _ c.requires.begins.level _ refl in omega (arith, inside.1, inside.2, c.requires.begins.place, c.requires.ready.small)
 
 pub slice_bounds-tail-count : goal.slice_bounds-tail-count
@@ -24,32 +24,32 @@ returns-then-settled c =
     planned_as c.unmoved.ensures
     (settled_lent c.requires.ready _ c.requires.begins.level _ refl _ refl _ c.requires.begins.place _ refl c.settled.result _ c.settled.ensures
     c.if-settled.true
-    c.requires.room)
+    (omega arith))
 
 pub overflow_add-size : goal.overflow_add-size
 overflow_add-size c =
     let inside = begins_inside c.requires.ready _ c.requires.begins.level _ refl in
-    omega (arith, inside.2, c.stretch_of-at.ensures.started, c.stretch_of-at.ensures.sized, c.requires.ready.small)
+    omega (arith, inside.2, c.stretch_of-at.ensures.0, c.stretch_of-at.ensures.1, c.requires.ready.small)
 
 pub overflow_sub-size : goal.overflow_sub-size
 overflow_sub-size c =
     let inside = begins_inside c.requires.ready _ c.requires.begins.level _ refl in
-    omega (arith, inside.1, c.requires.begins.place, c.stretch_of-at.ensures.started, c.stretch_of-at.ensures.sized)
+    omega (arith, inside.1, c.requires.begins.place, c.stretch_of-at.ensures.0, c.stretch_of-at.ensures.1)
 
 pub walk-requires : goal.walk-requires
 walk-requires c =
     record {
       site = (
         _,
-        site_lent c.requires.ready _ c.requires.begins.level _ refl _ (omega (arith, c.stretch_of-at.ensures.started, c.stretch_of-at.ensures.sized, c.requires.begins.place)) _
+        site_lent c.requires.ready _ c.requires.begins.level _ refl _ (omega (arith, c.stretch_of-at.ensures.0, c.stretch_of-at.ensures.1, c.requires.begins.place)) _
             c.requires.begins.place _ refl,
       );
-      room = c.requires.room;
+      room = omega arith;
     }
 
 pub returns-then-rise-ge-WIDE : goal.returns-then-rise-ge-WIDE
 returns-then-rise-ge-WIDE c =
-    walked_lent c.requires.ready _ c.requires.begins.level _ refl _ (omega (arith, c.stretch_of-at.ensures.started, c.stretch_of-at.ensures.sized, c.requires.begins.place)) _ c.requires.begins.place
+    walked_lent c.requires.ready _ c.requires.begins.level _ refl _ (omega (arith, c.stretch_of-at.ensures.0, c.stretch_of-at.ensures.1, c.requires.begins.place)) _ c.requires.begins.place
     _
     refl _ _ _ _
     c.walk.ensures.start c.walk.ensures.walked
@@ -57,15 +57,15 @@ returns-then-rise-ge-WIDE c =
 pub walk-requires-2 : goal.walk-requires-2
 walk-requires-2 c =
     record {
-      site = site_lent c.requires.ready _ c.requires.begins.level _ refl _ (omega (arith, c.stretch_of-at.ensures.started, c.stretch_of-at.ensures.sized, c.requires.begins.place)) _ c.requires.begins.place
+      site = site_lent c.requires.ready _ c.requires.begins.level _ refl _ (omega (arith, c.stretch_of-at.ensures.0, c.stretch_of-at.ensures.1, c.requires.begins.place)) _ c.requires.begins.place
           _
           refl;
-      room = c.requires.room;
+      room = omega arith;
     }
 
 pub returns : goal.returns
 returns c =
-    walked_lent c.requires.ready _ c.requires.begins.level _ refl _ (omega (arith, c.stretch_of-at.ensures.started, c.stretch_of-at.ensures.sized, c.requires.begins.place)) _ c.requires.begins.place
+    walked_lent c.requires.ready _ c.requires.begins.level _ refl _ (omega (arith, c.stretch_of-at.ensures.0, c.stretch_of-at.ensures.1, c.requires.begins.place)) _ c.requires.begins.place
     _
     refl _ _ _ _
     c.walk-2.ensures.start c.walk-2.ensures.walked

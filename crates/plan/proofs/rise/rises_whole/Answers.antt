@@ -10,13 +10,13 @@ pub loop-i-init : goal.loop-i-init
 loop-i-init c = passing_none _ _ _ _
 
 pub overflow_cast-v : goal.overflow_cast-v
-overflow_cast-v c = omega (arith, c.type_inv.order (c.args.start + c.loop-i.i))
+overflow_cast-v c = omega (arith, c.type_inv.order (c.args.at.start + c.loop-i.i))
 
 pub overflow_cast-v-in-loop-i : goal.overflow_cast-v-in-loop-i
-overflow_cast-v-in-loop-i c = omega (arith, c.type_inv.order (c.args.start + c.loop-i.i))
+overflow_cast-v-in-loop-i c = omega (arith, c.type_inv.order (c.args.at.start + c.loop-i.i))
 
 pub bounds-not_lower-v : goal.bounds-not_lower-v
-bounds-not_lower-v c = c.requires.1 (c.args.start + c.loop-i.i) (omega (arith, c.requires.0))
+bounds-not_lower-v c = c.requires.1 (c.args.at.start + c.loop-i.i) (omega (arith, c.requires.0))
 
 pub returns-then-fits : goal.returns-then-fits
 unfolding stays_linked

@@ -29,4 +29,4 @@ loop-i-preserved c =
 pub returns : goal.returns
 returns c =
     let all : c.loop-i.i ≡ length c.args.numbers.now = omega (arith, c.loop-i.invariant.0, c.loop-i-test.false) in
-    record { started = counted_end _ _ c.loop-i.start _ all c.loop-i.invariant.1; sized = counted_end _ _ c.loop-i.size _ all c.loop-i.invariant.2 }
+    (counted_end _ _ c.loop-i.start _ all c.loop-i.invariant.1, counted_end _ _ c.loop-i.size _ all c.loop-i.invariant.2)

@@ -1,29 +1,20 @@
--- `stretch::list_stuck` meets its contract: the entries listed so far and the ones from place i of the stretch on are all that
+-- `stuck::list_stuck` meets its contract: the entries listed so far and the ones from place i of the stretch on are all that
 -- pass (`StretchListed`). The measure is the places that are left.
-use Rattle.std.specs.Prelude.{◌+◌, ◌<◌}
-use Rattle.lists.specs.Kit.{◌∙◌, arith, lt-ltb, le-ltb}
-use Rattle.plan.proofs.StretchLoops.{stretch_none, stretch_passed, stretch_failed, stretch_end}
+use Rattle.std.specs.Prelude.{◌<◌}
+use Rattle.lists.specs.Kit.{◌∙◌, lt-ltb, le-ltb}
+use Rattle.plan.proofs.StretchLoops.{stretch_passed, stretch_failed, stretch_end}
 use Rattle.plan.proofs.stuck.list_stuck.Goals as goal
 use Rattle.plan.proofs.stuck.list_stuck.Goals.{then-most-counters, else-most-counters}
 
-pub loop-i-init : goal.loop-i-init
-loop-i-init c = stretch_none _ _ _ _ _ _
-
-pub overflow_cast-v : goal.overflow_cast-v
-overflow_cast-v c = omega (arith, c.type_inv.order (c.args.start + c.loop-i.i))
-
-pub bounds-counters-v : goal.bounds-counters-v
-bounds-counters-v c = c.requires.3 (c.args.start + c.loop-i.i) (omega (arith, c.requires.0))
-
 pub loop-i-preserved : goal.loop-i-preserved
 loop-i-preserved c =
-    let l : c.loop-i.i < c.args.size = c.loop-i-test.true in
+    let l : c.loop-i.i < c.args.at.size = c.loop-i-test.true in
     elim c.if-most-counters.branch [
       | then-most-counters w ↦
           stretch_passed _ _ _ _ _ _ c.requires.0 _ _ c.loop-i.i l c.loop-i.invariant _ _ (lt-ltb _ _ w.if-most-counters.true)
-          (w.list-is ∙ w.put16.ensures) w.at-is
+          (w.list-is ∙ w.put16.ensures) w.end-is
       | else-most-counters w ↦
-          stretch_failed _ _ _ _ _ _ c.requires.0 _ _ c.loop-i.i l c.loop-i.invariant _ _ (le-ltb _ _ w.if-most-counters.false) w.list-is w.at-is
+          stretch_failed _ _ _ _ _ _ c.requires.0 _ _ c.loop-i.i l c.loop-i.invariant _ _ (le-ltb _ _ w.if-most-counters.false) w.list-is w.end-is
     ]
 
 pub returns : goal.returns

@@ -8,4 +8,4 @@ use Rattle.plan.proofs.turn.end_row.Goals as goal
 pub returns : goal.returns
 returns c =
     row_copied _ c.args.v (row_bytes * c.args.v + row_bytes - row_bytes * c.args.v) (omega arith) c.requires.0 _ _ (replicate row_bytes 0) _ _ c.requires.1
-    (length-replicate {A = ℕ} row_bytes 0) c.copy8.ensures c.put_bit.ensures
+    (length-replicate {A = ℕ} row_bytes 0) c.copy.ensures c.put_bit.ensures

@@ -1,13 +1,7 @@
--- `turn::release` meets its contract: the listed radios from place i on give what all of them give (`ListReleasing`). The measure
--- is the radios that are left.
-use Rattle.std.specs.Prelude.{◌-◌}
-use Rattle.lists.specs.Kit.{take}
+-- `turn::release` meets its contract: the listed radios that are left give what all of them give (`ListReleasing`).
 use Rattle.plan.proofs.TurnLoops.{ListReleasing}
 use Rattle.plan.proofs.turn.release.Given as goal
 
-abbrev pub invariant-loop-i : goal.invariant-loop-i
-invariant-loop-i l = ListReleasing l.numbers l.places l.level l.most (take l.k l.near) l.initial.counters l.initial.fits l.i l.counters
-    l.fits
-
-abbrev pub decreases-loop-i : goal.decreases-loop-i
-decreases-loop-i l = l.k - l.i
+abbrev pub invariant-loop-v : goal.invariant-loop-v
+invariant-loop-v l = ListReleasing l.by.numbers.now l.by.places.now l.by.level l.by.most l.near l.initial.counters l.initial.fits l.v-index
+    l.counters l.fits

@@ -11,16 +11,17 @@ loop-k-init c = words_none _ _ _ _ (left_from _ _) _ _ (releasable_same _ _ _ _ 
 pub release_word-requires : goal.release_word-requires
 release_word-requires c = (
   omega arith,
-  words_ready _ _ _ _ (left_from _ _) _ _ c.loop-k.k _ _ _ (omega arith)
+  rw c.word.ensures
+      (words_ready _ _ _ _ (left_from _ _) _ _ c.loop-k.k _ _ _ (omega arith)
       (left_split _ c.requires.0 (λ j. (c.type_inv.row j).fits) c.loop-k.k _ (omega arith) c.word_of.ensures _)
-      c.loop-k.invariant,
+      c.loop-k.invariant),
 )
 
 pub loop-k-preserved : goal.loop-k-preserved
 loop-k-preserved c =
     words_turn _ _ _ _ (left_from _ _) _ _ c.loop-k.k _ _ _ (omega arith)
     (left_split _ c.requires.0 (λ j. (c.type_inv.row j).fits) c.loop-k.k _ (omega arith) c.word_of.ensures _)
-    c.loop-k.invariant _ _ c.release_word.ensures.counted c.release_word.ensures.marked
+    c.loop-k.invariant _ _ (rw c.word.ensures at c.release_word.ensures.counted) (rw c.word.ensures at c.release_word.ensures.marked)
 
 pub returns : goal.returns
 returns c =

@@ -4,7 +4,7 @@ use Rattle.plan.proofs.TurnLoops.{WordReleasing}
 use Rattle.plan.proofs.turn.release_word.Given as goal
 
 abbrev pub invariant-loop-rest : goal.invariant-loop-rest
-invariant-loop-rest l = WordReleasing l.numbers l.places l.level l.most l.first l.word l.initial.counters l.initial.fits l.rest
+invariant-loop-rest l = WordReleasing l.by.numbers.now l.by.places.now l.by.level l.by.most l.first l.word l.initial.counters l.initial.fits l.rest
     l.counters l.fits
 
 abbrev pub decreases-loop-rest : goal.decreases-loop-rest

@@ -16,11 +16,8 @@ release_left-requires c =
 pub returns-then-w-v : goal.returns-then-w-v
 returns-then-w-v c =
     let same = neighbours_of_end _ _ _ _ _ _ c.other_end-w.ensures c.if-w-v.true c.requires.0 in
-    let both = released_same _ _ _ _ _ _ _ _ _ (near_left_same _ _ _ _ _ _ (c.end_row-row.ensures ∙ same.1) refl) c.take_out.ensures
+    let both = released_same _ _ _ _ _ _ _ _ _ (near_left_same _ _ _ _ _ _ (c.end_row-row.ensures ∙ same.1) refl) c.take_out.ensures.left
     c.release_left.ensures.counted c.release_left.ensures.marked in record { counted = both.0; marked = both.1 }
-
-pub slice_bounds-release_left-end-2 : goal.slice_bounds-release_left-end-2
-slice_bounds-release_left-end-2 c = omega (arith, c.requires.0.row)
 
 pub release_left-requires-2 : goal.release_left-requires-2
 release_left-requires-2 c =
@@ -35,5 +32,5 @@ pub returns : goal.returns
 returns c =
     let long = row_bytes * c.args.v + row_bytes - row_bytes * c.args.v in
     let same = neighbours_of_lent _ _ _ _ _ _ c.other_end-w.ensures long (omega arith) c.if-w-v.false c.requires.0 in
-    let both = released_same _ _ _ _ _ _ _ _ _ (near_left_same _ _ _ _ _ _ same refl) c.take_out.ensures
+    let both = released_same _ _ _ _ _ _ _ _ _ (near_left_same _ _ _ _ _ _ same refl) c.take_out.ensures.left
     c.release_left-2.ensures.counted c.release_left-2.ensures.marked in record { counted = both.0; marked = both.1 }

@@ -16,10 +16,7 @@ release_row-requires c =
 pub returns-then-w-v : goal.returns-then-w-v
 returns-then-w-v c =
     let same = neighbours_of_end _ _ _ _ _ _ c.other_end-w.ensures c.if-w-v.true c.requires.0 in
-    let both = released_same _ _ _ _ _ _ _ _ _ (c.end_row-row.ensures ∙ same.1) c.take_out.ensures c.release_row.ensures.counted c.release_row.ensures.marked in record { counted = both.0; marked = both.1 }
-
-pub slice_bounds-release_row-end-2 : goal.slice_bounds-release_row-end-2
-slice_bounds-release_row-end-2 c = omega (arith, c.requires.0.row)
+    let both = released_same _ _ _ _ _ _ _ _ _ (c.end_row-row.ensures ∙ same.1) c.take_out.ensures.left c.release_row.ensures.counted c.release_row.ensures.marked in record { counted = both.0; marked = both.1 }
 
 pub release_row-requires-2 : goal.release_row-requires-2
 release_row-requires-2 c =
@@ -33,4 +30,4 @@ pub returns : goal.returns
 returns c =
     let long = row_bytes * c.args.v + row_bytes - row_bytes * c.args.v in
     let both = released_same _ _ _ _ _ _ _ _ _ (neighbours_of_lent _ _ _ _ _ _ c.other_end-w.ensures long (omega arith) c.if-w-v.false c.requires.0)
-    c.take_out.ensures c.release_row-2.ensures.counted c.release_row-2.ensures.marked in record { counted = both.0; marked = both.1 }
+    c.take_out.ensures.left c.release_row-2.ensures.counted c.release_row-2.ensures.marked in record { counted = both.0; marked = both.1 }

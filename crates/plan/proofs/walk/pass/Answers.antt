@@ -6,4 +6,4 @@ pub returns : goal.returns
 returns c =
     copied_part c.args.list.now c.args.tail.now _ c.args.front c.args.until c.args.taken c.requires.0
     c.requires.1
-    c.requires.2 c.copy16.ensures
+    c.requires.2 c.copy.ensures

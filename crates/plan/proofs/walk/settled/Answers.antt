@@ -1,11 +1,8 @@
 -- `walk::settled` meets its contract: where nothing is held, what counts for the first of the part are its later neighbours.
-use Rattle.lists.specs.Kit.{refl, arith}
+use Rattle.lists.specs.Kit.{refl}
 use Rattle.mesh.specs.Limits.{max_radios, max_neighbours}
 use Rattle.plan.proofs.{WalkTurns.{near_ready}, WalkMade.{listed_known}, WalkSteps.{first_below, settled_is}}
 use Rattle.plan.proofs.walk.settled.Goals as goal
-
-pub overflow_cast-v : goal.overflow_cast-v
-overflow_cast-v c = omega (arith, c.type_inv.tail 0)
 
 pub neighbours_after-k-requires : goal.neighbours_after-k-requires
 neighbours_after-k-requires c = near_ready c.requires.1 _ (first_below c.requires.1) max_neighbours refl

@@ -2,22 +2,22 @@
 use Rattle.player.proofs.ReadLaws.{filled_none, filled_more, filled_on, filled_out, prefix_len}
 use Rattle.player.proofs.input.fill.Goals as goal
 
-pub loop-left-init : goal.loop-left-init
-loop-left-init g c = filled_none _
+pub loop-init : goal.loop-init
+loop-init g c = filled_none _
 
 pub fill_on-got-requires : goal.fill_on-got-requires
-fill_on-got-requires g c = c.loop-left.invariant.low
+fill_on-got-requires g c = c.loop.invariant.low
 
 pub returns-then-is_filled-clause-fills : goal.returns-then-is_filled-clause-fills
-returns-then-is_filled-clause-fills g c = filled_more _ _ _ _ _ c.loop-left.invariant c.fill_on-got.ensures.fills
+returns-then-is_filled-clause-fills g c = filled_more _ _ _ _ _ c.loop.invariant c.fill_on-got.ensures.fills
 
-pub loop-left-preserved : goal.loop-left-preserved
-loop-left-preserved g c =
+pub loop-preserved : goal.loop-preserved
+loop-preserved g c =
     filled_on _ _ _ c.fill_on-got.ensures.counts.0 (c.is_filled.ensures c.if-is_filled.false)
-    (filled_more _ _ _ _ _ c.loop-left.invariant c.fill_on-got.ensures.fills)
+    (filled_more _ _ _ _ _ c.loop.invariant c.fill_on-got.ensures.fills)
 
 pub returns-clause-counts : goal.returns-clause-counts
-returns-clause-counts g c = prefix_len _ _ c.loop-left.invariant.low
+returns-clause-counts g c = prefix_len _ _ c.loop.invariant.low
 
 pub returns-clause-fills : goal.returns-clause-fills
-returns-clause-fills g c = filled_out _ _ _ c.loop-left.invariant
+returns-clause-fills g c = filled_out _ _ _ c.loop.invariant

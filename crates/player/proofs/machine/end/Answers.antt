@@ -8,6 +8,6 @@ returns c =
     record {
       over = refl;
       whole = c.end_fault.ensures;
-      closed = closing_writes _ _ _ _ _ c.args.s _ c.requires.ready c.requires.sized (λ i. omega (arith, c.type_inv.numbers i))
+      closed = closing_writes _ _ _ _ _ c.args.s _ c.requires.ready c.requires.few.0 c.requires.few.1 (λ i. omega (arith, c.type_inv.numbers i))
           (λ i. omega (arith, c.type_inv.order i)) c.finish-at.ensures;
     }

@@ -1,6 +1,6 @@
 -- `machine::stopped` meets its contract: `bad L` is put, and the run has a fault.
-use Rattle.lists.specs.Kit.{refl, arith}
-use Rattle.player.proofs.{ReadingLaws.{fault_first}}
+use Rattle.lists.specs.Kit.{refl, sym, ◌∙◌}
+use Rattle.player.proofs.{ReadingLaws.{some_fault}}
 use Rattle.player.proofs.machine.stopped.Goals as goal
 
 pub returns : goal.returns
@@ -10,5 +10,5 @@ returns c =
       number = refl;
       held = refl;
       live = refl;
-      fault = λ e. absurd (omega (arith, (fault_first c.args.s.fault 8 _ c.first_fault.ensures e).1));
+      fault = λ e. some_fault c.args.s.fault _ (sym c.or.ensures ∙ e);
     }

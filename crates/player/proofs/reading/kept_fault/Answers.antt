@@ -1,9 +1,11 @@
 -- `reading::kept_fault` meets its contract: by whether the buffer was kept.
-use Rattle.player.proofs.{ReadingLaws.{kept_right, kept_not}}
+use Rattle.player.specs.Reading.{kept_fault}
 use Rattle.player.proofs.reading.kept_fault.Goals as goal
 
 pub returns-then-kept : goal.returns-then-kept
-returns-then-kept c = kept_right _ _ c.if-kept.true
+unfolding kept_fault
+returns-then-kept c = rw c.if-kept.true
 
-pub returns : goal.returns
-returns c = kept_not _ _ _ c.if-kept.false c.first_fault.ensures
+pub returns-else-kept : goal.returns-else-kept
+unfolding kept_fault
+returns-else-kept c = rw c.if-kept.false c.or.ensures

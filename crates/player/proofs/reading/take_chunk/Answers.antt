@@ -1,27 +1,31 @@
--- `reading::take_chunk` meets its contract: the bytes passed so far are taken, and the measure is what is left of the chunk.
-use Rattle.lists.specs.Kit.{refl, arith, rules}
+-- `reading::take_chunk` meets its contract: the bytes passed so far are taken.
+use Rattle.lists.specs.Kit.{refl, arith}
 use Rattle.player.proofs.ReadingLaws.{chunk_none, chunk_more, chunk_end, marked_room}
 use Rattle.player.proofs.reading.take_chunk.Goals as goal
 
-pub loop-i-init : goal.loop-i-init
-loop-i-init c = (refl, refl, refl, refl, refl, refl, (λ m. m), chunk_none _ _ _ _ _ _ c.requires)
+pub loop-byte-init : goal.loop-byte-init
+loop-byte-init c = record { line = refl; out = refl; radios = refl; marked = λ m. m; taken = chunk_none _ _ _ _ _ _ c.requires }
 
 pub take_byte-taken-requires : goal.take_byte-taken-requires
-take_byte-taken-requires c = omega (arith, c.loop-i.invariant.7.ready.number)
+take_byte-taken-requires c = omega (arith, c.loop-byte.invariant.taken.ready.number)
 
-pub loop-i-preserved : goal.loop-i-preserved
-loop-i-preserved c = (
-  omega (arith, c.take_byte-taken.auto.line, c.loop-i.invariant.0),
-  omega (arith, c.take_byte-taken.auto.links, c.loop-i.invariant.1),
-  omega (arith, c.take_byte-taken.auto.numbers, c.loop-i.invariant.2),
-  omega (arith, c.take_byte-taken.auto.order, c.loop-i.invariant.3),
-  omega (arith, c.take_byte-taken.auto.answer, c.loop-i.invariant.4),
-  omega (arith, c.take_byte-taken.auto.out, c.loop-i.invariant.5),
-  (λ m. marked_room _ _ c.make_room-s.ensures (c.take_byte-taken.ensures.marked (c.loop-i.invariant.6 m))),
-  chunk_more _ _ _ _ _ _ _ _ _ _ _ _ _ _ _ _ _ _ _ c.loop-i-test.true refl c.loop-i.invariant.0 (search rules) c.make_room-s.ensures
-      c.loop-i.invariant.7 c.take_byte-taken.ensures.taken,
-)
+pub loop-byte-preserved : goal.loop-byte-preserved
+loop-byte-preserved c =
+    record {
+      line = omega (arith, c.take_byte-taken.auto.line, c.loop-byte.invariant.line);
+      out = omega (arith, c.take_byte-taken.auto.out, c.loop-byte.invariant.out);
+      radios = omega (arith, c.take_byte-taken.ensures.radios, c.loop-byte.invariant.radios);
+      marked = λ m. marked_room _ _ c.make_room-s.ensures (c.take_byte-taken.ensures.marked (c.loop-byte.invariant.marked m));
+      taken = chunk_more _ _ _ _ _ _ _ _ _ _ _ _ _ _ _ _ _ _ _ _ c.loop-byte-test.true refl c.loop-byte.invariant.line c.loop-byte.invariant.radios
+          (omega (arith, c.take_byte-taken.auto.out)) c.make_room-s.ensures c.loop-byte.invariant.taken
+          c.take_byte-taken.ensures.taken;
+    }
 
 pub returns : goal.returns
 returns c =
-    record { room = c.loop-i.invariant.7.ready.at; marked = c.loop-i.invariant.6; taken = chunk_end _ _ _ _ _ _ _ _ _ c.loop-i-test.false c.loop-i.invariant.7 }
+    record {
+      radios = c.loop-byte.invariant.radios;
+      room = c.loop-byte.invariant.taken.ready.at;
+      marked = c.loop-byte.invariant.marked;
+      taken = chunk_end _ _ _ _ _ _ _ _ _ c.loop-byte-test.false c.loop-byte.invariant.taken;
+    }

@@ -1,12 +1,10 @@
 -- `words::start_of` meets its contract: by the first word.
-use Rattle.lists.specs.Kit.{sym, ◌∙◌}
-use Rattle.std.proofs.Common.{w32}
-use Rattle.std.proofs.Math.Facts.{to_z-of_z}
+use Rattle.lists.specs.Kit.{sym, ◌∙◌, true≢false}
 use Rattle.player.proofs.WordLaws.{start_told, start_plain}
 use Rattle.player.proofs.words.start_of.Goals as goal
 
-pub returns-then-same8 : goal.returns-then-same8
-returns-then-same8 c = start_told _ _ _ (sym c.same8.ensures ∙ c.if-same8.true) (to_z-of_z {w = w32} (record { sfits = c.descriptor.type_inv }) ∙ c.descriptor.ensures)
+pub returns-then-is_same : goal.returns-then-is_same
+returns-then-is_same c = rw c.descriptor.ensures (start_told _ _ (c.is_same.ensures.0 c.if-is_same.true))
 
 pub returns : goal.returns
-returns c = start_plain _ _ (sym c.same8.ensures ∙ c.if-same8.false)
+returns c = start_plain _ _ (λ e. true≢false (sym (c.is_same.ensures.1 e) ∙ c.if-is_same.false))

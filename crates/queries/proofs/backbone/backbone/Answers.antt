@@ -1,22 +1,20 @@
 -- `backbone` meets its contract: on sound tables the set that the parts leave is the backbone, and its bits are listed
 -- ascending.
 use Rattle.lists.specs.Kit.{refl}
-use Rattle.mesh.specs.Tables.{tables}
+use Rattle.mesh.specs.Lent.{read_of}
+use Rattle.calls.proofs.AnswerLaws.{refused_not}
 use Rattle.queries.proofs.{PartLaws.{backbone_refused, backbone_small, backbone_listed}}
 use Rattle.queries.proofs.backbone.backbone.Goals as goal
 
-pub returns-then-refusal-ne0 : goal.returns-then-refusal-ne0
-returns-then-refusal-ne0 c =
-    let t = tables c.args.links.now c.args.numbers.now c.args.order.now in
-    backbone_refused c.args.n t c.args.answer.now _ c.refusal-refusal.ensures c.if-refusal-ne0.true
+pub returns-in-Err : goal.returns-in-Err
+returns-in-Err c =
+    backbone_refused c.args.t.now.radios (read_of c.args.t.now) c.args.answer.now _ c.in-Err.ensures (refused_not c.in-Err.refusal)
 
-pub put_backbone-requires : goal.put_backbone-requires
-put_backbone-requires c =
-    let t = tables c.args.links.now c.args.numbers.now c.args.order.now in
-    (backbone_small c.args.n t c.args.answer.now _ c.refusal-refusal.ensures c.if-refusal-ne0.false, refl)
+pub backbone_of-set-requires : goal.backbone_of-set-requires
+backbone_of-set-requires c =
+    backbone_small c.args.t.now.radios (read_of c.args.t.now) c.args.answer.now _ c.in_default.ensures refl
 
 pub returns : goal.returns
 returns c =
-    let t = tables c.args.links.now c.args.numbers.now c.args.order.now in
-    backbone_listed c.args.n t c.args.answer.now _ c.refusal-refusal.ensures c.if-refusal-ne0.false _ _ _ c.put_backbone.ensures
-    c.list.ensures
+    backbone_listed c.args.t.now.radios (read_of c.args.t.now) c.args.answer.now _ c.in_default.ensures refl _ _ _
+    c.backbone_of-set.ensures c.list.ensures

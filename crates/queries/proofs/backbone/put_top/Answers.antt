@@ -9,4 +9,4 @@ returns-then-number_in-top c = rw (← c.number_in.ensures, ne_eqb _ _ c.if-numb
 
 pub returns : goal.returns
 unfolding top_put
-returns c = rw (← c.number_in.ensures, eq-eqb _ _ c.if-number_in-top.false) c.put_in.ensures
+returns c = rw (← c.number_in.ensures, eq-eqb _ _ c.if-number_in-top.false) c.put_in.ensures.joined

@@ -7,10 +7,10 @@ use Rattle.queries.proofs.backbone.take_part.Goals as goal
 pub returns-then-top-eq0 : goal.returns-then-top-eq0
 returns-then-top-eq0 c =
     visited_none c.args.links.now c.args.numbers.now c.args.v c.args.rest.now c.args.set.now
-    (sym c.is_in.ensures ∙ c.if-not-is_in.false) _ _ _ c.flood-k.ensures _ c.greatest_of-top.ensures c.if-top-eq0.true
+    (sym c.has.ensures ∙ c.if-not-has.false) _ _ _ c.flood-k.ensures _ c.greatest_of-top.ensures c.if-top-eq0.true
 
 pub returns : goal.returns
 returns c =
     visited_tops c.args.links.now c.args.numbers.now c.args.v c.args.rest.now c.args.set.now
-    (sym c.is_in.ensures ∙ c.if-not-is_in.false) _ _ _ c.flood-k.ensures _ c.greatest_of-top.ensures
+    (sym c.has.ensures ∙ c.if-not-has.false) _ _ _ c.flood-k.ensures _ c.greatest_of-top.ensures
     c.if-top-eq0.false _ c.put_tops.ensures

@@ -1,10 +1,7 @@
 -- `count_links` meets its contract: the links of the rows passed and of the rows left are all. The measure is the rows left.
 use Rattle.lists.specs.Kit.{◌∙◌, arith}
-use Rattle.rows.proofs.{AboveLaws.{above_count}, LinksFrom.{counting_none, counting_turn, counting_end}}
+use Rattle.rows.proofs.{AboveLaws.{above_count}, LinksFrom.{counting_turn, counting_end}}
 use Rattle.rows.proofs.link_list.count_links.Goals as goal
-
-pub loop-a-init : goal.loop-a-init
-loop-a-init c = (omega arith, counting_none _ _)
 
 pub loop-a-preserved : goal.loop-a-preserved
 loop-a-preserved c =

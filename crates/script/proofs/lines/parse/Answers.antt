@@ -1,7 +1,6 @@
--- `lines::parse` meets its contract: the three words are tried in the order of `Line-of`.
-use Rattle.lists.specs.Kit.{sym, ap, ◌∙◌}
-use Rattle.script.specs.Lines.{radios_line}
-use Rattle.script.proofs.{LineLaws.{read_of_none, read_of_got, line_up, line_down, line_other, line_radios}}
+-- `lines::parse` meets its contract: the three words are tried in the order of `line_of`.
+use Rattle.lists.specs.Kit.{sym, ◌∙◌}
+use Rattle.script.proofs.{LineLaws.{line_up, line_down, line_other, line_no_number, line_radios}}
 use Rattle.script.proofs.lines.parse.Goals as goal
 
 pub returns-then-starts_with : goal.returns-then-starts_with
@@ -15,23 +14,17 @@ returns-then-starts_with-2 c =
     (sym c.starts_with.ensures ∙ c.if-starts_with.false)
     (sym c.starts_with-2.ensures ∙ c.if-starts_with-2.true)
 
-pub returns-then-n : goal.returns-then-n
-unfolding radios_line
-returns-then-n c =
-    sym (ap radios_line (read_of_got c.args.s.now c.read_last_number-n.result c.if-n.true))
-    ∙ line_radios c.args.s.now (sym c.starts_with.ensures ∙
-    c.if-starts_with.false)
+pub returns-in-Some : goal.returns-in-Some
+returns-in-Some c =
+    line_radios c.args.s.now (sym c.starts_with.ensures ∙ c.if-starts_with.false)
     (sym c.starts_with-2.ensures ∙ c.if-starts_with-2.false)
-    (sym c.starts_with-3.ensures ∙ c.if-starts_with-3.true) _ c.read_last_number-n.ensures
+    (sym c.starts_with-3.ensures ∙ c.if-starts_with-3.true) _ c.in-Some.ensures
 
-pub returns-else-n : goal.returns-else-n
-unfolding radios_line
-returns-else-n c =
-    sym (ap radios_line (read_of_none c.args.s.now c.read_last_number-n.result c.if-n.false))
-    ∙ line_radios c.args.s.now (sym c.starts_with.ensures ∙
-    c.if-starts_with.false)
+pub returns-in_default : goal.returns-in_default
+returns-in_default c =
+    line_no_number c.args.s.now (sym c.starts_with.ensures ∙ c.if-starts_with.false)
     (sym c.starts_with-2.ensures ∙ c.if-starts_with-2.false)
-    (sym c.starts_with-3.ensures ∙ c.if-starts_with-3.true) _ c.read_last_number-n.ensures
+    (sym c.starts_with-3.ensures ∙ c.if-starts_with-3.true) c.in_default.ensures
 
 pub returns-else-starts_with-3 : goal.returns-else-starts_with-3
 returns-else-starts_with-3 c =

@@ -1,5 +1,4 @@
 -- `lines::starts_with` meets its contract: what is left of the word and of the text gives what the whole gives.
--- The measure is what is left of the word.
 use Rattle.lists.specs.Kit.{refl, sym, ◌∙◌, arith}
 use Rattle.script.proofs.{LineLaws.{starts_end, starts_short, starts_differ, starts_step}}
 use Rattle.script.proofs.lines.starts_with.Goals as goal

@@ -10,11 +10,11 @@ returns-then-changed-n c =
     (sym (take_all c.args.count c.args.changed.now (omega arith)))
     c.put_decimal-after_number.ensures
     c.put_byte-after_space.ensures
-    c.put_step-after_step.ensures c.put_radios.ensures
+    c.put_step-after_step.ensures c.put_fields.ensures
 
 pub returns : goal.returns
 returns c =
     puts_link_line c.args.number c.args.step (take c.args.count c.args.changed.now) (to_z-of_z c.ranges.step) refl
     c.put_decimal-after_number.ensures
     c.put_byte-after_space.ensures
-    c.put_step-after_step.ensures c.put_radios-2.ensures
+    c.put_step-after_step.ensures c.put_fields-2.ensures

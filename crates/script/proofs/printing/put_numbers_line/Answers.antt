@@ -5,4 +5,4 @@ use Rattle.script.proofs.printing.put_numbers_line.Goals as goal
 
 pub returns : goal.returns
 unfolding numbers_line printed_line
-returns c = puts_append c.put_text-place.ensures c.put_numbers.ensures
+returns c = puts_append c.put_text-place.ensures c.put_fields.ensures

@@ -5,4 +5,4 @@ use Rattle.script.proofs.printing.put_order_line.Goals as goal
 
 pub returns : goal.returns
 unfolding order_line printed_line
-returns c = puts_append c.put_text-place.ensures c.put_radios.ensures
+returns c = puts_append c.put_text-place.ensures c.put_fields.ensures

@@ -1,5 +1,4 @@
--- `links_length` meets its contract: what is counted and the lines of the rows that are left are all of them (`RowsCounted`). The
--- measure is the rows left.
+-- `links_length` meets its contract: what is counted and the lines of the rows that are left are all of them (`RowsCounted`).
 use Rattle.lists.specs.Kit.{arith}
 use Rattle.script.proofs.ScriptLengths.{rows_counted_none, rows_counted_next, rows_counted_last}
 use Rattle.script.proofs.writer.links_length.Goals as goal

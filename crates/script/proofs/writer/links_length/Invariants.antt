@@ -1,11 +1,6 @@
--- `links_length` meets its contract: what is counted and the lines of the rows that are left are all of them (`RowsCounted`). The
--- measure is the rows left.
-use Rattle.std.specs.Prelude.{◌-◌}
+-- `links_length` meets its contract: what is counted and the lines of the rows that are left are all of them (`RowsCounted`).
 use Rattle.script.proofs.ScriptLengths.{RowsCounted}
 use Rattle.script.proofs.writer.links_length.Given as goal
 
 abbrev pub invariant-loop-a : goal.invariant-loop-a
 invariant-loop-a l = RowsCounted l.n l.links l.a l.sum
-
-abbrev pub decreases-loop-a : goal.decreases-loop-a
-decreases-loop-a l = l.n - l.a

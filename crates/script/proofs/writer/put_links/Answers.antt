@@ -1,5 +1,4 @@
--- `put_links` meets its contract: the rows that are left take the buffer where all of them do, and fit (`Rows`). The measure is how many
--- are left.
+-- `put_links` meets its contract: the rows that are left take the buffer where all of them do, and fit (`Rows`).
 use Rattle.lists.specs.Kit.{arith}
 use Rattle.text.{proofs.PrintLaws.{length_putting}}
 use Rattle.script.proofs.{PutLaws.{rows_none, rows_room, rows_next, rows_last}}

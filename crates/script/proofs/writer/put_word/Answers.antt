@@ -4,4 +4,4 @@ use Rattle.script.proofs.{PutLaws.{word_put}}
 use Rattle.script.proofs.writer.put_word.Goals as goal
 
 pub returns : goal.returns
-returns c = word_put c.args.buffer.now c.args.word.now _ c.args.at c.requires (omega arith) c.copy8.ensures
+returns c = word_put c.args.buffer.now c.args.word.now _ c.args.at c.requires (omega arith) c.copy.ensures

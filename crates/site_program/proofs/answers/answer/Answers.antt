@@ -1,8 +1,8 @@
 -- `answers::answer` meets its contract: each case is the contract of its verb.
-use Rattle.lists.specs.Kit.{refl, rules}
+use Rattle.lists.specs.Kit.{refl}
 use Rattle.text.specs.Print.{put}
 use Rattle.site_program.specs.{Texts.{TextBy}, Said.{Said}}
-use Rattle.site_program.proofs.{SaidLaws.{as_verb, as_sheet, as_script, as_image}}
+use Rattle.site_program.proofs.{SaidLaws.{as_verb}}
 use Rattle.site_program.proofs.answers.answer.Goals as goal
 
 pub returns-in-Help : goal.returns-in-Help
@@ -11,29 +11,23 @@ returns-in-Help c = as_verb _ _ _ _ _ _ _ c.in-Help.is (record { number = refl; 
 
 pub returns-in-Check : goal.returns-in-Check
 unfolding Said TextBy
-returns-in-Check c = as_verb _ _ _ _ _ _ _ c.in-Check.is c.check.ensures
+returns-in-Check c = as_verb _ _ _ _ _ _ _ c.in-Check.is (record { number = refl; puts = c.put_check.ensures })
 
 pub returns-in-Numbers : goal.returns-in-Numbers
 unfolding Said TextBy
-returns-in-Numbers c = as_verb _ _ _ _ _ _ _ c.in-Numbers.is c.numbers_of.ensures
+returns-in-Numbers c = as_verb _ _ _ _ _ _ _ c.in-Numbers.is (record { number = refl; puts = c.put_numbers_line.ensures })
 
 pub returns-in-Sheet : goal.returns-in-Sheet
 unfolding Said
-returns-in-Sheet c =
-    as_verb _ _ _ _ _ _ _ c.in-Sheet.is
-    (as_sheet _ _ _ _ _ _ c.written.ensures c.sheet.ensures)
+returns-in-Sheet c = as_verb _ _ _ _ _ _ _ c.in-Sheet.is (rw c.written.ensures c.sheet.ensures)
 
 pub returns-in-Script : goal.returns-in-Script
 unfolding Said
-returns-in-Script c =
-    as_verb _ _ _ _ _ _ _ c.in-Script.is
-    (as_script _ _ _ _ _ _ c.written-in-Script.ensures c.write.ensures)
+returns-in-Script c = as_verb _ _ _ _ _ _ _ c.in-Script.is (rw c.written-in-Script.ensures c.write.ensures)
 
 pub returns-in-Image : goal.returns-in-Image
 unfolding Said
-returns-in-Image c =
-    as_verb _ _ _ _ _ _ _ c.in-Image.is
-    (as_image _ _ _ _ _ _ c.written-in-Image.ensures c.write-in-Image.ensures)
+returns-in-Image c = as_verb _ _ _ _ _ _ _ c.in-Image.is (rw c.written-in-Image.ensures c.write-in-Image.ensures)
 
 pub returns-in-Backbone : goal.returns-in-Backbone
 unfolding Said

@@ -1,15 +1,17 @@
--- `ended` meets its contract: by what the last read found, and what the run holds.
-use Rattle.site_program.proofs.{CourseLaws.{ended_not, ended_refused, ended_whole, ended_open}}
+-- `ended` meets its contract: by what the last read found.
+use Rattle.lists.specs.Kit.{refl}
+use Rattle.site_program.specs.Course.{ended_by}
+use Rattle.site_program.proofs.{CourseLaws.{ended_is}}
 use Rattle.site_program.proofs.course.ended.Goals as goal
 
-pub returns-then-s-ne-END : goal.returns-then-s-ne-END
-returns-then-s-ne-END c = ended_not c.args.s c.if-s-ne-END.true
+pub returns-in-End : goal.returns-in-End
+unfolding ended_by
+returns-in-End c = ended_is c.args.s _ _ c.in-End.is c.closed.ensures
 
-pub returns-then-s-ne0 : goal.returns-then-s-ne0
-returns-then-s-ne0 c = ended_refused c.args.s c.if-s-ne-END.false c.if-s-ne0.true
+pub returns-in-GoesOn : goal.returns-in-GoesOn
+unfolding ended_by
+returns-in-GoesOn c = ended_is c.args.s _ _ c.in-GoesOn.is refl
 
-pub returns-then-s-eq0 : goal.returns-then-s-eq0
-returns-then-s-eq0 c = ended_whole c.args.s c.if-s-ne-END.false c.if-s-ne0.false c.if-s-eq0.true
-
-pub returns : goal.returns
-returns c = ended_open c.args.s c.if-s-ne-END.false c.if-s-ne0.false c.if-s-eq0.false
+pub returns-in-Failed : goal.returns-in-Failed
+unfolding ended_by
+returns-in-Failed c = ended_is c.args.s _ _ c.in-Failed.is refl

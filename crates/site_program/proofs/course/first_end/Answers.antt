@@ -1,8 +1,7 @@
--- `first_end` meets its contract: none of the bytes looked at is a line feed. The measure is how many bytes are left to look at.
-use Rattle.std.specs.Prelude.{◌-◌}
-use Rattle.lists.specs.Kit.{arith, rules}
+-- `first_end` meets its contract: none of the bytes looked at is a line feed.
+use Rattle.lists.specs.Kit.{arith}
 use Rattle.player.proofs.ReadLaws.{prefix_len}
-use Rattle.site_program.proofs.FirstLaws.{Looked, looked_none, looked_out, looked_all, looked_found, looked_more}
+use Rattle.site_program.proofs.FirstLaws.{looked_none, looked_out, looked_all, looked_found, looked_more}
 use Rattle.site_program.proofs.course.first_end.Goals as goal
 
 pub loop-i-init : goal.loop-i-init

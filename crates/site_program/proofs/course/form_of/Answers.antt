@@ -1,5 +1,4 @@
 -- `form_of` meets its contract: by the byte before the last.
-use Rattle.lists.specs.Kit.{rules}
 use Rattle.site_program.proofs.{CourseLaws.{form_short, form_carriage, form_other}}
 use Rattle.site_program.proofs.course.form_of.Goals as goal
 

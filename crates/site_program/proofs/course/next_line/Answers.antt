@@ -1,5 +1,4 @@
 -- `next_line` meets its contract: by whether the number is the largest.
-use Rattle.lists.specs.Kit.{rules}
 use Rattle.site_program.proofs.{CourseLaws.{next_more, next_last}}
 use Rattle.site_program.proofs.course.next_line.Goals as goal
 

@@ -1,5 +1,4 @@
 -- `play_line` meets its contract: the cases of the parser are the cases of `lined`.
-use Rattle.lists.specs.Kit.{rules}
 use Rattle.site_program.proofs.CourseLaws.{lined_by, lined_form, lined_radios, lined_up, lined_down}
 use Rattle.site_program.proofs.course.play_line.Goals as goal
 

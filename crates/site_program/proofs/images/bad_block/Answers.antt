@@ -1,7 +1,6 @@
 -- `images::bad_block` meets its contract: the blocks before are good, and the measure is how many are left.
-use Rattle.std.specs.Prelude.{◌≤◌, ◌-◌, ◌/◌}
-use Rattle.lists.specs.Kit.{sym, ◌∙◌, arith, length, rules, not-true, not-false}
-use Rattle.site_program.proofs.BlockLaws.{GoodTo, good_none, good_more, first_found, first_all}
+use Rattle.lists.specs.Kit.{sym, ◌∙◌, arith}
+use Rattle.site_program.proofs.BlockLaws.{good_none, good_more, first_found, first_all}
 use Rattle.site_program.proofs.images.bad_block.Goals as goal
 
 pub loop-i-init : goal.loop-i-init

@@ -1,13 +1,18 @@
--- `listing::backbone` meets its contract: the line is of the radios that the call lists.
-use Rattle.lists.specs.Kit.{refl, List, ℕ, rules}
+-- `listing::backbone` meets its contract: the text is of what the call lists.
+use Rattle.lists.specs.Kit.{refl, List, ℕ}
 use Rattle.text.specs.Text.{bytes_of}
+use Rattle.std.proofs.lemmas.Result.{err_from_is_err_and}
 use Rattle.mesh.specs.Sound.{sound}
 use Rattle.calls.specs.{CallContracts.{BackboneContract}, Outcomes.{backbone_outcome}}
 use Rattle.site_program.specs.{Texts.{radios_line}, Said.{BackboneSaid}}
-use Rattle.site_program.proofs.{TextLaws.{by_listed}}
+use Rattle.site_program.proofs.{TextLaws.{listed_refused, by_listed}}
 use Rattle.site_program.proofs.listing.backbone.Goals as goal
+
+pub returns-in_err-count : goal.returns-in_err-count
+unfolding BackboneSaid BackboneContract backbone_outcome sound
+returns-in_err-count c =
+    let p = err_from_is_err_and c.from_residual.result c.from_residual.ensures.1 in rw (p.1, p.2) (listed_refused _ _ _ _ _ _ _ _ c.in_err-count.ensures)
 
 pub returns : goal.returns
 unfolding BackboneSaid BackboneContract backbone_outcome sound
-returns c =
-    by_listed (λ (rs : List ℕ). radios_line (bytes_of "backbone") rs) (λ (k : ℕ). k) _ _ _ _ _ _ _ _ _ refl c.backbone-reply.ensures c.put_list.ensures
+returns c = by_listed _ _ _ _ _ (λ (xs : List ℕ). radios_line (bytes_of "backbone") xs) (λ (k : ℕ). k) _ _ _ _ refl c.in_ok-count.ensures c.put_list.ensures

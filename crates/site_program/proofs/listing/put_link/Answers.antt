@@ -1,5 +1,4 @@
 -- `listing::put_link` meets its contract: one text after another.
-use Rattle.lists.specs.Kit.{rules}
 use Rattle.text.{specs.Text.{printed_line, further_fields}, proofs.PrintLaws.{puts_append}}
 use Rattle.site_program.proofs.listing.put_link.Goals as goal
 

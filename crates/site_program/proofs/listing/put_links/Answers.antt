@@ -1,9 +1,6 @@
--- `listing::put_links` meets its contract: the lines that are left take the buffer where all lines take the lent one. The measure is how
--- many are left.
-use Rattle.std.specs.Prelude.{◌≤◌, ◌*◌, ◌-◌, ◌/◌}
-use Rattle.lists.specs.Kit.{arith, length, drop, rules}
-use Rattle.text.{specs.Print.{buffer_at}, proofs.PrintLaws.{Putting, putting_none, putting_piece, putting_end, length_putting}}
-use Rattle.site_program.specs.Texts.{pair_lines}
+-- `listing::put_links` meets its contract: the lines that are left take the buffer where all lines take the lent one.
+use Rattle.lists.specs.Kit.{refl, arith}
+use Rattle.text.{proofs.PrintLaws.{putting_none, putting_piece, putting_end}}
 use Rattle.site_program.proofs.{LineLaws.{pair_next, pair_end}}
 use Rattle.site_program.proofs.listing.put_links.Goals as goal
 
@@ -13,7 +10,7 @@ loop-i-init c = (omega arith, putting_none)
 pub loop-i-preserved : goal.loop-i-preserved
 loop-i-preserved c = (
   omega arith,
-  putting_piece _ _ (pair_next c.args.table.now c.loop-i.i _ _ (omega arith) c.wide.ensures c.wide-in-loop-i.ensures) c.loop-i.invariant.1
+  putting_piece _ _ (pair_next c.args.table.now c.loop-i.i _ _ (omega arith) refl refl) c.loop-i.invariant.1
       (c.put_link-place.ensures),
 )
 

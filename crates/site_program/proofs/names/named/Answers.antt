@@ -1,9 +1,10 @@
 -- `names::named` meets its contract: the word is the name, or it is not.
-use Rattle.lists.{specs.Kit.{sym, ◌∙◌, rules}, proofs.Tests.{cond_true, cond_false}}
+use Rattle.lists.specs.Kit.{sym, ◌∙◌, true≢false}
+use Rattle.site_program.proofs.NameLaws.{named_is, named_not}
 use Rattle.site_program.proofs.names.named.Goals as goal
 
-pub returns-then-same8 : goal.returns-then-same8
-returns-then-same8 c = sym (cond_true _ _ _ (sym c.same8.ensures ∙ c.if-same8.true))
+pub returns-then-is_same : goal.returns-then-is_same
+returns-then-is_same c = named_is _ _ _ _ (c.is_same.ensures.0 c.if-is_same.true)
 
 pub returns : goal.returns
-returns c = sym (cond_false _ _ _ (sym c.same8.ensures ∙ c.if-same8.false))
+returns c = named_not _ _ _ _ (λ e. true≢false (sym (c.is_same.ensures.1 e) ∙ c.if-is_same.false))

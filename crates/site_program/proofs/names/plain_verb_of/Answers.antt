@@ -1,5 +1,5 @@
 -- `names::plain_verb_of` meets its contract: the names one after another.
-use Rattle.lists.specs.{Kit.{rules}, Lists.{same}}
+use Rattle.lists.specs.{Lists.{same}}
 use Rattle.text.specs.Text.{bytes_of}
 use Rattle.site_program.specs.{declared.names.Verb.TheVariants.{Help, Check, Numbers, Sheet, Script}, Names.{plain_verb_of}}
 use Rattle.site_program.proofs.{NameLaws.{or_next}}

@@ -1,5 +1,5 @@
 -- `names::verb_of` meets its contract: the names one after another, then the plain ones.
-use Rattle.lists.specs.{Kit.{rules}, Lists.{same}}
+use Rattle.lists.specs.{Lists.{same}}
 use Rattle.text.specs.Text.{bytes_of}
 use Rattle.site_program.specs.{declared.names.Verb.TheVariants.{Backbone, Staircase, Tree, Core, Lift}, Names.{verb_of}}
 use Rattle.site_program.proofs.{NameLaws.{or_next}}

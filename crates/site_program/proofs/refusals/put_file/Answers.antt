@@ -1,5 +1,4 @@
 -- `refusals::put_file` meets its contract: one text after another.
-use Rattle.lists.specs.Kit.{rules}
 use Rattle.text.proofs.PrintLaws.{puts_append}
 use Rattle.site_program.specs.Errors.{file_words}
 use Rattle.site_program.proofs.refusals.put_file.Goals as goal

@@ -1,5 +1,4 @@
 -- `refusals::put_script` meets its contract: one text after another.
-use Rattle.lists.specs.Kit.{rules}
 use Rattle.text.proofs.PrintLaws.{puts_append}
 use Rattle.site_program.specs.Errors.{script_text}
 use Rattle.site_program.proofs.refusals.put_script.Goals as goal

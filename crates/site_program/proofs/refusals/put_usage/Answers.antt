@@ -1,5 +1,5 @@
 -- `refusals::put_usage` meets its contract: each number in turn.
-use Rattle.lists.specs.Kit.{rules, eq-eqb, ne_eqb}
+use Rattle.lists.specs.Kit.{eq-eqb, ne_eqb}
 use Rattle.site_program.specs.Errors.{usage_words}
 use Rattle.site_program.proofs.refusals.put_usage.Goals as goal
 

@@ -1,14 +1,8 @@
 -- `source::radios` meets its contract: a first line names at most 512 radios, and an image is taken to have no more.
-use Rattle.std.specs.Prelude.{◌≤◌}
-use Rattle.lists.specs.Kit.{List, ℕ, arith, rules}
-use Rattle.mesh.specs.Limits.{max_radios}
-use Rattle.player.proofs.PlayLaws.{radios_of_le}
+use Rattle.player.proofs.PlayLaws.{some_radios_le}
 use Rattle.site_program.specs.Course.{named_radios}
 use Rattle.site_program.proofs.source.radios.Goals as goal
 
-named_le : (s : List ℕ) → named_radios s ≤ max_radios
+pub returns-in-Script : goal.returns-in-Script
 unfolding named_radios
-named_le s = radios_of_le _
-
-pub returns-then-is_script : goal.returns-then-is_script
-returns-then-is_script c = omega (arith, c.radios.ensures, named_le c.args.front.now)
+returns-in-Script c = rw c.radios.ensures (some_radios_le _)

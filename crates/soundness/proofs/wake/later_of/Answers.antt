@@ -1,20 +1,21 @@
 -- `wake::later_of` meets its contract: refused by questions 1 to 4, or the later neighbours of a radio of sound tables.
-use Rattle.lists.specs.Kit.{sym, ◌∙◌}
-use Rattle.mesh.specs.Tables.{tables}
+use Rattle.lists.specs.Kit.{sym}
+use Rattle.calls.proofs.AnswerLaws.{refused_not}
+use Rattle.mesh.specs.Lent.{read_of}
 use Rattle.soundness.proofs.{WakeLaws.{later_refused, later_radio, later_answered}}
 use Rattle.soundness.proofs.wake.later_of.Goals as goal
 
-pub returns-then-refusal-ne0 : goal.returns-then-refusal-ne0
-returns-then-refusal-ne0 c =
-    let t = tables c.args.links.now c.args.numbers.now c.args.order.now in
-    later_refused c.args.n c.args.v t _ c.radio_refusal-refusal.ensures c.if-refusal-ne0.true
+pub returns-in-Err : goal.returns-in-Err
+returns-in-Err c =
+    let t = read_of c.args.t.now in
+    later_refused c.args.t.now.radios c.args.v t _ c.in-Err.ensures (refused_not c.in-Err.refusal)
 
-pub later_ends-ends-requires : goal.later_ends-ends-requires
-later_ends-ends-requires c =
-    let t = tables c.args.links.now c.args.numbers.now c.args.order.now in
-    later_radio c.args.n c.args.v t (sym c.radio_refusal-refusal.ensures ∙ c.if-refusal-ne0.false)
+pub wake_of-requires : goal.wake_of-requires
+wake_of-requires c =
+    let t = read_of c.args.t.now in
+    later_radio c.args.t.now.radios c.args.v t (sym c.in_default.ensures)
 
 pub returns : goal.returns
 returns c =
-    let t = tables c.args.links.now c.args.numbers.now c.args.order.now in
-    later_answered c.args.n c.args.v t (sym c.radio_refusal-refusal.ensures ∙ c.if-refusal-ne0.false) _ _ c.later_ends-ends.ensures
+    let t = read_of c.args.t.now in
+    later_answered c.args.t.now.radios c.args.v t (sym c.in_default.ensures) _ _ c.wake_of.ensures

@@ -3,10 +3,10 @@
 use Rattle.tables.proofs.{NumberLaws.{greatest_turn, greatest_end}}
 use Rattle.tables.proofs.numbers.greatest.Goals as goal
 
-pub loop-v-preserved : goal.loop-v-preserved
-loop-v-preserved c =
-    rw c.larger-top.ensures (greatest_turn c.args.numbers.now c.loop-v.top c.loop-v.v
-    c.loop-v-test.true c.loop-v.invariant)
+pub loop-x-preserved : goal.loop-x-preserved
+loop-x-preserved c =
+    rw c.larger-top.ensures (greatest_turn c.args.numbers.now c.loop-x.top c.loop-x.x-index
+    c.loop-x-test.true c.loop-x.invariant)
 
 pub returns : goal.returns
-returns c = greatest_end c.args.numbers.now c.loop-v.top c.loop-v.v c.loop-v-test.false c.loop-v.invariant
+returns c = greatest_end c.args.numbers.now c.loop-x.top c.loop-x.x-index c.loop-x-test.false c.loop-x.invariant

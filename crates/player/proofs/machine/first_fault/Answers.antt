@@ -1,9 +1,0 @@
--- `machine::first_fault` meets its contract: by whether there is a fault.
-use Rattle.lists.specs.Kit.{eq-eqb, ne_eqb}
-use Rattle.player.proofs.machine.first_fault.Goals as goal
-
-pub returns-then-old-eq0 : goal.returns-then-old-eq0
-returns-then-old-eq0 c = rw (eq-eqb c.args.old 0 c.if-old-eq0.true)
-
-pub returns : goal.returns
-returns c = rw (ne_eqb c.args.old 0 c.if-old-eq0.false)

@@ -1,5 +1,0 @@
--- `soundness::refusal` meets its contract: the two local tables have room for every site.
-use Rattle.soundness.proofs.refusal.Goals as goal
-
-pub returns : goal.returns
-returns c = c.asked.ensures.number
