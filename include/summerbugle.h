@@ -187,7 +187,7 @@ uint32_t sb_version(void);
 /**
  * Clear a site: zero links, zero numbers, the order 0 to n - 1.
  *
- * At worst 2,190 instructions.
+ * At worst 2,210 instructions.
  *
  * \return 0; or SB_SIZE, SB_LENGTH, and then every table keeps its content.
  */
@@ -210,7 +210,7 @@ sb_value sb_check(uint32_t n, const uint8_t *links, size_t links_len,
  * Changed radios are the ones whose core number rises, each by one. In the order only the stretch of the lower end's level
  * is laid out anew.
  *
- * At worst 672,000 instructions.
+ * At worst 635,000 instructions.
  *
  * \return number 0, step +1 (or 0 when no number changed) and count: answer[0] to answer[count - 1] are the changed radios,
  *         ascending; later entries keep theirs. Or a number from SB_SIZE to SB_NO_ROOM, step and count 0, and then every table
@@ -223,7 +223,7 @@ sb_reply sb_link_up(uint32_t n, uint32_t a, uint32_t b, uint8_t *links, size_t l
 /**
  * Take the link between a and b down: as sb_link_up, with numbers that fall by one.
  *
- * At worst 578,000 instructions.
+ * At worst 579,000 instructions.
  *
  * \return number 0, step -1 (or 0 when no number changed) and count, with the changed radios in the answer table. Or a number from
  *         SB_SIZE to SB_LINK_STATE, step and count 0, and then every table keeps its content.
@@ -237,7 +237,7 @@ sb_reply sb_link_down(uint32_t n, uint32_t a, uint32_t b, uint8_t *links, size_t
  * counted beside its number: the only refusal of this interface beside which a change and a count stand. The tables are checked once, so a
  * batch is quicker than its links one by one.
  *
- * At worst 152,000,000 instructions; a link of a batch 405,000 instructions.
+ * At worst 145,000,000 instructions; a link of a batch 382,000 instructions.
  *
  * \return number 0 and value list_len / 2, the count of links done; or a number from SB_RADIO to SB_NO_ROOM, that of the link list[2 *
  *         value], list[2 * value + 1], and value the count of links before it, which are up; or SB_SIZE, SB_LENGTH (list_len may not be
@@ -257,7 +257,7 @@ sb_value sb_link_batch(uint32_t n, uint8_t *links, size_t links_len,
  * Where all links of a full site of 512 radios go down and as many others come up the call makes 20,480 links' work, which may take up to a
  * second; a call that changes no link takes about as long as sb_check.
  *
- * At worst 234,000,000 instructions.
+ * At worst 226,000,000 instructions.
  *
  * \return number 0 and value the count of one-sided pairs, which is that of bits set in one_sided; or SB_SIZE, SB_LENGTH (heard_len and
  *         one_sided_len are 64 * n, not more), SB_UNSOUND, SB_HEARD, SB_NO_ROOM, value 0, and then every table keeps its content.
@@ -271,7 +271,7 @@ sb_value sb_hear(uint32_t n, uint8_t *links, size_t links_len,
  *
  * The step and the first count entries of the answer table are a proposal for sb_commit_up. Nothing is kept between the two calls.
  *
- * At worst 672,000 instructions.
+ * At worst 635,000 instructions.
  *
  * \return what sb_link_up would: number 0, step +1 (or 0 when no number would change) and count: answer[0] to answer[count - 1] are
  *         the radios that would change, ascending; later entries keep theirs. Or a number from SB_SIZE to SB_NO_ROOM, step and count 0,
@@ -297,7 +297,7 @@ sb_reply sb_ask_down(uint32_t n, uint32_t a, uint32_t b, const uint8_t *links, s
  * The list is lent at its own length, changed_len entries, and only read; it may be empty, and then changed is not read. No answer
  * table is lent.
  *
- * At worst 672,000 instructions.
+ * At worst 635,000 instructions.
  *
  * \return number 0, step and count as sb_link_up. Or a number from SB_SIZE to SB_NO_ROOM, then SB_PROPOSAL when the step or the list,
  *         its length or any entry, is another, also one at n or above; step and count are 0, and every table keeps its content.
@@ -310,7 +310,7 @@ sb_reply sb_commit_up(uint32_t n, uint32_t a, uint32_t b, int8_t step, uint8_t *
  * Take the link between radios a and b down: as sb_commit_up, with what sb_ask_down would give now. Refused by SB_SIZE to SB_LINK_STATE
  * and SB_PROPOSAL.
  *
- * At worst 581,000 instructions.
+ * At worst 582,000 instructions.
  */
 sb_reply sb_commit_down(uint32_t n, uint32_t a, uint32_t b, int8_t step, uint8_t *links, size_t links_len,
                         uint8_t *numbers, size_t numbers_len, uint16_t *order, size_t order_len,
@@ -349,7 +349,7 @@ sb_value sb_linked(uint32_t n, uint32_t a, uint32_t b, const uint8_t *links, siz
 /**
  * Which of the radios a and b stands first in the order.
  *
- * At worst 368,000 instructions.
+ * At worst 367,000 instructions.
  *
  * \return number 0 and that radio (the same radio twice: it); or a number from SB_SIZE to SB_RADIO and value 0.
  */
@@ -373,7 +373,7 @@ sb_later sb_later_of(uint32_t n, uint32_t v, const uint8_t *links, size_t links_
  * does not count. The tables are only read. One call looks at up to n * (n - 1) / 2 pairs: at 512 radios it takes a fraction of a second
  * where nearly every pair must be looked at, and far less where one of the first does.
  *
- * At worst 270,000,000 instructions.
+ * At worst 210,000,000 instructions.
  *
  * \return number 0 and the pair, low below high; or a number from SB_SIZE to SB_RADIO, or SB_NO_LIFT exactly if there is no such pair,
  *         and zeros.
@@ -412,7 +412,7 @@ sb_value sb_backbone(uint32_t n, const uint8_t *links, size_t links_len,
  * SB_ROOT at level 0. A node's name is its lowest radio of that number. The list must have n + 1 places. Links, numbers and order
  * are only read.
  *
- * At worst 1,010,000 instructions.
+ * At worst 1,110,000 instructions.
  *
  * \return number 0 and the count of nodes, root included: nodes[0] to nodes[value - 1] are the nodes, by level, then name; answer[v]
  *         is the name of radio v's node; later places and entries keep theirs. Or number SB_SIZE, SB_LENGTH, SB_UNSOUND and value
@@ -439,7 +439,7 @@ sb_value sb_sheet(uint32_t n, const uint8_t *links, size_t links_len,
 /**
  * The length in bytes of the script that rebuilds the site, without writing it. The tables are only read.
  *
- * At worst 587,000 instructions.
+ * At worst 609,000 instructions.
  *
  * \return number 0 and the length, at most SB_SCRIPT_BYTES; or a number (SB_SIZE, SB_LENGTH, SB_UNSOUND) and value 0.
  */
@@ -452,7 +452,7 @@ sb_value sb_script_length(uint32_t n, const uint8_t *links, size_t links_len,
  * and numbers are those of the tables; the order may differ, since the script is another history. No zero byte is put after the text.
  * The tables are only read.
  *
- * At worst 1,250,000 instructions.
+ * At worst 1,210,000 instructions.
  *
  * \return number 0 and the script's length in bytes, which sb_script_length tells beforehand; bytes past it keep their content. Or a
  *         number (SB_SIZE, SB_LENGTH, SB_UNSOUND, SB_TEXT) and value 0, and then the text buffer keeps its content.
@@ -467,7 +467,7 @@ sb_value sb_script_write(uint32_t n, const uint8_t *links, size_t links_len,
  * do not yet join its ends. There are fewer than n; no spanning forest weighs more, and between two radios the least weight along
  * the kept links is the greatest that any way has. The table must have 2 * n entries. Links, numbers and order are only read.
  *
- * At worst 733,000 instructions.
+ * At worst 711,000 instructions.
  *
  * \return number 0 and the count of kept links, in the order in which they are taken: link i is table[2 * i], the lower radio, and
  *         table[2 * i + 1]; later entries keep theirs. Or number SB_SIZE, SB_LENGTH, SB_UNSOUND and value 0, and then the table keeps
@@ -480,7 +480,7 @@ sb_value sb_staircase(uint32_t n, const uint8_t *links, size_t links_len,
 /**
  * Write the site's image in front of the buffer. The tables are only read.
  *
- * At worst 542,000 instructions.
+ * At worst 795,000 instructions.
  *
  * \return number 0 and the image's length in bytes, a multiple of SB_BLOCK_BYTES; bytes past it keep their content. Or a number
  *         (SB_SIZE, SB_LENGTH, SB_UNSOUND, SB_IMAGE_SIZE) and value 0, and then the buffer keeps its content.
@@ -492,7 +492,7 @@ sb_value sb_image_write(uint32_t n, const uint8_t *links, size_t links_len,
 /**
  * Read an image of a site of n radios into the tables; the numbers are worked out. What the tables held does not matter.
  *
- * At worst 625,000 instructions.
+ * At worst 849,000 instructions.
  *
  * \return 0; or SB_SIZE, SB_LENGTH, SB_IMAGE_SIZE, SB_IMAGE_CHECK, then SB_OTHER_SIZE for the image of a site of another size,
  *         SB_IMAGE for the image of none, and then every table keeps its content.
@@ -509,7 +509,7 @@ uint32_t sb_image_read(uint32_t n, uint8_t *links, size_t links_len,
  * used places first, and every call on marks checks each place. A name is SB_NAME_BYTES of A to Z and 0 to 9, at least one, then spaces;
  * it may not lie in the store.
  *
- * At worst 3,770,000 instructions.
+ * At worst 5,590,000 instructions.
  *
  * \return 0; every other mark is as it was, byte for byte. Or SB_SIZE, SB_LENGTH (the store's length too), SB_UNSOUND, SB_MARK (the
  *         name's length too), SB_MARKS_FULL, and then the store keeps its content.
@@ -521,7 +521,7 @@ uint32_t sb_mark_set(uint32_t n, const uint8_t *links, size_t links_len,
 /**
  * Remove a mark: its place serves another. Links, numbers and order are only read.
  *
- * At worst 3,610,000 instructions.
+ * At worst 5,400,000 instructions.
  *
  * \return 0; every other mark is as it was, byte for byte. Or SB_SIZE, SB_LENGTH, SB_UNSOUND, SB_MARK, SB_NO_MARK, and then the store
  *         keeps its content.
@@ -534,7 +534,7 @@ uint32_t sb_mark_remove(uint32_t n, const uint8_t *links, size_t links_len,
  * Come back to a mark: links, numbers and order are as they were when it was set. The store is only read. The tables must be sound; to
  * come back from tables that are not, read the image that stands SB_NAME_BYTES after the beginning of the mark's place.
  *
- * At worst 4,170,000 instructions.
+ * At worst 6,180,000 instructions.
  *
  * \return 0; or SB_SIZE, SB_LENGTH, SB_UNSOUND, SB_MARK, SB_NO_MARK, and then every table keeps its content.
  */
@@ -547,7 +547,7 @@ uint32_t sb_mark_return(uint32_t n, uint8_t *links, size_t links_len,
  *
  * The length and the check of every block are tested at each step; whether the image is a site's is not.
  *
- * At worst 33,000 instructions.
+ * At worst 263,000 instructions.
  *
  * \return number 0 and a block, or end 1 after the last; or number SB_IMAGE_SIZE, SB_IMAGE_CHECK.
  */
