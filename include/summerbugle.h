@@ -197,7 +197,7 @@ uint32_t sb_clear(uint32_t n, uint8_t *links, size_t links_len,
 /**
  * Check whether the tables are sound. They are only read.
  *
- * At worst 365,000 instructions.
+ * At worst 367,000 instructions.
  *
  * \return number 0 and value 1 (sound) or 0 (not sound); or number SB_SIZE, SB_LENGTH and value 0.
  */
@@ -210,7 +210,7 @@ sb_value sb_check(uint32_t n, const uint8_t *links, size_t links_len,
  * Changed radios are the ones whose core number rises, each by one. In the order only the stretch of the lower end's level
  * is laid out anew.
  *
- * At worst 635,000 instructions.
+ * At worst 637,000 instructions.
  *
  * \return number 0, step +1 (or 0 when no number changed) and count: answer[0] to answer[count - 1] are the changed radios,
  *         ascending; later entries keep theirs. Or a number from SB_SIZE to SB_NO_ROOM, step and count 0, and then every table
@@ -223,7 +223,7 @@ sb_reply sb_link_up(uint32_t n, uint32_t a, uint32_t b, uint8_t *links, size_t l
 /**
  * Take the link between a and b down: as sb_link_up, with numbers that fall by one.
  *
- * At worst 579,000 instructions.
+ * At worst 581,000 instructions.
  *
  * \return number 0, step -1 (or 0 when no number changed) and count, with the changed radios in the answer table. Or a number from
  *         SB_SIZE to SB_LINK_STATE, step and count 0, and then every table keeps its content.
@@ -271,7 +271,7 @@ sb_value sb_hear(uint32_t n, uint8_t *links, size_t links_len,
  *
  * The step and the first count entries of the answer table are a proposal for sb_commit_up. Nothing is kept between the two calls.
  *
- * At worst 635,000 instructions.
+ * At worst 637,000 instructions.
  *
  * \return what sb_link_up would: number 0, step +1 (or 0 when no number would change) and count: answer[0] to answer[count - 1] are
  *         the radios that would change, ascending; later entries keep theirs. Or a number from SB_SIZE to SB_NO_ROOM, step and count 0,
@@ -285,7 +285,7 @@ sb_reply sb_ask_up(uint32_t n, uint32_t a, uint32_t b, const uint8_t *links, siz
  * Ask what sb_link_down would change now: as sb_ask_up, with step -1, or 0 when no number would change. Refused by SB_SIZE to
  * SB_LINK_STATE.
  *
- * At worst 570,000 instructions.
+ * At worst 572,000 instructions.
  */
 sb_reply sb_ask_down(uint32_t n, uint32_t a, uint32_t b, const uint8_t *links, size_t links_len,
                      const uint8_t *numbers, size_t numbers_len, const uint16_t *order, size_t order_len,
@@ -297,7 +297,7 @@ sb_reply sb_ask_down(uint32_t n, uint32_t a, uint32_t b, const uint8_t *links, s
  * The list is lent at its own length, changed_len entries, and only read; it may be empty, and then changed is not read. No answer
  * table is lent.
  *
- * At worst 635,000 instructions.
+ * At worst 637,000 instructions.
  *
  * \return number 0, step and count as sb_link_up. Or a number from SB_SIZE to SB_NO_ROOM, then SB_PROPOSAL when the step or the list,
  *         its length or any entry, is another, also one at n or above; step and count are 0, and every table keeps its content.
@@ -310,7 +310,7 @@ sb_reply sb_commit_up(uint32_t n, uint32_t a, uint32_t b, int8_t step, uint8_t *
  * Take the link between radios a and b down: as sb_commit_up, with what sb_ask_down would give now. Refused by SB_SIZE to SB_LINK_STATE
  * and SB_PROPOSAL.
  *
- * At worst 582,000 instructions.
+ * At worst 585,000 instructions.
  */
 sb_reply sb_commit_down(uint32_t n, uint32_t a, uint32_t b, int8_t step, uint8_t *links, size_t links_len,
                         uint8_t *numbers, size_t numbers_len, uint16_t *order, size_t order_len,
@@ -319,7 +319,7 @@ sb_reply sb_commit_down(uint32_t n, uint32_t a, uint32_t b, int8_t step, uint8_t
 /**
  * The number of radio v. The tables are only read, here and in the next four calls.
  *
- * At worst 365,000 instructions.
+ * At worst 367,000 instructions.
  *
  * \return number 0 and the radio's number; or a number from SB_SIZE to SB_RADIO and value 0.
  */
@@ -329,7 +329,7 @@ sb_value sb_number(uint32_t n, uint32_t v, const uint8_t *links, size_t links_le
 /**
  * How many neighbours radio v has.
  *
- * At worst 365,000 instructions.
+ * At worst 367,000 instructions.
  *
  * \return number 0 and the count, 0 to 40; or a number from SB_SIZE to SB_RADIO and value 0.
  */
@@ -339,7 +339,7 @@ sb_value sb_neighbours(uint32_t n, uint32_t v, const uint8_t *links, size_t link
 /**
  * Whether the radios a and b are linked.
  *
- * At worst 365,000 instructions.
+ * At worst 367,000 instructions.
  *
  * \return number 0 and 1 (linked) or 0 (not; a radio with itself); or a number from SB_SIZE to SB_RADIO and value 0.
  */
@@ -349,7 +349,7 @@ sb_value sb_linked(uint32_t n, uint32_t a, uint32_t b, const uint8_t *links, siz
 /**
  * Which of the radios a and b stands first in the order.
  *
- * At worst 367,000 instructions.
+ * At worst 369,000 instructions.
  *
  * \return number 0 and that radio (the same radio twice: it); or a number from SB_SIZE to SB_RADIO and value 0.
  */
@@ -359,7 +359,7 @@ sb_value sb_first(uint32_t n, uint32_t a, uint32_t b, const uint8_t *links, size
 /**
  * The neighbours of radio v that stand after it in the order: how many, and the first of them, through which v is woken.
  *
- * At worst 371,000 instructions.
+ * At worst 373,000 instructions.
  *
  * \return number 0, the count, at most the radio's number, and the first, SB_NOBODY when the count is 0; or a number from SB_SIZE to
  *         SB_RADIO, and zeros.
@@ -373,7 +373,7 @@ sb_later sb_later_of(uint32_t n, uint32_t v, const uint8_t *links, size_t links_
  * does not count. The tables are only read. One call looks at up to n * (n - 1) / 2 pairs: at 512 radios it takes a fraction of a second
  * where nearly every pair must be looked at, and far less where one of the first does.
  *
- * At worst 210,000,000 instructions.
+ * At worst 213,000,000 instructions.
  *
  * \return number 0 and the pair, low below high; or a number from SB_SIZE to SB_RADIO, or SB_NO_LIFT exactly if there is no such pair,
  *         and zeros.
@@ -385,7 +385,7 @@ sb_pair sb_lift(uint32_t n, uint32_t v, const uint8_t *links, size_t links_len,
  * The connected core of radio v at level k: all radios reachable from v over radios with number k or more. At level 0 it is v's
  * connected part. Links, numbers and order are only read.
  *
- * At worst 388,000 instructions.
+ * At worst 391,000 instructions.
  *
  * \return number 0 and the count: answer[0] to answer[value - 1] are the radios, ascending; later entries keep theirs. Or a
  *         number (SB_SIZE to SB_RADIO, SB_LEVEL) and value 0, and then the answer table keeps its content.
@@ -398,7 +398,7 @@ sb_value sb_core(uint32_t n, uint32_t v, uint32_t k, const uint8_t *links, size_
  * The backbone: the radios whose number is the greatest in their own connected part and is not 0. Each part has its own; a radio
  * without links is in none. Links, numbers and order are only read.
  *
- * At worst 408,000 instructions.
+ * At worst 410,000 instructions.
  *
  * \return number 0 and the count: answer[0] to answer[value - 1] are the radios, ascending; later entries keep theirs. Or number
  *         SB_SIZE, SB_LENGTH, SB_UNSOUND and value 0, and then the answer table keeps its content.
@@ -427,7 +427,7 @@ sb_value sb_tree(uint32_t n, const uint8_t *links, size_t links_len,
  * in 3 columns right-aligned, a colon, its core number in 2 columns right-aligned, two spaces. The last line is filled with spaces,
  * and each line ends in a line feed: (n + 7) / 8 lines of SB_PAGE_LINE bytes. No zero byte is put after them. The tables are only read.
  *
- * At worst 400,000 instructions.
+ * At worst 403,000 instructions.
  *
  * \return number 0 and the sheet's length in bytes; bytes past it keep their content. Or a number (SB_SIZE, SB_LENGTH, SB_UNSOUND,
  *         SB_PAGE) and value 0, and then the page keeps its content.
@@ -439,7 +439,7 @@ sb_value sb_sheet(uint32_t n, const uint8_t *links, size_t links_len,
 /**
  * The length in bytes of the script that rebuilds the site, without writing it. The tables are only read.
  *
- * At worst 609,000 instructions.
+ * At worst 611,000 instructions.
  *
  * \return number 0 and the length, at most SB_SCRIPT_BYTES; or a number (SB_SIZE, SB_LENGTH, SB_UNSOUND) and value 0.
  */
@@ -467,7 +467,7 @@ sb_value sb_script_write(uint32_t n, const uint8_t *links, size_t links_len,
  * do not yet join its ends. There are fewer than n; no spanning forest weighs more, and between two radios the least weight along
  * the kept links is the greatest that any way has. The table must have 2 * n entries. Links, numbers and order are only read.
  *
- * At worst 711,000 instructions.
+ * At worst 713,000 instructions.
  *
  * \return number 0 and the count of kept links, in the order in which they are taken: link i is table[2 * i], the lower radio, and
  *         table[2 * i + 1]; later entries keep theirs. Or number SB_SIZE, SB_LENGTH, SB_UNSOUND and value 0, and then the table keeps
@@ -480,7 +480,7 @@ sb_value sb_staircase(uint32_t n, const uint8_t *links, size_t links_len,
 /**
  * Write the site's image in front of the buffer. The tables are only read.
  *
- * At worst 795,000 instructions.
+ * At worst 797,000 instructions.
  *
  * \return number 0 and the image's length in bytes, a multiple of SB_BLOCK_BYTES; bytes past it keep their content. Or a number
  *         (SB_SIZE, SB_LENGTH, SB_UNSOUND, SB_IMAGE_SIZE) and value 0, and then the buffer keeps its content.

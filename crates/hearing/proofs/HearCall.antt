@@ -90,9 +90,9 @@ module _ (n : ℕ) (hs w : List ℕ) (t : Tables) (ps is : List ℕ) (q : ℕ) (
         unfolding heard_proper
         is_within = and_right (irreflexive n hs) (within n hs) answers.0
 
-        module _ (count : ℕ) (x : List ℕ) (d : OneSidedMarked n hs w count x) where
+        module _ (lp : length ps ≡ max_radios) (li : length is ≡ max_radios) (count : ℕ) (x : List ℕ) (d : OneSidedMarked n hs w count x) where
           prepared : Prepared n t ps is
-          prepared = prepared_asked n t _ ps is q asked zero
+          prepared = prepared_asked n t _ ps is q asked zero lp li
 
           pub hear_ready : Prepared n t ps is × MarkedHearing n hs x
           hear_ready = (prepared, record { size = hear_size; few = answers.1; one_sided = d.table one_sided_long })

@@ -100,7 +100,7 @@ pub fn hear(
     let bytes = Site::ROW_BYTES * n as usize;
     let others = (heard.len() == bytes) & (one_sided.len() == bytes);
     let mut found = Found::new();
-    if let Err(refusal) = soundness::asked(&t, others, &mut found) {
+    if let Err(refusal) = soundness::asked(&t, others, &mut found.places, &mut found.not_lower) {
         return Err(refusal);
     }
     if let Err(refusal) = questions::ask(n, heard) {

@@ -41,7 +41,7 @@ below W h = (
                       tables.has_fill_U8Entry_set W h.3,
                       (
                         tables.has_fill_copy W h.3,
-                        (tables.has_fill_fill W h.3, (tables.has_fill_least W h.3, (tables.has_sizes_is_size W h.3, (tables.has_sizes_of_tables W h.3, tt)))),
+                        (tables.has_fill_fill W h.3, (tables.has_fill_least W h.3, (tables.has_sizes_ask W h.3, (tables.has_sizes_is_size W h.3, tt)))),
                       ),
                     ),
                   ),

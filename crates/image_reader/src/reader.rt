@@ -69,7 +69,7 @@ pub fn read(
         numbers,
         order,
     };
-    if let Err(refusal) = tables::sizes::of_tables(&t) {
+    if let Err(refusal) = tables::sizes::ask(&t) {
         return Err(refusal);
     }
     let header = match source::open(image) {

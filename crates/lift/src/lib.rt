@@ -22,7 +22,7 @@ pub fn lift(t: &Lent, v: u32) -> Result<Ends, Refusal>
     ensures { LiftContract t.now.radios v (read_of t.now) (pair_reply result) }
 {
     let mut found = Found::new();
-    if let Err(refusal) = soundness::asked(t, true, &mut found) {
+    if let Err(refusal) = soundness::asked(t, true, &mut found.places, &mut found.not_lower) {
         return Err(refusal);
     }
     if t.radios <= v {

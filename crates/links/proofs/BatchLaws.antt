@@ -2,7 +2,7 @@
 use Rattle.std.specs.Prelude.{◌≡◌, ◌∷◌, ◌+◌, ◌*◌, ◌/◌, ◌%◌, ◌^◌, ◌≤◌, ◌<◌}
 use Rattle.lists.specs.Kit.{refl, sym, ap, subst, ◌∙◌, true, List, ℕ, suc, arith, length, get_or, drop, drop_of_length-le}
 use Rattle.lists.specs.Kit.{drop-cons, eqb-true}
-use Rattle.mesh.specs.{Tables.{Tables}, Sound.{sound}}
+use Rattle.mesh.specs.{Limits.{max_radios}, Tables.{Tables}, Sound.{sound}}
 use Rattle.calls.{specs.Questions.{lengths_of}, specs.Batches.{list_length, batch_refusal}, specs.Outcomes.{tabled, value, links_taken}}
 use Rattle.calls.{specs.Outcomes.{batch_outcome}, specs.CallContracts.{BatchContract}, specs.declared.Value.{Value}, proofs.ChainLaws.{site_zero}}
 use Rattle.calls.{proofs.ContractLaws.{by_accepted, by_refused}, proofs.Batches.{BatchLeft, batch_first, batch_next, batch_ended, batch_halted, batch_few}}
@@ -80,9 +80,9 @@ module _ (n : ℕ) (xs : List ℕ) (t : Tables) (ps hs : List ℕ) (q : ℕ) (as
   batch_refused h0 = by_refused R _ _ (λ z. h0 (number_is ∙ z)) (rw number_is)
 
   module _ (zero : q ≡ 0) where
-    pub batch_ready : Prepared n t ps hs × (list_length (length xs) ≡ true)
-    batch_ready = (
-      prepared_asked n t (list_length (length xs)) ps hs q asked zero,
+    pub batch_ready : length ps ≡ max_radios → length hs ≡ max_radios → Prepared n t ps hs × (list_length (length xs) ≡ true)
+    batch_ready lp lh = (
+      prepared_asked n t (list_length (length xs)) ps hs q asked zero lp lh,
       (site_zero n (lengths_of t) (list_length (length xs)) (sound n t) 0 (sym asked.number ∙ zero)).0.lent.further,
     )
 

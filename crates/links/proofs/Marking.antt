@@ -1,10 +1,10 @@
 -- A set of radios that a list of radios was put into, one after the other: what it has, and its radios ascending.
-use Rattle.std.specs.Prelude.{◌≡◌, ◌⊎◌, ◌&&◌, ◌||◌, ◌∷◌, ◌<◌}
+use Rattle.std.specs.Prelude.{◌≡◌, ◌⊎◌, ◌||◌, ◌∷◌, ◌<◌}
 use Rattle.lists.{specs.Kit.{refl, ap, ◌∙◌, inl, inr, Bool, true, false, cond, or-false, List, [], ℕ, arith, ltb, eqb}}
 use Rattle.lists.{specs.Kit.{length, replicate, length-replicate, ne_eqb, ltb-true, ltb-false}}
 use Rattle.lists.{specs.Facts.{folded}, specs.Lists.{range, member}, proofs.Tests.{bool_cases}, proofs.Range.{range_in}, proofs.Filter.{filter_ext}}
 use Rattle.mesh.specs.Limits.{max_radios}
-use Rattle.rows.{specs.Sets.{in_set, put_in, members, common}, proofs.SetLaws.{in_set_zeros, in_put_in, put_in_past, length_put_in}}
+use Rattle.rows.{specs.Sets.{in_set, put_in, members}, proofs.SetLaws.{in_set_zeros, in_put_in, put_in_past, length_put_in}}
 use Rattle.links.specs.Changes.{in_order}
 
 -- a radio past the set is not put in, and is none of w's either
@@ -37,12 +37,3 @@ members_folded vs ws e =
     ap (λ (s : List ℕ). in_set s w) e
     ∙ in_set_folded vs (replicate 8 0) w (length-replicate {A = ℕ} 8 0) (omega (arith, range_in 0 max_radios w m))
     ∙ ap (λ (x : Bool). member w vs || x) (in_set_zeros 8 w) ∙ or-false (member w vs))
-
--- the radios that a set and itself both have
-pub common_own : (ws : List ℕ) → common ws ws ≡ members ws
-unfolding common members
-common_own ws = filter_ext (λ v. in_set ws v && in_set ws v) (in_set ws) (range 0 max_radios) (λ v m. twice (in_set ws v))
-  where
-    twice : (x : Bool) → (x && x) ≡ x
-    twice true = refl
-    twice false = refl

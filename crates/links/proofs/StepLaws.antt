@@ -21,8 +21,8 @@ use Rattle.soundness.{proofs.SoundSite.{site_good_sound, number_entry}}
 use Rattle.links.specs.{Changes.{PlanFits, Applied}, Steps.{Prepared, StepReady, ChangedBy, Carried, Stepped, places_put, around, touched, recounted}}
 use Rattle.links.specs.{Steps.{RowsKnown}}
 use Rattle.plan.{specs.Plans.{Ready, Planned, Applicable, plan_of}, proofs.Asking.{right_of, ready_of}, proofs.NearLaws.{neighbours_of_other}}
-use Rattle.links.proofs.{Applied.{applied_accepted, length_changed}, PlacesLaws.{get_d_paste_outside, placed_again}}
-use Rattle.links.proofs.{CountLaws.{touched_ends, touched_around, get_d_recounted}}
+use Rattle.links.proofs.{Applied.{applied_accepted, length_changed}, PlacesLaws.{get_d_paste_outside, length_places_put, placed_again}}
+use Rattle.links.proofs.{CountLaws.{touched_ends, touched_around, get_d_recounted, length_recounted}}
 
 -- ---- what is known of prepared tables
 
@@ -42,10 +42,12 @@ fits_good n t h =
     }
 
 -- questions 1 to 3 got yes, and what they found is at hand
-pub prepared_asked : (n : ℕ) (t : Tables) (others : Bool) (ps hs : List ℕ) (q : ℕ) → Asked n t others ps hs q → q ≡ 0
-    → Prepared n t ps hs
-prepared_asked n t others ps hs q asked zero = record {
+pub prepared_asked : (n : ℕ) (t : Tables) (others : Bool) (ps hs : List ℕ) (q : ℕ) → Asked n t others ps hs q → q ≡ 0 → length ps ≡ max_radios
+    → length hs ≡ max_radios → Prepared n t ps hs
+prepared_asked n t others ps hs q asked zero lp lh = record {
   good = site_good_fits n t others (site_zero n (lengths_of t) others (sound n t) 0 (sym asked.number ∙ zero)).0;
+  places_length = lp;
+  not_lower_length = lh;
   placed = asked.placed zero;
   counted = asked.counts zero;
 }
@@ -80,8 +82,12 @@ module _ {up : Bool} {n a b : ℕ} {t : Tables} {places not_lower : List ℕ} (k
 
   -- ---- the plan
 
-  pub step_plan : max_radios ≤ length places → max_radios ≤ length not_lower → Ready up n a b t places not_lower
-  step_plan lp lh = ready_of up n a b t true good places not_lower k.prepared.placed k.prepared.counted lp lh k.asked
+  pub step_plan : Ready up n a b t places not_lower
+  step_plan =
+      let p = k.prepared in
+      let lp : max_radios ≤ length places = omega (arith, p.places_length) in
+      let lh : max_radios ≤ length not_lower = omega (arith, p.not_lower_length) in
+      ready_of up n a b t true good places not_lower p.placed p.counted lp lh k.asked
 
   -- a site is small
   pub step_small : n ≤ max_radios
@@ -166,10 +172,10 @@ module _ {up : Bool} {n a b : ℕ} {t : Tables} {places not_lower : List ℕ} (k
           ∙ unchanged_number up a b g w lw (not_member w cs not)
           ∙ sym (get_d_numbers (relinked up a b g) w lw)
 
-  counts_after : max_radios ≤ length not_lower → (new : List ℕ) → new ≡ recounted after.links after.numbers (touched a b cs after.links) not_lower
+  counts_after : (new : List ℕ) → new ≡ recounted after.links after.numbers (touched a b cs after.links) not_lower
       → NotLower n after.links after.numbers new
   unfolding graph_in
-  counts_after lh new e = record { at = λ v l. ap (λ (hs : List ℕ). get_or hs v 0) e ∙ count_of v l }
+  counts_after new e = record { at = λ v l. ap (λ (hs : List ℕ). get_or hs v 0) e ∙ count_of v l }
     where
       ts : List ℕ
       ts = after.links
@@ -192,7 +198,7 @@ module _ {up : Bool} {n a b : ℕ} {t : Tables} {places not_lower : List ℕ} (k
       count_of : (v : ℕ) → v < n
           → get_or (recounted ts after.numbers (touched a b cs ts) not_lower) v 0 ≡ high_count after.numbers v (neighbours_of ts v)
       count_of v l =
-          get_d_recounted ts after.numbers v (touched a b cs ts) not_lower (omega (arith, lh, site.small))
+          get_d_recounted ts after.numbers v (touched a b cs ts) not_lower (omega (arith, k.prepared.not_lower_length, site.small))
           ∙ either v l (member v (touched a b cs ts)) refl
 
   -- as the code names its values: v are the tables after the change, k the count of changed radios, which stand in front of `list`
@@ -213,16 +219,15 @@ module _ {up : Bool} {n a b : ℕ} {t : Tables} {places not_lower : List ℕ} (k
     numbers_length = ap (λ (o : Tables). length o.numbers) d.tables ∙ site_after.numbers_long
 
     -- what counting anew wants
-    pub renew_ready : max_radios ≤ length not_lower → RowsKnown (length v.numbers) v.links v.numbers
-        × (length v.numbers ≤ length not_lower) × (a < length v.numbers) ×
+    pub renew_ready : RowsKnown (length v.numbers) v.links v.numbers × (length v.numbers ≤ length not_lower) × (a < length v.numbers) ×
         (b < length v.numbers)
         × ((i : ℕ) → i < length (take many list) → get_or (take many list) i 0 < length v.numbers)
     unfolding graph_in
-    renew_ready lh =
+    renew_ready =
         let rows : RowsKnown n v.links v.numbers = subst (λ (o : Tables). RowsKnown n o.links o.numbers) (sym d.tables)
         (rows_known n after site_after) in (
           subst (λ (m : ℕ). RowsKnown m v.links v.numbers) (sym numbers_length) rows,
-          omega (arith, numbers_length, lh, site.small),
+          omega (arith, numbers_length, k.prepared.not_lower_length, site.small),
           omega (arith, numbers_length, allowed.a_radio),
           omega (arith, numbers_length, allowed.b_radio),
           λ i l. omega (arith, numbers_length, changed_radios i l),
@@ -247,20 +252,22 @@ module _ {up : Bool} {n a b : ℕ} {t : Tables} {places not_lower : List ℕ} (k
     put_ready = (omega (arith, d.part_fits, order_length), omega (arith, order_length, site.small), λ p l. order_known p (omega (arith, order_length)))
 
     -- the tables after, prepared again
-    pub step_carried : max_radios ≤ length places → max_radios ≤ length not_lower → (p : List ℕ) → p ≡ places_put v.order (range start size) places
+    pub step_carried : (p : List ℕ) → p ≡ places_put v.order (range start size) places
         → (h : List ℕ) → h ≡ recounted v.links v.numbers (touched a b (take many list) v.links) not_lower → Carried up n a b t v p h
-    step_carried lp lh p f h e =
+    step_carried p f h e =
         let again : Placed n v.order p =
         rw f (placed_again n t.order v.order places start size (once_distinct n v.order order_once) order_length d.part_fits
-        (λ q l. omega (arith, order_known q l, lp)) d.unmoved k.prepared.placed) in
+        (λ q l. omega (arith, order_known q l, k.prepared.places_length)) d.unmoved k.prepared.placed) in
         let is : h ≡ recounted after.links after.numbers (touched a b cs after.links) not_lower =
         e ∙ rw (list_is, d.tables) in
         record {
           tables = d.tables;
           prepared = subst (λ (o : Tables). Prepared n o p h) (sym d.tables) (record {
             good = site_good_fits n after true good_after;
+            places_length = ap length f ∙ length_places_put v.order (range start size) places ∙ k.prepared.places_length;
+            not_lower_length = ap length is ∙ length_recounted after.links after.numbers _ not_lower ∙ k.prepared.not_lower_length;
             placed = subst (λ (o : Tables). Placed n o.order p) d.tables again;
-            counted = counts_after lh h is;
+            counted = counts_after h is;
           });
         }
 

@@ -23,8 +23,11 @@ use Rattle.soundness.specs.Checks.{fits_sound}
 
 -- ---- one link
 
+-- places and not_lower have room for as many radios as a site may have
 pub record Prepared (n : ℕ) (t : Tables) (places not_lower : List ℕ) : Type 0 where
   pub good : fits_sound n t ≡ true
+  pub places_length : length places ≡ max_radios
+  pub not_lower_length : length not_lower ≡ max_radios
   pub placed : Placed n t.order places
   pub counted : NotLower n t.links t.numbers not_lower
 

@@ -11,14 +11,13 @@ use plan::planned::Plan;
 use rows::sets::RadioSet;
 use tables::{fill, steps};
 
-// A link to be taken up or down, and what is planned of it: what stands in the order from the plan's start on after is in front of the
-// stretch.
+// A link to be taken up or down, and what stands in the order from the plan's start on after, in front of the stretch. The plan goes beside
+// it by value: a plan that is copied into a struct waits for all that was written before.
 #[derive(Clone, Copy)]
 pub struct Switch<'a> {
     pub up: bool,
     pub a: u32,
     pub b: u32,
-    pub plan: Plan,
     pub stretch: &'a [u16],
 }
 
@@ -72,14 +71,13 @@ fn put_stretch(order: &mut [u16], plan: Plan, stretch: &[u16])
 
 // Writes the changed radios of a plan into the answer table, ascending, and comes back with their count; later entries keep
 // their content. Going up the stuck radios rise, going down the taken ones fall.
-fn list_changed(switch: &Switch, answer: &mut [u16]) -> u32
-    requires { (switch.now.plan.taken ≤ switch.now.plan.size) × (switch.now.plan.size ≤ length switch.now.stretch.now) }
-    ensures counted { result ≡ length (in_order (changed_part switch.now.up switch.now.plan.taken switch.now.plan.size switch.now.stretch.now)) }
+fn list_changed(switch: &Switch, plan: Plan, answer: &mut [u16]) -> u32
+    requires { (plan.taken ≤ plan.size) × (plan.size ≤ length switch.now.stretch.now) }
+    ensures counted { result ≡ length (in_order (changed_part switch.now.up plan.taken plan.size switch.now.stretch.now)) }
     ensures listed { answer.new
         ≡ overwrite (take (length answer.old)
-        (in_order (changed_part switch.now.up switch.now.plan.taken switch.now.plan.size switch.now.stretch.now))) answer.old }
+        (in_order (changed_part switch.now.up plan.taken plan.size switch.now.stretch.now))) answer.old }
 {
-    let plan = switch.plan;
     if switch.up {
         return list_ascending(&switch.stretch[plan.taken..plan.size], answer);
     }
@@ -88,12 +86,12 @@ fn list_changed(switch: &Switch, answer: &mut [u16]) -> u32
 
 // What a plan would change: the changed radios stand in front of the answer table, ascending, and it comes back with their count and
 // step; later entries keep their content.
-pub fn report(switch: &Switch, answer: &mut [u16]) -> Change
-    requires { (switch.now.plan.taken ≤ switch.now.plan.size) × (switch.now.plan.size ≤ length switch.now.stretch.now) }
-    ensures { Reported switch.now.up switch.now.plan.size switch.now.plan.taken switch.now.stretch.now answer.old
+pub fn report(switch: &Switch, plan: Plan, answer: &mut [u16]) -> Change
+    requires { (plan.taken ≤ plan.size) × (plan.size ≤ length switch.now.stretch.now) }
+    ensures { Reported switch.now.up plan.size plan.taken switch.now.stretch.now answer.old
         result answer.new }
 {
-    let count = list_changed(switch, answer);
+    let count = list_changed(switch, plan, answer);
     Change {
         step: step_of(switch.up, count),
         count,
@@ -103,40 +101,42 @@ pub fn report(switch: &Switch, answer: &mut [u16]) -> Change
 // Writes a plan into the tables: the link, the numbers of the changed radios, which are the first of the list, the stretch.
 pub fn write(
     switch: &Switch,
+    plan: Plan,
     links: &mut [u8],
     numbers: &mut [u8],
     order: &mut [u16],
     list: &[u16],
     change: Change,
 )
-    requires { PlanFits switch.now.plan.start switch.now.plan.size switch.now.plan.taken (length switch.now.stretch.now)
+    requires { PlanFits plan.start plan.size plan.taken (length switch.now.stretch.now)
         (length order.old) }
-    ensures { PlanPut switch.now.up switch.now.a switch.now.b switch.now.plan.start switch.now.plan.size switch.now.stretch.now
+    ensures { PlanPut switch.now.up switch.now.a switch.now.b plan.start plan.size switch.now.stretch.now
         (take change.count list.now) change.step
         (lent links.old numbers.old order.old) (lent links.new numbers.new order.new) }
 {
     rows::put_link(links, switch.up, switch.a, switch.b);
     steps::step_numbers(numbers, list, change.count, change.step);
-    put_stretch(order, switch.plan, switch.stretch);
+    put_stretch(order, plan, switch.stretch);
 }
 
 // Writes a plan into the tables: the link, the changed numbers, the stretch. The answer table gets the changed radios,
 // ascending, and it comes back with their count and step.
 pub fn apply(
     switch: &Switch,
+    plan: Plan,
     links: &mut [u8],
     numbers: &mut [u8],
     order: &mut [u16],
     answer: &mut [u16],
 ) -> Change
-    requires { PlanFits switch.now.plan.start switch.now.plan.size switch.now.plan.taken (length switch.now.stretch.now)
+    requires { PlanFits plan.start plan.size plan.taken (length switch.now.stretch.now)
         (length order.old) }
-    ensures { Applied switch.now.up switch.now.a switch.now.b switch.now.plan.start switch.now.plan.size switch.now.plan.taken
+    ensures { Applied switch.now.up switch.now.a switch.now.b plan.start plan.size plan.taken
         switch.now.stretch.now
         (lent links.old numbers.old order.old) answer.old result
         (lent links.new numbers.new order.new) answer.new }
 {
-    let change = report(switch, answer);
-    write(switch, links, numbers, order, answer, change);
+    let change = report(switch, plan, answer);
+    write(switch, plan, links, numbers, order, answer, change);
     change
 }

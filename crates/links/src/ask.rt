@@ -20,10 +20,9 @@ pub fn ask(up: bool, t: &Lent, a: u32, b: u32, answer: &mut [u16]) -> Result<Cha
                 up,
                 a,
                 b,
-                plan,
                 stretch: &stretch,
             };
-            Ok(report(&switch, answer))
+            Ok(report(&switch, plan, answer))
         }
         Err(refusal) => Err(refusal),
     }

@@ -84,7 +84,12 @@ pub fn batch(
         order,
     };
     let mut found = Found::new();
-    if let Err(refusal) = soundness::asked(&t, list.len() % 2 == 0, &mut found) {
+    if let Err(refusal) = soundness::asked(
+        &t,
+        list.len() % 2 == 0,
+        &mut found.places,
+        &mut found.not_lower,
+    ) {
         return Err(Stopped { refusal, done: 0 });
     }
     take_links(n, list, links, numbers, order, &mut found)

@@ -10,15 +10,18 @@ use super::apply::{Switch, report, write};
 use calls::{Change, Refusal};
 use mesh::{Lent, Site};
 use plan::decision;
+use plan::planned::Plan;
 use tables::fill;
 
-// Whether step and list are exactly what the plan would change.
-fn is_proposal(switch: &Switch, step: i8, list: &[u16]) -> bool
-    requires { (switch.now.plan.taken ≤ switch.now.plan.size) × (switch.now.plan.size ≤ length switch.now.stretch.now) }
-    ensures { result ≡ plan_proposes switch.now.up switch.now.plan.size switch.now.plan.taken switch.now.stretch.now step list.now }
+// Whether step and list are exactly what the plan would change. The list that it makes is gone before the tables are written: so it has a
+// frame of its own.
+#[inline(never)]
+fn is_proposal(switch: &Switch, plan: Plan, step: i8, list: &[u16]) -> bool
+    requires { (plan.taken ≤ plan.size) × (plan.size ≤ length switch.now.stretch.now) }
+    ensures { result ≡ plan_proposes switch.now.up plan.size plan.taken switch.now.stretch.now step list.now }
 {
     let mut listed = [0u16; Site::RADIOS as usize];
-    let change = report(switch, &mut listed);
+    let change = report(switch, plan, &mut listed);
     if change.step != step {
         return false;
     }
@@ -54,17 +57,16 @@ pub fn commit(
                 up,
                 a,
                 b,
-                plan,
                 stretch: &stretch,
             };
-            if !is_proposal(&switch, step, list) {
+            if !is_proposal(&switch, plan, step, list) {
                 return Err(Refusal::Proposal);
             }
             let change = Change {
                 step,
                 count: list.len() as u32,
             };
-            write(&switch, links, numbers, order, list, change);
+            write(&switch, plan, links, numbers, order, list, change);
             Ok(change)
         }
         Err(refusal) => Err(refusal),

@@ -36,10 +36,9 @@ pub fn link(
                 up,
                 a,
                 b,
-                plan,
                 stretch: &stretch,
             };
-            Ok(apply(&switch, links, numbers, order, answer))
+            Ok(apply(&switch, plan, links, numbers, order, answer))
         }
         Err(refusal) => Err(refusal),
     }

@@ -52,10 +52,9 @@ fn change(
         up,
         a,
         b,
-        plan,
         stretch: &stretch,
     };
-    let made = apply(&switch, links, numbers, order, changed);
+    let made = apply(&switch, plan, links, numbers, order, changed);
     Outcome {
         count: made.count,
         start: plan.start,

@@ -69,7 +69,12 @@ pub fn plan(
         (call_number result) (plan_start result) (plan_size result) (plan_taken result) stretch.new }
 {
     let mut found = Found::new();
-    if let Err(refusal) = soundness::asked(t, t.radios as usize <= answer, &mut found) {
+    if let Err(refusal) = soundness::asked(
+        t,
+        t.radios as usize <= answer,
+        &mut found.places,
+        &mut found.not_lower,
+    ) {
         return Err(refusal);
     }
     if let Err(refusal) = end_questions::ask_ends(up, t.radios, a, b, t.links) {

@@ -50,9 +50,9 @@ pub radios_of_le : (s : List ℕ) → radios_of s ≤ max_radios
 unfolding radios_of
 radios_of_le s = site_of_le (line_of s)
 
+pub some_le : (k : ℕ) → k ≤ max_radios → IfSome (some_radios k) (λ n. n ≤ max_radios)
+some_le zero h = tt
+some_le (suc k) h = h
+
 pub some_radios_le : (s : List ℕ) → IfSome (some_radios (radios_of s)) (λ n. n ≤ max_radios)
-some_radios_le s = go (radios_of s) (radios_of_le s)
-  where
-    go : (k : ℕ) → k ≤ max_radios → IfSome (some_radios k) (λ n. n ≤ max_radios)
-    go zero h = tt
-    go (suc k) h = h
+some_radios_le s = some_le (radios_of s) (radios_of_le s)

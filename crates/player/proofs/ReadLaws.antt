@@ -1,10 +1,12 @@
 -- What a read found, and reads one after another.
 use Rattle.std.specs.Prelude.{◌≡◌, ◌∷◌, ◌++◌, ◌≤◌, ◌<◌, ◌+◌, Result, Ok, Err}
-use Rattle.lists.specs.Kit.{refl, sym, ap, ◌∙◌, List, [], ℕ, zero, suc, min, arith}
+use Rattle.lists.specs.Kit.{refl, sym, ap, ◌∙◌, true, false, List, [], ℕ, zero, suc, min, arith, ℤ, pos, negsuc, eq-eqb, ne_eqb}
+use Rattle.std.proofs.Common.{w32, to_z, of_z, SFits}
+use Rattle.std.proofs.Math.Facts.{to_z-of_z}
 use Rattle.lists.specs.Kit.{length, take, drop, length-take, length-take-le, take_at}
 use Rattle.player.specs.Counts.{IsPrefixLen}
 use Rattle.text.{specs.Print.{Buffer, buffer_at, put, Puts, max_place}, proofs.PrintLaws.{puts_append, at_put, length_put, puts_whole}}
-use Rattle.player.specs.{Reads.{failure, by_count, found, Found, Read, input_of, Going, ToEnd, FillsOn}}
+use Rattle.player.specs.{Reads.{is_error, failure, by_count, found, Found, Read, input_of, Going, ToEnd, FillsOn}}
 use Rattle.player.specs.{Reads.{Fills}, declared.input.Brought.{Brought}, declared.input.State.{State}, declared.input.State.TheVariants.{GoesOn, End, Failed}}
 use Rattle.player.specs.declared.input.Unread.TheVariants.{Other}
 
@@ -13,14 +15,28 @@ use Rattle.player.specs.declared.input.Unread.TheVariants.{Other}
 pub prefix_len : (k : ℕ) (xs : List ℕ) → k ≤ length xs → IsPrefixLen k xs
 prefix_len k xs h = (h, sym (length-take-le k xs h))
 
+-- ---- errors, from the bits that the code compares
+
+is_error_at : (k : ℕ) (e : ℤ) → e ≡ pos k → is_error k e ≡ true
+unfolding is_error
+is_error_at k e h = ap (is_error k) h ∙ eq-eqb k k refl
+
+pub error_is : (k : ℕ) (e : ℤ) → to_z w32 k ≡ pos k → SFits w32 e → of_z w32 e ≡ k → is_error k e ≡ true
+error_is k e t f h = is_error_at k e (sym (to_z-of_z f) ∙ ap (to_z w32) h ∙ t)
+
+pub error_other : (k : ℕ) (e : ℤ) → (of_z w32 e ≡ k → ⊥) → is_error k e ≡ false
+unfolding is_error
+error_other k (pos j) h = ne_eqb j k h
+error_other k (negsuc j) h = refl
+
 -- ---- what a read found
 
-pub found_nowhere : (got : Result ℕ ℕ) (room : ℕ) → room ≡ 0 → record { count = 0; state = Failed Other } ≡ found got room
+pub found_nowhere : (got : Result ℕ ℤ) (room : ℕ) → room ≡ 0 → record { count = 0; state = Failed Other } ≡ found got room
 unfolding found
 found_nowhere got zero h = refl
 found_nowhere got (suc room) h = absurd (omega arith)
 
-pub found_failed : (e : ℕ) (room : ℕ) (s : State) → (room ≡ 0 → ⊥) → s ≡ failure e → record { count = 0; state = s } ≡ found (Err e) room
+pub found_failed : (e : ℤ) (room : ℕ) (s : State) → (room ≡ 0 → ⊥) → s ≡ failure e → record { count = 0; state = s } ≡ found (Err e) room
 unfolding found
 found_failed e zero s some f = absurd (some refl)
 found_failed e (suc room) s some f = rw f
@@ -52,7 +68,7 @@ by_none zero h = refl
 by_none (suc k) h = absurd (h refl)
 
 -- what was found brings bytes only where it goes on
-found_none : (got : Result ℕ ℕ) (room : ℕ) → ((found got room).state ≡ GoesOn → ⊥) → (found got room).count ≡ 0
+found_none : (got : Result ℕ ℤ) (room : ℕ) → ((found got room).state ≡ GoesOn → ⊥) → (found got room).count ≡ 0
 unfolding found
 found_none got zero h = refl
 found_none (Ok k) (suc room) h = by_none (min k (suc room)) h
@@ -63,7 +79,7 @@ none_found {room} {r} f h =
     ap (λ (x : Brought). x.count) f.is
     ∙ found_none f.got room (λ e. h (ap (λ (x : Brought). x.state) f.is ∙ e))
 
-pub found_in : (got : Result ℕ ℕ) (size most len : ℕ) (xs : List ℕ) (r : Brought) → size ≡ min most len → length xs ≡ len
+pub found_in : (got : Result ℕ ℤ) (size most len : ℕ) (xs : List ℕ) (r : Brought) → size ≡ min most len → length xs ≡ len
     → r ≡ found got (length (take size xs)) → Found (min most len) r
 found_in got size most len xs r h l f = record { got = got; is = f ∙ ap (found got) (length-take size xs ∙ omega (arith, h, l)) }
 

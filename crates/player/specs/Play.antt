@@ -5,7 +5,7 @@
 --   cleared n                 a cleared site
 -- Definitions only.
 use Rattle.std.specs.Prelude.{◌∷◌, ◌*◌}
-use Rattle.lists.specs.{Kit.{cond, List, [], ℕ, zero, suc, eqb, leb, replicate}, Lists.{range}}
+use Rattle.lists.specs.{Kit.{cond, List, [], ℕ, eqb, leb, replicate}, Lists.{range}}
 use Rattle.mesh.specs.{Limits.{max_radios, row_bytes}, Tables.{Tables, tables}}
 use Rattle.text.specs.Text.{line_feed}
 use Rattle.script.specs.{Lines.{line_of}, declared.lines.Line.{Line}, declared.lines.Line.TheVariants.{Radios, Up, Down, Bad}}

@@ -12,7 +12,7 @@
 --   FillsOn, Fills      a buffer that a read goes on to fill; a front that reads filled
 -- No contract can say which bytes a read brings: of them `Read` has some. Definitions only.
 use Rattle.std.specs.Prelude.{◌≢◌, ◌≡◌, ◌∷◌, ◌++◌, Result, Ok, Err}
-use Rattle.lists.specs.Kit.{cond, List, [], ℕ, zero, suc, min, eqb}
+use Rattle.lists.specs.Kit.{Bool, false, cond, List, [], ℕ, zero, suc, min, eqb, ℤ, pos, negsuc}
 use Rattle.text.specs.{Text.{bytes_of}, Print.{buffer_at, Puts}}
 use Rattle.player.specs.declared.input.{Brought.{Brought}, State.{State}, State.TheVariants.{GoesOn, End, Failed}, Unread.{Unread}}
 use Rattle.player.specs.declared.input.Unread.TheVariants.{Folder, Blocks, Closed, Device, Other}
@@ -43,12 +43,17 @@ unread_words Closed = bytes_of "the input is closed, or not open for reading"
 unread_words Device = bytes_of "the input cannot be read: input/output error"
 unread_words Other = bytes_of "the input cannot be read"
 
+-- is the error number this one
+unfoldable pub is_error : (k : ℕ) → (error : ℤ) → Bool
+is_error k (pos j) = eqb j k
+is_error k (negsuc j) = false
+
 -- Linux' numbers: interrupted 4, a folder 21, would block 11, no such descriptor 9, input/output 5
-unfoldable pub failure : (error : ℕ) → State
+unfoldable pub failure : (error : ℤ) → State
 failure e =
-    cond (eqb e 4) GoesOn
-    (cond (eqb e 21) (Failed Folder)
-    (cond (eqb e 11) (Failed Blocks) (cond (eqb e 9) (Failed Closed) (cond (eqb e 5) (Failed Device) (Failed Other)))))
+    cond (is_error 4 e) GoesOn
+    (cond (is_error 21 e) (Failed Folder)
+    (cond (is_error 11 e) (Failed Blocks) (cond (is_error 9 e) (Failed Closed) (cond (is_error 5 e) (Failed Device) (Failed Other)))))
 
 abbrev brought : (count : ℕ) → State → Brought
 brought k s = record { count = k; state = s }
@@ -59,14 +64,14 @@ by_count zero = brought 0 End
 by_count (suc k) = brought (suc k) GoesOn
 
 -- a count is at most the room; without room nothing can be said of the input
-unfoldable pub found : (got : Result ℕ ℕ) → (room : ℕ) → Brought
+unfoldable pub found : (got : Result ℕ ℤ) → (room : ℕ) → Brought
 found r zero = brought 0 (Failed Other)
 found (Ok k) (suc room) = by_count (min k (suc room))
 found (Err e) (suc room) = brought 0 (failure e)
 
 -- what some read brought
 pub record Found (room : ℕ) (r : Brought) : Type 0 where
-  pub got : Result ℕ ℕ
+  pub got : Result ℕ ℤ
   pub is : r ≡ found got room
 
 -- ---- the reads of a run

@@ -66,15 +66,15 @@ pub struct Brought {
 }
 
 // Linux' error numbers.
-const EINTR: u32 = 4;
+const EINTR: i32 = 4;
 
-const EIO: u32 = 5;
+const EIO: i32 = 5;
 
-const EBADF: u32 = 9;
+const EBADF: i32 = 9;
 
-const EAGAIN: u32 = 11;
+const EAGAIN: i32 = 11;
 
-const EISDIR: u32 = 21;
+const EISDIR: i32 = 21;
 
 // The bytes that one read brings at most.
 pub(crate) const CHUNK_BYTES: usize = 4096;
@@ -101,7 +101,7 @@ pub fn within(size: usize, buffer: &[u8]) -> usize
 }
 
 // What a read that failed found, by its error number.
-fn finds(error: u32) -> State
+fn finds(error: i32) -> State
     ensures { result ≡ failure error }
 {
     if error == EINTR {
@@ -123,7 +123,7 @@ fn finds(error: u32) -> State
 }
 
 // What a read brought into the chunk that answered `got`: how many bytes, or the number of its error.
-pub fn told(got: Result<usize, u32>, chunk: &[u8]) -> Brought
+pub fn told(got: Result<usize, i32>, chunk: &[u8]) -> Brought
     ensures counts { IsPrefixLen result.count chunk.now }
     ensures told { result ≡ found got (length chunk.now) }
 {
@@ -156,9 +156,8 @@ pub fn told(got: Result<usize, u32>, chunk: &[u8]) -> Brought
 }
 
 // The number of an error; 0 where the system has none for it.
-fn number_of(error: Error) -> u32 {
-    let number = error.raw_os_error().unwrap_or(0);
-    u32::try_from(number).unwrap_or(0)
+fn number_of(error: Error) -> i32 {
+    error.raw_os_error().unwrap_or(0)
 }
 
 // One read, of at most `most` bytes, into the front of a chunk.

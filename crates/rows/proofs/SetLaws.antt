@@ -2,11 +2,12 @@
 -- In order: digits of words joined by `&`, `|` and `^`, one radio tested, taken out and put in, the radios of another set taken out and
 -- listed, the lowest radio of two sets, how many they have, words changed in turn, the radios of a set listed.
 use Rattle.std.specs.Prelude.{◌≡◌, ◌⊎◌, ◌&&◌, ◌||◌, ◌++◌, ◌+◌, ◌*◌, ◌-◌, ◌/◌, ◌%◌, ◌^◌, ◌≤◌, ◌<◌}
-use Rattle.lists.{specs.Kit.{refl, sym, ap, ◌∙◌, inl, inr, Bool, true, false, not, cond, List, ℕ, zero, suc}}
+use Rattle.lists.{specs.Kit.{refl, sym, ap, ◌∙◌, inl, inr, Bool, true, false, not, cond, List, [], ℕ, zero, suc}}
 use Rattle.lists.{specs.Kit.{min, max, arith, mod-lt, zero-lt-suc, one-mul, mod-eq_of_lt, differ, bit_and, bit_or, bit_xor, and_step, or_step}}
 use Rattle.lists.{specs.Kit.{xor_step, and_shr, or_shr, xor_shr, xor_zero_r, and_mask, and_lt, ones, ltb, eqb, length, get_or, set, replicate}}
 use Rattle.lists.specs.Kit.{length-append, length-set, List·getD-eq-default, sets, set_out, set-get_or, get_or-set_same, get_or-set_other, ltb-true, ltb-false}
-use Rattle.lists.{specs.Kit.{eqb-true, eqb-false, eq-eqb, ne_eqb}, specs.Lists.{range, filter, member}, proofs.Filter.{member_filter}}
+use Rattle.lists.{specs.Kit.{eqb-true, eqb-false, eq-eqb, ne_eqb}, specs.Lists.{range, filter, member, In}}
+use Rattle.lists.{proofs.Filter.{member_filter, filter_ext, filter_none}}
 use Rattle.lists.{proofs.Overwrite.{sets_front}, proofs.Parts.{get_d_zeros}, proofs.Member.{not_member}, proofs.Range.{in_range}, proofs.Tests.{bool_cases}}
 use Rattle.lists.{proofs.Tests.{iff_eq}}
 use lib.Pow.{pow-lt}
@@ -418,3 +419,34 @@ module _ (ws : List ℕ) where
   set_listing_end old n k list h i =
       let ended = partial_end (members_from k) n list (words_end (in_set ws) k h) i.listing in
       record { counted = omega (arith, ended.0); listed = ended.1 ∙ sets_front old (members_from 0) }
+
+-- the radios that a set and itself both have
+pub common_own : (ws : List ℕ) → common ws ws ≡ members ws
+unfolding common members
+common_own ws = filter_ext (λ v. in_set ws v && in_set ws v) (in_set ws) (range 0 max_radios) (λ v m. twice (in_set ws v))
+  where
+    twice : (x : Bool) → (x && x) ≡ x
+    twice true = refl
+    twice false = refl
+
+-- the radios of a set that a row was put into, and that was empty before
+pub members_of_row : (ts ws us : List ℕ) → ws ≡ replicate 8 0 → RowJoined ts 0 ws us → members us ≡ row_listed ts 0
+unfolding members neighbours_of member
+members_of_row ts ws us e j =
+    filter_ext (in_set us) (λ w. member w (row_listed ts 0)) (range 0 max_radios) each
+    ∙ by (bool_cases (ltb (length ts) (row_bytes * 0 + row_bytes)))
+  where
+    each : (w : ℕ) → In w (range 0 max_radios) → in_set us w ≡ member w (row_listed ts 0)
+    each w m =
+        j.bits w ∙ ap (λ (x : List ℕ). in_set x w || member w (row_listed ts 0)) e
+        ∙ ap (λ (b : Bool). b || member w (row_listed ts 0)) (in_set_zeros 8 w)
+
+    by : (ltb (length ts) (row_bytes * 0 + row_bytes) ≡ true) ⊎ (ltb (length ts) (row_bytes * 0 + row_bytes) ≡ false)
+        → filter (λ w. member w (row_listed ts 0)) (range 0 max_radios) ≡ row_listed ts 0
+    by (inl h) =
+        rw (row_listed_short ts 0 (ltb-true (length ts) (row_bytes * 0 + row_bytes) h))
+        (filter_none (λ w. member w []) (range 0 max_radios) (λ w m. refl))
+    by (inr h) =
+        rw (row_listed_whole ts 0 (ltb-false (length ts) (row_bytes * 0 + row_bytes) h))
+        (filter_ext (λ w. member w (neighbours_of ts 0)) (λ b. marked ts 0 b) (range 0 max_radios)
+        (λ w m. member_filter (λ b. marked ts 0 b) (range 0 max_radios) w m))

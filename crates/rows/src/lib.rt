@@ -209,6 +209,19 @@ fn list_word(word: u64, first: u32, list: &mut [u16], at: usize) -> u8
     list_bits(word, first, &mut list[at..], 0)
 }
 
+// Writes the radios of a set, kept as one row, into the list, ascending, as many as fit, and comes back with the count of all of
+// them; later entries keep their content. Of a row that is not whole nothing is written, and the count is 0.
+pub fn list_set(set: &[u8], list: &mut [u16]) -> u32
+    ensures counted { result ≡ length (row_listed set.now 0) }
+    ensures listed { list.new
+        ≡ overwrite (take (length list.old) (row_listed set.now 0)) list.old }
+{
+    let mut radios = sets::RadioSet::empty();
+    radios.join_row(set, 0);
+    radios.list(list);
+    radios.count_common(&radios)
+}
+
 // The lowest radio that row a marks; of a row that is not whole in the table none.
 pub fn first_marked(links: &[u8], a: u32) -> Option<u32>
     ensures { result ≡ first_in (row_listed links.now a) }

@@ -6,6 +6,38 @@ ghost use Rattle.rows.specs.Sets.{in_set, take_out, put_in, word_taken, RowJoine
 
 use std::marker::Model;
 
+// Whether v is in a set of words, as many as these are; past them it is not.
+pub fn is_in(set: &[u64], v: u32) -> bool
+    ensures { result ≡ in_set set.now v }
+{
+    let at = (v / super::WORD_BITS) as usize;
+    if at < set.len() {
+        set[at] >> (v % super::WORD_BITS) & 1 == 1
+    } else {
+        false
+    }
+}
+
+// Takes v out of a set of words; past them nothing changes.
+pub fn take_out(set: &mut [u64], v: u32)
+    ensures { set.new ≡ take_out v set.old }
+{
+    let at = (v / super::WORD_BITS) as usize;
+    if at < set.len() {
+        set[at] &= !((1 as u64) << (v % super::WORD_BITS));
+    }
+}
+
+// Puts v into a set of words; past them nothing changes.
+pub fn put_in(set: &mut [u64], v: u32)
+    ensures { set.new ≡ put_in v set.old }
+{
+    let at = (v / super::WORD_BITS) as usize;
+    if at < set.len() {
+        set[at] |= (1 as u64) << (v % super::WORD_BITS);
+    }
+}
+
 // A set of radios: radio v is bit v % 64 of word v / 64. A contract sees it as the list of its eight words.
 #[derive(Clone, Copy)]
 pub struct RadioSet {
@@ -62,12 +94,7 @@ impl RadioSet {
     pub fn has(&self, v: u32) -> bool
         ensures { result ≡ in_set self.now v }
     {
-        let at = (v / super::WORD_BITS) as usize;
-        if at < self.words.len() {
-            self.words[at] >> (v % super::WORD_BITS) & 1 == 1
-        } else {
-            false
-        }
+        is_in(&self.words, v)
     }
 
     // Takes v out of the set; past its words nothing changes.
@@ -75,10 +102,7 @@ impl RadioSet {
         ensures left { self.new ≡ take_out v self.old }
         ensures long { length self.new ≡ 8 }
     {
-        let at = (v / super::WORD_BITS) as usize;
-        if at < self.words.len() {
-            self.words[at] &= !((1 as u64) << (v % super::WORD_BITS));
-        }
+        take_out(&mut self.words, v);
     }
 
     // Puts v into the set; past its words nothing changes.
@@ -86,10 +110,7 @@ impl RadioSet {
         ensures joined { self.new ≡ put_in v self.old }
         ensures long { length self.new ≡ 8 }
     {
-        let at = (v / super::WORD_BITS) as usize;
-        if at < self.words.len() {
-            self.words[at] |= (1 as u64) << (v % super::WORD_BITS);
-        }
+        put_in(&mut self.words, v);
     }
 
     // Puts the radios that row a marks into the set. Where the row is not whole in the table nothing changes.

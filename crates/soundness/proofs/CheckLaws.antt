@@ -7,7 +7,7 @@ use Rattle.mesh.{specs.Sound.{sound, sound_within}, proofs.Cores.Orders.{each_on
 use Rattle.calls.{specs.Questions.{ask, lengths_of, size_good, site_lengths, lent_refusal, site_refusal, tables_refusal}, specs.CallContracts.{CheckContract}}
 use mir.Val.{bool_byte}
 use Rattle.calls.{specs.Outcomes.{check_outcome}, proofs.ContractLaws.{value_refused, value_answered}}
-use Rattle.calls.{proofs.ChainLaws.{LentGood, lent_zero, lent_yes, site_zero}}
+use Rattle.calls.{proofs.ChainLaws.{LentGood, lent_zero, lent_yes}}
 use Rattle.conditions.{specs.Conditions.{Placed, row_good}, proofs.RowByRow.{sound_rows}}
 use Rattle.soundness.specs.Checks.{Placing, RowsRoom, RowsChecked, Sizes, Held, Asked}
 

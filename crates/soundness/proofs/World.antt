@@ -29,7 +29,7 @@ below W h = (
       tables.has_fill_U16Entry_is W h.2,
       (
         tables.has_fill_U16Entry_set W h.2,
-        (tables.has_fill_fill W h.2, (tables.has_sizes_of_tables W h.2, (tables.has_sizes_with_others W h.2, tt))),
+        (tables.has_fill_fill W h.2, (tables.has_sizes_ask W h.2, (tables.has_sizes_ask_with W h.2, tt))),
       ),
     ),
   ),

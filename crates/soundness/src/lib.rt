@@ -4,7 +4,7 @@
 
 ghost use Rattle.std.specs.Prelude.{◌≡◌, ◌+◌, ◌*◌, ◌/◌, ◌≤◌, ◌<◌};
 ghost use Rattle.std.specs.Option.{is_some};
-ghost use Rattle.lists.specs.Kit.{length};
+ghost use Rattle.lists.specs.Kit.{length, replicate};
 ghost use Rattle.mesh.specs.Limits.{max_radios, row_bytes};
 ghost use Rattle.mesh.specs.Orders.{rising};
 ghost use Rattle.mesh.specs.Sound.{number_in, sound};
@@ -44,7 +44,10 @@ pub struct Found {
 
 impl Found {
     // Nothing is found yet.
-    pub fn new() -> Self {
+    pub fn new() -> Self
+        ensures places { result.places ≡ replicate max_radios 0 }
+        ensures not_lower { result.not_lower ≡ replicate max_radios 0 }
+    {
         Self {
             places: [0; Site::RADIOS as usize],
             not_lower: [0; Site::RADIOS as usize],
@@ -312,29 +315,36 @@ fn rows_checked(t: &Lent, places: &[u16], not_lower: &mut [u8]) -> bool
     true
 }
 
-// Whether tables of the right lengths are sound. Then `found` tells of each radio of theirs; else it holds anything.
-fn is_sound(t: &Lent, found: &mut Found) -> bool
-    requires { Sizes t.now.radios (lengths_of (read_of t.now)) (length found.old.places) (length found.old.not_lower) }
-    ensures { Held t.now.radios (read_of t.now) found.new.places found.new.not_lower result }
+// Whether tables of the right lengths are sound. Then `places` and `not_lower` tell of each radio of theirs; else they hold anything.
+fn is_sound(t: &Lent, places: &mut [u16], not_lower: &mut [u8]) -> bool
+    requires { Sizes t.now.radios (lengths_of (read_of t.now)) (length places.old) (length not_lower.old) }
+    ensures { Held t.now.radios (read_of t.now) places.new not_lower.new result }
 {
-    if !place(t.order, &mut found.places) {
+    if !place(t.order, places) {
         return false;
     }
     if !rises(t.numbers, t.order) {
         return false;
     }
-    rows_checked(t, &found.places, &mut found.not_lower)
+    rows_checked(t, places, not_lower)
 }
 
-// Questions 1 to 3, where `others` is the answer that 2 gets for further tables: the first that gets no. Where none does, `found` tells of
-// each radio; else it holds anything.
-pub fn asked(t: &Lent, others: bool, found: &mut Found) -> Result<(), Refusal>
-    ensures { Asked t.now.radios (read_of t.now) others found.new.places found.new.not_lower (call_number result) }
+// Questions 1 to 3, where `others` is the answer that 2 gets for further tables: the first that gets no. Where none does, `places` holds
+// where each radio stands in the order, and `not_lower` how many of its neighbours have a number that is not below its own; else both hold
+// anything.
+pub fn asked(
+    t: &Lent,
+    others: bool,
+    places: &mut [u16],
+    not_lower: &mut [u8],
+) -> Result<(), Refusal>
+    requires { (max_radios ≤ length places.old) × (max_radios ≤ length not_lower.old) }
+    ensures { Asked t.now.radios (read_of t.now) others places.new not_lower.new (call_number result) }
 {
-    if let Err(refusal) = tables::sizes::with_others(t, others) {
+    if let Err(refusal) = tables::sizes::ask_with(t, others) {
         return Err(refusal);
     }
-    if !is_sound(t, found) {
+    if !is_sound(t, places, not_lower) {
         return Err(Refusal::Unsound);
     }
     Ok(())
@@ -346,16 +356,16 @@ pub fn ask(t: &Lent, others: bool) -> Result<(), Refusal>
         (sound t.now.radios (read_of t.now)) 0 }
 {
     let mut found = Found::new();
-    asked(t, others, &mut found)
+    asked(t, others, &mut found.places, &mut found.not_lower)
 }
 
 // The soundness check: 1 when the tables are sound, 0 when not. Refused by 1 and 2.
 pub fn check(t: &Lent) -> Result<u32, Refusal>
     ensures { CheckContract t.now.radios (read_of t.now) (value_reply result) }
 {
-    if let Err(refusal) = tables::sizes::of_tables(t) {
+    if let Err(refusal) = tables::sizes::ask(t) {
         return Err(refusal);
     }
     let mut found = Found::new();
-    Ok(is_sound(t, &mut found) as u32)
+    Ok(is_sound(t, &mut found.places, &mut found.not_lower) as u32)
 }

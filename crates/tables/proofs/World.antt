@@ -7,8 +7,8 @@ use Rattle.tables.proofs.fill.least.Symbol as fill_least
 use Rattle.tables.proofs.fill.U16Entry.is.Symbol as fill_U16Entry_is
 use Rattle.tables.proofs.fill.U16Entry.set.Symbol as fill_U16Entry_set
 use Rattle.tables.proofs.fill.fill.Symbol as fill_fill
-use Rattle.tables.proofs.sizes.of_tables.Symbol as sizes_of_tables
-use Rattle.tables.proofs.sizes.with_others.Symbol as sizes_with_others
+use Rattle.tables.proofs.sizes.ask.Symbol as sizes_ask
+use Rattle.tables.proofs.sizes.ask_with.Symbol as sizes_ask_with
 use Rattle.tables.proofs.fill.U8Entry.is.Symbol as fill_U8Entry_is
 use Rattle.tables.proofs.fill.U8Entry.set.Symbol as fill_U8Entry_set
 use Rattle.tables.proofs.fill.copy.Symbol as fill_copy
@@ -40,11 +40,11 @@ has_fill_U16Entry_set W h = link.linked-tables::fill::U16Entry::set W h tt
 pub has_fill_fill : (W : World) → Stand W → HasT (in_world W) true fill_fill.code
 has_fill_fill W h = link.linked-tables::fill::fill W h tt
 
-pub has_sizes_of_tables : (W : World) → Stand W → HasT (in_world W) true sizes_of_tables.code
-has_sizes_of_tables W h = link.linked-tables::sizes::of_tables W h tt
+pub has_sizes_ask : (W : World) → Stand W → HasT (in_world W) true sizes_ask.code
+has_sizes_ask W h = link.linked-tables::sizes::ask W h tt
 
-pub has_sizes_with_others : (W : World) → Stand W → HasT (in_world W) true sizes_with_others.code
-has_sizes_with_others W h = link.linked-tables::sizes::with_others W h tt
+pub has_sizes_ask_with : (W : World) → Stand W → HasT (in_world W) true sizes_ask_with.code
+has_sizes_ask_with W h = link.linked-tables::sizes::ask_with W h tt
 
 pub has_fill_U8Entry_is : (W : World) → Stand W → HasT (in_world W) true fill_U8Entry_is.code
 has_fill_U8Entry_is W h = link.linked-tables::fill::U8Entry::is W h tt

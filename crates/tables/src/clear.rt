@@ -18,7 +18,7 @@ pub fn clear(n: u32, links: &mut [u8], numbers: &mut [u8], order: &mut [u16]) ->
         numbers,
         order,
     };
-    if let Err(refusal) = sizes::of_tables(&t) {
+    if let Err(refusal) = sizes::ask(&t) {
         return Err(refusal);
     }
     fill::fill(links, &0);

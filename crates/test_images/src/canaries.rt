@@ -1,7 +1,7 @@
 // Comparisons that must differ, made by the functions that all lines go by: where one is switched off, fewer are counted.
 use super::pattern::{BYTE, ENTRY};
 use super::reading::Outcome;
-use super::{parts, pattern, reading, sizes};
+use super::{parts, pattern, reading, sizes, writing};
 use test_parts::digest;
 
 // What a refusal by 10 leaves in three tables whose second entries are these.
@@ -28,8 +28,7 @@ fn found(r: Outcome) -> u32 {
 pub(crate) fn count() -> u32 {
     let exchanged = left(1, BYTE, ENTRY);
     let other = [BYTE, 1];
-    let one = [BYTE, BYTE];
-    let differ = one.as_slice() != other.as_slice();
+    let differ = !writing::is_same(&[BYTE, BYTE], &other);
     let broken = reading::is_broken(exchanged);
     let alone = sizes::is_broken(0, &other, 9, false);
     let seen = found(exchanged)

@@ -47,8 +47,13 @@ pub(crate) fn image_of(t: &Lent) -> Buffer {
     buffer
 }
 
+// Whether two images are the same, byte for byte.
+pub(crate) fn is_same(image: &[u8], other: &[u8]) -> bool {
+    image == other
+}
+
 // Whether the tables of an accepted image give it again, byte for byte.
 pub(crate) fn is_again(t: &Lent, image: &[u8]) -> bool {
     let again = image_of(t);
-    image == parts::front(&again, image.len())
+    is_same(image, parts::front(&again, image.len()))
 }

@@ -3,18 +3,19 @@
 --   length_tree      a tree has at most n + 1 nodes
 --   lent_count       the count fits the list and the tables
 --   lent_tree        TablesContract of blank tables, and then TreeContract
+--   columns_tree     TreeContract, and then TablesContract of the columns of the list
 use Rattle.std.specs.Prelude.{◌≡◌, ◌⊎◌, ◌&&◌, ◌∷◌, ◌++◌, ◌+◌, ◌≤◌, ◌<◌}
 use Rattle.lists.{specs.Kit.{refl, sym, ap, ap₂, subst, ◌∙◌, inl, inr, Bool, true, false, List, [], map, ℕ, zero, suc}}
 use Rattle.lists.{specs.Kit.{min, arith, leb, length, get_or, take, drop, replicate, length-replicate, List·getD-append, List·getD-map, take-suc}}
 use Rattle.lists.{specs.Kit.{take-length, leb-true, leb-false, le-leb, lt-leb}, specs.Lists.{overwrite}, proofs.Tests.{bool_cases, and_left}}
-use Rattle.lists.{proofs.Map.{length-map}}
+use Rattle.lists.{proofs.Map.{length-map, map_append, drop_map}}
 use Rattle.mesh.{specs.Limits.{max_radios}, specs.Graph.{Graph}, specs.Tables.{Tables, graph_in}, specs.Sound.{sound}, specs.Tree.{node, tree, node_names}}
 use Rattle.mesh.{specs.declared.Node.{Node}, proofs.Trees.Laws.{number_le_n}}
 use Rattle.calls.{specs.Questions.{ask, Lengths, lengths_of, size_good, site_lengths, answer_length, lent_refusal, site_refusal}}
 use Rattle.calls.{specs.Outcomes.{value, Listing, listing, tree_outcome}, specs.CallContracts.{TreeContract}, specs.declared.Value.{Value}}
 use Rattle.calls.{proofs.QuestionLaws.{ask_later, size_good_true, nodes_length_true}, proofs.ChainLaws.{site_zero}}
-use Rattle.tree.{specs.ThreeTables.{Lists, lists, with_front, places, Filled, filled, tables_outcome, TablesContract, nodes_in}, proofs.NodeLists.{nodes_before_tree}}
-use Rattle.tree.{proofs.NodeLists.{length_nodes_before}}
+use Rattle.tree.specs.ThreeTables.{Lists, lists, with_front, places, Filled, filled, tables_outcome, TablesContract, columns, nodes_in}
+use Rattle.tree.proofs.NodeLists.{nodes_before_tree, length_nodes_before}
 use Rattle.calls.specs.{Chains.{tree_refusal, nodes_length}, Questions.{by_number}}
 
 -- ---- nodes in front of three tables
@@ -126,3 +127,48 @@ module _ (n k : ℕ) (enough : max_radios + 1 ≤ k) (t : Tables) (ys : List Nod
     pub lent_tree : let o = lent_from (filled r u) in TreeContract n t ys w o.reply o.lent.0 o.lent.1
     unfolding TablesContract TreeContract
     lent_tree = ap lent_from h ∙ same_tree refusal refl
+
+-- ---- the list of nodes, and its columns
+
+columns_overwritten : (f : Node → ℕ) (xs ys : List Node) → map f (overwrite xs ys) ≡ overwrite (map f xs) (map f ys)
+unfolding overwrite
+columns_overwritten f xs ys =
+    map_append f xs (drop (length xs) ys)
+    ∙ ap (λ (zs : List ℕ). map f xs ++ zs) (sym (drop_map f (length xs) ys) ∙ ap (λ (k : ℕ). drop k (map f ys)) (sym (length-map f xs)))
+
+columns_front : (xs ys : List Node) (names w : List ℕ) → columns (overwrite xs ys) (overwrite names w) ≡ with_front xs names (columns ys w)
+unfolding columns with_front
+columns_front xs ys names w =
+    rw (
+      columns_overwritten (λ (x : Node). x.name) xs ys,
+      columns_overwritten (λ (x : Node). x.level) xs ys,
+      columns_overwritten (λ (x : Node). x.parent) xs ys,
+    ) refl
+
+module _ (n : ℕ) (t : Tables) (ys : List Node) (w : List ℕ) where
+  abbrev of_list : Listing Value (List Node × List ℕ) → Filled
+  of_list o = filled o.reply (columns o.lent.0 o.lent.1)
+
+  abbrev asked : ℕ
+  asked = tree_refusal n (lengths_of t) (length ys) (length w) (sound n t)
+
+  places_columns : min (length ys) (places (columns ys w)) ≡ length ys
+  unfolding places columns
+  places_columns =
+      omega (arith, length-map (λ (x : Node). x.name) ys, length-map (λ (x : Node). x.level) ys, length-map (λ (x : Node). x.parent) ys)
+
+  asked_same : tree_refusal n (lengths_of t) (min (length ys) (places (columns ys w))) (length (columns ys w).answer) (sound n t) ≡ asked
+  unfolding columns
+  asked_same = ap (λ (j : ℕ). tree_refusal n (lengths_of t) j (length w) (sound n t)) places_columns
+
+  same_columns : (R : ℕ) → asked ≡ R → of_list (tree_outcome n t ys w) ≡ tables_outcome n (length ys) t (columns ys w)
+  unfolding tables_outcome tree_outcome by_number sound
+  same_columns zero e =
+      rw (asked_same ∙ e, e)
+      (ap (filled (value 0 (length (tree (graph_in n t.links))))) (columns_front (tree (graph_in n t.links)) ys (node_names (graph_in n t.links)) w))
+  same_columns (suc q) e = rw (asked_same ∙ e, e) refl
+
+  pub columns_tree : (r : Value) (zs : List Node) (x : List ℕ) → TreeContract n t ys w r zs x
+      → TablesContract n (length ys) t (columns ys w) r (columns zs x)
+  unfolding TablesContract TreeContract
+  columns_tree r zs x h = ap of_list h ∙ same_columns asked refl

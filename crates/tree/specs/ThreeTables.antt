@@ -3,9 +3,11 @@
 --   with_front xs ys s      the lists s with the nodes xs and the radios' names ys in front
 --   Filled, tables_outcome  what a call over the tables comes to
 --   TablesContract          document 01: the shell tree, its nodes as three tables: result and lists are that outcome
+--   columns xs w            the columns of the list of nodes xs, as three tables, and the answer table w
 --   node_in a b c i         node i of the names a, the levels b and the parents c
 --   nodes_in a b c k        the first k of them
--- Such tables give the list of nodes: proofs/ThreeTables.antt. Definitions only.
+-- The columns of the list that a call writes are such tables, and such tables give the list of nodes: proofs/ThreeTables.antt. Definitions
+-- only.
 use Rattle.std.specs.Prelude.{◌≡◌, ◌∷◌, ◌++◌}
 use Rattle.lists.specs.{Kit.{List, [], map, ℕ, zero, suc, min, length, get_or}, Lists.{overwrite}}
 use Rattle.mesh.specs.{Tables.{Tables, graph_in}, Sound.{sound}, Tree.{node, tree, node_names}, declared.Node.{Node}}
@@ -52,6 +54,11 @@ tables_outcome n room t s =
 
 unfoldable pub TablesContract : (n room : ℕ) → Tables → (before : Lists) → Value → (after : Lists) → Type 0
 TablesContract n room t s r u = filled r u ≡ tables_outcome n room t s
+
+-- ---- the list of nodes and its columns
+
+unfoldable pub columns : (nodes : List Node) → (answer : List ℕ) → Lists
+columns xs w = lists (map (λ (x : Node). x.name) xs) (map (λ (x : Node). x.level) xs) (map (λ (x : Node). x.parent) xs) w
 
 -- ---- the nodes of three tables as records
 

@@ -10,6 +10,7 @@ ghost use Rattle.floods.specs.Floods.{Floodable};
 ghost use Rattle.tree.specs.Trees.{lists, Room, stand, NodeTaken, ShellSet, LevelFrom, LevelReady, LevelsReady, Levelled, Treed};
 ghost use Rattle.tree.specs.Trees.{TreeWritten};
 ghost use Rattle.calls.specs.CallContracts.{TreeContract};
+ghost use Rattle.tree.specs.ThreeTables.{TablesContract, columns};
 
 use calls::Refusal;
 use mesh::{Lent, Node, Site};
@@ -140,10 +141,13 @@ fn grow(t: &Lent, nodes: &mut [Node], answer: &mut [u16]) -> u32
 }
 
 // The shell tree: the count of its nodes. The list of nodes, which must have n + 1 places, has them in front, and the answer table each
-// radio's node name; later entries keep their content. Refused by questions 1 to 3, it leaves both as they were.
+// radio's node name; later entries keep their content. Refused by questions 1 to 3, it leaves both as they were. The columns of the list
+// are the tree in three tables.
 pub fn shell_tree(t: &Lent, nodes: &mut [Node], answer: &mut [u16]) -> Result<u32, Refusal>
-    ensures { TreeContract t.now.radios (read_of t.now) nodes.old answer.old (value_reply result)
+    ensures tree { TreeContract t.now.radios (read_of t.now) nodes.old answer.old (value_reply result)
         nodes.new answer.new }
+    ensures tables { TablesContract t.now.radios (length nodes.old) (read_of t.now) (columns nodes.old answer.old) (value_reply result)
+        (columns nodes.new answer.new) }
 {
     let others = (t.radios as usize) < tables::fill::least(nodes.len(), answer.len() + 1);
     if let Err(refusal) = soundness::ask(t, others) {

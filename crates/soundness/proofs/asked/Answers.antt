@@ -14,7 +14,7 @@ returns-in-Err c =
 pub is_sound-requires : goal.is_sound-requires
 is_sound-requires c =
     let t = read_of c.args.t.now in
-    asked_sizes c.args.t.now.radios t c.args.others _ c.in_default.ensures refl _ _ (omega arith) (omega arith)
+    asked_sizes c.args.t.now.radios t c.args.others _ c.in_default.ensures refl _ _ (omega (arith, c.requires.0)) (omega (arith, c.requires.1))
 
 pub returns-then-not-is_sound : goal.returns-then-not-is_sound
 returns-then-not-is_sound c =

@@ -1,5 +1,5 @@
 -- `soundness::check` meets its contract: the third question is the value, and not a refusal.
-use Rattle.lists.specs.Kit.{refl, sym, arith}
+use Rattle.lists.specs.Kit.{sym, arith}
 use Rattle.mesh.specs.Lent.{read_of}
 use Rattle.calls.proofs.AnswerLaws.{refused_not}
 use Rattle.soundness.proofs.CheckLaws.{check_refused, check_sizes, check_answered}

@@ -1,5 +1,5 @@
 -- `hear::hear` meets its contract: a refusal touches nothing but scratch; else the one-sided pairs are marked, and both phases are done.
-use Rattle.lists.specs.Kit.{refl}
+use Rattle.lists.specs.Kit.{refl, arith}
 use Rattle.mesh.specs.Tables.{tables}
 use Rattle.calls.{specs.Heard.{heard_lengths}, proofs.AnswerLaws.{refused_not}}
 use Rattle.hearing.proofs.HearCall.{hear_refused, hear_size, hear_refused_rows, hear_ready, hear_done}
@@ -33,11 +33,11 @@ unfolding heard_lengths
 bring-requires c =
     hear_ready c.args.n c.args.heard.now c.args.one_sided.now (tables c.args.links.now c.args.numbers.now c.args.order.now) _ _ _
     c.in_default.ensures refl
-    _ c.in_default-ask.ensures refl _ _ c.mark-count.ensures
+    _ c.in_default-ask.ensures refl (omega arith) (omega arith) _ _ c.mark-count.ensures
 
 pub returns : goal.returns
 unfolding heard_lengths
 returns c =
     hear_done c.args.n c.args.heard.now c.args.one_sided.now (tables c.args.links.now c.args.numbers.now c.args.order.now) _ _ _
     c.in_default.ensures refl
-    _ c.in_default-ask.ensures refl _ _ c.mark-count.ensures _ c.bring.ensures
+    _ c.in_default-ask.ensures refl (omega arith) (omega arith) _ _ c.mark-count.ensures _ c.bring.ensures

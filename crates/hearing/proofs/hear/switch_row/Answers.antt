@@ -1,5 +1,5 @@
 -- `hear::switch_row` meets its contract: what is left of the list gives what the whole list gives (`RowSwitching`).
-use Rattle.hearing.proofs.HearLoops.{switching_none, switching_turn, switching_end}
+use Rattle.hearing.proofs.HearLoops.{switching_turn, switching_end}
 use Rattle.hearing.proofs.hear.switch_row.Goals as goal
 
 pub step-requires : goal.step-requires

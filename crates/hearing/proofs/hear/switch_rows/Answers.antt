@@ -1,6 +1,6 @@
 -- `hear::switch_rows` meets its contract: the rows before row a are done (`RowsSwitching`), and the list has room for a row.
-use Rattle.lists.specs.Kit.{refl, sym, ◌∙◌}
-use Rattle.hearing.proofs.HearLoops.{rows_none, rows_whole, rows_fit, rows_long, rows_short, rows_turn, rows_done}
+use Rattle.lists.specs.Kit.{◌∙◌}
+use Rattle.hearing.proofs.HearLoops.{rows_whole, rows_turn}
 use Rattle.hearing.proofs.hear.switch_rows.Goals as goal
 
 pub list-k-requires : goal.list-k-requires

@@ -1,7 +1,8 @@
 -- `apply::list_ascending` meets its contract: the radios put into an empty set are listed by it, ascending, and counted.
 use Rattle.lists.specs.{Kit.{ap, ◌∙◌, List, ℕ, length, take}, Lists.{overwrite}}
-use Rattle.lists.proofs.Loops.{folding_none, folding_turn, folding_end}
-use Rattle.links.proofs.Marking.{members_folded, common_own}
+use Rattle.lists.proofs.Loops.{folding_turn, folding_end}
+use Rattle.rows.proofs.SetLaws.{common_own}
+use Rattle.links.proofs.Marking.{members_folded}
 use Rattle.links.proofs.apply.list_ascending.Goals as goal
 
 pub loop-v-preserved : goal.loop-v-preserved

@@ -6,7 +6,7 @@ use Rattle.links.proofs.apply.list_changed.Goals as goal
 
 pub returns-then-switch : goal.returns-then-switch
 returns-then-switch c =
-    let is = changed_up c.args.switch.now.up c.args.switch.now.plan.taken c.args.switch.now.plan.size c.args.switch.now.stretch.now c.if-switch.true in
+    let is = changed_up c.args.switch.now.up c.args.plan.taken c.args.plan.size c.args.switch.now.stretch.now c.if-switch.true in
     record {
       counted = c.list_ascending.ensures.counted ∙ ap (λ (xs : List ℕ). length (in_order xs)) is;
       listed = c.list_ascending.ensures.listed ∙ ap (λ (xs : List ℕ). overwrite (take (length c.args.answer.now) (in_order xs)) c.args.answer.now) is;
@@ -14,7 +14,7 @@ returns-then-switch c =
 
 pub returns : goal.returns
 returns c =
-    let is = changed_down c.args.switch.now.up c.args.switch.now.plan.taken c.args.switch.now.plan.size c.args.switch.now.stretch.now c.if-switch.false in
+    let is = changed_down c.args.switch.now.up c.args.plan.taken c.args.plan.size c.args.switch.now.stretch.now c.if-switch.false in
     record {
       counted = c.list_ascending-2.ensures.counted ∙ ap (λ (xs : List ℕ). length (in_order xs)) is;
       listed = c.list_ascending-2.ensures.listed ∙ ap (λ (xs : List ℕ). overwrite (take (length c.args.answer.now) (in_order xs)) c.args.answer.now) is;

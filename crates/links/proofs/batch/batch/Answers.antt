@@ -1,5 +1,5 @@
 -- `batch::batch` meets its contract: a refusal by 1 to 3 touches nothing but scratch; else the links are taken up.
-use Rattle.lists.specs.Kit.{refl}
+use Rattle.lists.specs.Kit.{refl, arith}
 use Rattle.mesh.specs.Tables.{tables}
 use Rattle.calls.{specs.Batches.{list_length}, proofs.AnswerLaws.{refused_not}}
 use Rattle.links.proofs.BatchLaws.{batch_refused, batch_ready, batch_carried}
@@ -15,6 +15,7 @@ pub take_links-requires : goal.take_links-requires
 unfolding list_length
 take_links-requires c =
     batch_ready c.args.n c.args.list.now (tables c.args.links.now c.args.numbers.now c.args.order.now) _ _ _ c.in_default.ensures refl
+    (omega arith) (omega arith)
 
 pub returns : goal.returns
 unfolding list_length

@@ -8,7 +8,7 @@ pub overflow_cast-t : goal.overflow_cast-t
 overflow_cast-t c = omega (arith, step_small c.requires)
 
 pub plan_link-plan-requires : goal.plan_link-plan-requires
-plan_link-plan-requires c = step_plan c.requires (omega arith) (omega arith)
+plan_link-plan-requires c = step_plan c.requires
 
 pub apply-made-requires : goal.apply-made-requires
 apply-made-requires c = step_fits c.requires _ _ _ _ c.plan_link-plan.ensures

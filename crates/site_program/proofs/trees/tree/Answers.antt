@@ -14,12 +14,12 @@ returns-in_err-count c =
     let p = err_from_is_err_and c.from_residual.result c.from_residual.ensures.1 in
     rw (p.1, p.2)
     (tree_refused c.args.t.now.radios (read_of c.args.t.now) (replicate 513 none) c.shell_tree.new.nodes (replicate 512 0) c.shell_tree.new.answer
-    (length-replicate 513 none) (length-replicate {A = ℕ} 512 0) c.args.out.now _ c.in_err-count.ensures)
+    (length-replicate 513 none) (length-replicate {A = ℕ} 512 0) c.args.out.now _ c.in_err-count.ensures.tree)
 
 pub returns : goal.returns
 unfolding none
 returns c =
     tree_told c.args.t.now.radios (read_of c.args.t.now) (replicate 513 none) c.shell_tree.new.nodes (replicate 512 0) c.shell_tree.new.answer
-    (length-replicate 513 none) (length-replicate {A = ℕ} 512 0) c.in_ok-count.count c.in_ok-count.ensures c.args.out.now c.put_tree.new.out
+    (length-replicate 513 none) (length-replicate {A = ℕ} 512 0) c.in_ok-count.count c.in_ok-count.ensures.tree c.args.out.now c.put_tree.new.out
     c.least-many.result c.least-radios.result c.put_tree.result (c.shell_tree.auto.nodes ∙ length-replicate 513 none) c.least-many.ensures
     c.least-radios.ensures c.put_tree.ensures

@@ -1,5 +1,4 @@
 -- `put_refused` meets its contract: one text after another.
-use Rattle.lists.specs.Kit.{rules}
 use Rattle.text.proofs.PrintLaws.{puts_append}
 use Rattle.site_program.specs.Words.{refused_text}
 use Rattle.site_program.proofs.words.put_refused.Goals as goal

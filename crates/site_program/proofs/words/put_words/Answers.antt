@@ -1,5 +1,5 @@
 -- `put_words` meets its contract: each number in turn.
-use Rattle.lists.specs.Kit.{rules, eq-eqb, ne_eqb}
+use Rattle.lists.specs.Kit.{eq-eqb, ne_eqb}
 use Rattle.site_program.specs.Words.{words_of}
 use Rattle.site_program.proofs.words.put_words.Goals as goal
 
