@@ -12,7 +12,7 @@ use rows::sets::RadioSet;
 use tables::{fill, steps};
 
 // A link to be taken up or down, and what stands in the order from the plan's start on after, in front of the stretch. The plan goes beside
-// it by value: a plan that is copied into a struct waits for all that was written before.
+// it by value: copied into the struct right after it was written in parts, it would wait for all writes before it.
 #[derive(Clone, Copy)]
 pub struct Switch<'a> {
     pub up: bool,
